@@ -1,0 +1,51 @@
+use mathlib.Core.Bool.{or-true}
+use mathlib.Core.Logic.{⊎-elim}
+use mathlib.Core.Path.{_∙_, sym}
+use borrow.Author.Tests.{lt-ltb, le-ltb}
+use Rattle.message.specs.Table.{against}
+use Rattle.message.proofs.Rows.{least-is, greatest-is, content-left, content-left-above}
+use native.Mathlib.Omega.{arith}
+use borrow.Author.Needs.{needs}
+use Rattle.message.proofs.against.Statement.{statement}
+use Rattle.message.proofs.against.Tie as tie
+use Rattle.message.proofs.against.Reads as reads
+use Rattle.message.proofs.against.Lts as lts
+use Rattle.message.proofs.at_fault.Reads as at-fault-reads
+
+array-read-if2 : tie.Need-array-read-if2
+array-read-if2 c = search needs
+
+returns : tie.Need-returns
+unfolding against
+returns c =
+    let a = c .before .before .args in
+    rw (lt-ltb _ _ (rw (least-is (a .id) (c .before .if1 .taken)) at (c .if2 .taken)))
+
+array-read-if3 : tie.Need-array-read-if3
+array-read-if3 c = search needs
+
+returns-2 : tie.Need-returns-2
+unfolding against
+returns-2 c =
+    let a = c .before .before .before .args in
+    rw (lt-ltb _ _ (rw (greatest-is (a .id) (c .before .before .if1 .taken)) at (c .if3 .taken)), or-true)
+
+at-fault-requires : tie.Need-at-fault-requires
+at-fault-requires c κs = search needs
+
+returns-3 : tie.Need-returns-3
+returns-3 c =
+    let a = c .before .before .args in
+    c .at-fault .ensures
+    ∙ sym
+    (⊎-elim
+    (λ w.
+    content-left (a .id) (a .len) (a .number) (rw (← (least-is (a .id) (w .0 .taken))) (w .1 .left))
+    (rw (← (greatest-is (a .id) (w .0 .taken))) (w .2 .left)))
+    (λ w. content-left-above (a .id) (a .len) (a .number) (w .left) (omega arith))
+    (c .before .if1 .came))
+
+pub against-spec : {M : Type 1} → statement M
+against-spec =
+    tie.close
+    (tie.spec array-read-if2 returns array-read-if3 returns-2 at-fault-requires returns-3)

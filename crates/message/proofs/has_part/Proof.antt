@@ -1,0 +1,21 @@
+use native.Mathlib.Omega.{arith}
+use borrow.Author.Needs.{needs}
+use Rattle.message.proofs.has_part.Statement.{statement}
+use Rattle.message.proofs.has_part.Tie as tie
+use Rattle.message.proofs.has_part.Reads as reads
+use Rattle.message.proofs.has_part.Lts as lts
+
+enum-told : tie.Need-enum-told
+enum-told c = search needs
+
+enum-told-2 : tie.Need-enum-told-2
+enum-told-2 c = search needs
+
+returns : tie.Need-returns
+returns c = λ src. rw (c .enum-told .given .1)
+
+returns-2 : tie.Need-returns-2
+returns-2 c = λ src. rw (c .enum-told2 .given .1)
+
+pub has-part-spec : {M : Type 1} → statement M
+has-part-spec = tie.close (tie.spec enum-told enum-told-2 returns returns-2)

@@ -1,0 +1,4 @@
+pub mod Types
+pub mod Table
+pub mod Message
+pub mod Answers

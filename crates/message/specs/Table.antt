@@ -1,0 +1,59 @@
+-- The table of fields (document 01, "The packet"): for each ID the least and the greatest L, and how many octets of the content are spare.
+-- Assumes nothing.
+use Prim.Native.Nat.{ℕ, _+_, _-_, _%_}
+use mathlib.Core.Bool.{Bool, true, false, _||_}
+use mathlib.Core.List.{List, [], _∷_}
+use lib.Dec.{ltb, eqb}
+use Rattle.words.specs.Choice.{if_then_else_}
+
+pub record Row : Type 0 where
+  pub id : ℕ
+  pub least : ℕ
+  pub greatest : ℕ
+  pub spare : ℕ
+
+abbrev pub row : ℕ → ℕ → ℕ → ℕ → Row
+row i l g s = record { id = i; least = l; greatest = g; spare = s }
+
+--            ID  L least .. greatest, spare
+abbrev pub table : List Row
+table =
+    row 0 2 2 1  -- Floor Priority: priority, spare
+    ∷ row 1 2 2 0  -- Duration: seconds
+    ∷ row 2 2 255 0  -- Reject Cause: 16-bit cause, phrase
+    ∷ row 3 2 2 0  -- Queue Info: position, priority
+    ∷ row 4 1 62 0  -- Granted Party's Identity
+    ∷ row 5 2 2 0  -- Permission to Request: 0 or 1
+    ∷ row 6 1 62 0  -- User ID: identity
+    ∷ row 8 2 2 0  -- Message Sequence-Number: number
+    ∷ row 10 2 2 0  -- Source: 0..3
+    ∷ row 12 2 2 1  -- Message Type: type, spare
+    ∷ row 13 2 2 0  -- Floor Indicator: 16 bits, passed through
+    ∷ row 14 6 6 2  -- SSRC: SSRC, 2 spare
+    ∷ []
+
+-- "Every other ID below 192 is skipped by its length": any length will do. That its least is 0 marks it, since no field of the table is empty.
+abbrev pub skipped : ℕ → Row
+skipped i = row i 0 255 0
+
+unfoldable pub rowIn : List Row → ℕ → Row
+rowIn [] i = skipped i
+rowIn (r ∷ rows) i = if eqb i (r .id) then r else rowIn rows i
+
+abbrev pub rowOf : ℕ → Row
+rowOf i = rowIn table i
+
+-- "Content can be at fault only at IDs 5 and 10": the number that it is
+unfoldable pub atFault : ℕ → ℕ → Bool
+atFault i n = if eqb i 5 then ltb 1 n else if eqb i 10 then ltb 3 n else false
+
+-- L or content against the table: the field's ID, its L, and its content
+unfoldable pub against : ℕ → ℕ → ℕ → Bool
+against i l n = ltb l (rowOf i .least) || ltb (rowOf i .greatest) l || atFault i n
+
+-- "A field is ID, length L, L octets, then padding to a multiple of 4 counted from its ID": the octets of padding, and of the whole field
+unfoldable pub padding : ℕ → ℕ
+padding l = (4 - (l + 2) % 4) % 4
+
+unfoldable pub padded : ℕ → ℕ
+padded l = 2 + l + padding l

@@ -1,0 +1,2 @@
+-- Laws that the functions here share, and that the writers above cite.
+pub mod Over
