@@ -1,0 +1,22 @@
+use Rattle.reading.proofs.Steps.{padded-is}
+use native.Mathlib.Omega.{arith}
+use borrow.Author.Needs.{needs}
+use Rattle.reading.proofs.after.Statement.{statement}
+use Rattle.reading.proofs.after.Tie as tie
+use Rattle.reading.proofs.after.Reads as reads
+use Rattle.reading.proofs.after.Lts as lts
+
+add-result : tie.Need-add-result
+add-result c = search needs
+
+mul-result : tie.Need-mul-result
+mul-result c = search needs
+
+add-result-2 : tie.Need-add-result-2
+add-result-2 c = search needs
+
+returns : tie.Need-returns
+returns c = rw (padded-is (c .args .len))
+
+pub after-spec : {M : Type 1} → statement M
+after-spec = tie.close (tie.spec add-result mul-result add-result-2 returns)

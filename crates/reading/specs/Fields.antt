@@ -1,0 +1,61 @@
+-- The fields of a packet, judged from front to back (document 01, "The packet" and "What is answered to packets", 9 and 10).
+-- Assumes nothing.
+use Prim.Native.Nat.{ℕ, zero, suc, _+_}
+use mathlib.Core.List.{List, [], _∷_}
+use lib.Dec.{ltb, leb, eqb}
+use lib.ListN.{length, getD}
+use Rattle.words.specs.Choice.{if_then_else_}
+use Rattle.octets.specs.Octets.{be16}
+use Rattle.message.specs.Table.{against, padded}
+use Rattle.reading.specs.declared.Found.{Found}
+use Rattle.reading.specs.declared.Step.{Step}
+use Rattle.reading.specs.declared.Step.the-variants.{Field, End, PastTheEnd, AgainstTheTable}
+
+-- the field whose ID stands at a place: its ID, where its content starts, its L, and where the next field starts
+abbrev pub idAt : List ℕ → ℕ → ℕ
+idAt s at = getD s at 0
+
+abbrev pub lengthAt : List ℕ → ℕ → ℕ
+lengthAt s at = getD s (at + 1) 0
+
+abbrev pub fieldAt : List ℕ → ℕ → Found
+fieldAt s at = record { id = idAt s at; start = at + 2; len = lengthAt s at; next = at + padded (lengthAt s at) }
+
+-- one field judged: 9 before 10, but "For an ID of 192 or above, 10 comes before 9"
+unfoldable pub stepAt : List ℕ → ℕ → Step
+stepAt s at =
+    if leb (length s) at then End
+    else if leb 192 (idAt s at) then AgainstTheTable
+    else if ltb (length s) (at + padded (lengthAt s at)) then PastTheEnd
+    else if against (idAt s at) (lengthAt s at) (be16 s (at + 2)) then AgainstTheTable
+    else Field (fieldAt s at)
+
+-- all fields: those found, in their order, or the number of the first refusal
+pub data Fields : Type 0 where
+  whole : List Found → Fields
+  fault : ℕ → Fields
+
+abbrev pub infront : Found → Fields → Fields
+infront f (whole fs) = whole (f ∷ fs)
+infront f (fault n) = fault n
+
+-- the paper's number for each way that a step can end the walk
+abbrev pub stepThen : Step → (ℕ → Fields) → Fields
+stepThen End rest = whole []
+stepThen PastTheEnd rest = fault 9
+stepThen AgainstTheTable rest = fault 10
+stepThen (Field f) rest = infront f (rest (f .next))
+
+-- from a place on; a field has at least 4 octets, so as many steps as there are octets are enough
+unfoldable pub fieldsFrom : ℕ → List ℕ → ℕ → Fields
+fieldsFrom zero s at = whole []
+fieldsFrom (suc steps) s at = stepThen (stepAt s at) (λ next. fieldsFrom steps s next)
+
+-- the fields stand behind the name
+unfoldable pub fieldsIn : List ℕ → Fields
+fieldsIn s = fieldsFrom (length s) s 12
+
+-- "of a repeated ID the first counts": where the content of the first field with this ID starts; 0 if there is none, since none starts there
+unfoldable pub startOf : List Found → ℕ → ℕ
+startOf [] i = 0
+startOf (f ∷ fs) i = if eqb i (f .id) then f .start else startOf fs i

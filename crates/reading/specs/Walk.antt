@@ -1,0 +1,56 @@
+-- How the walk is held in the code: the starts of the fields found so far, in an array of 16, one for each ID below 16. What the walk
+-- is stands in Fields. Assumes nothing.
+use Prim.Native.Nat.{ℕ, _<_, _≤_, _+_, _-_}
+use mathlib.Core.Bool.{_&&_}
+use mathlib.Core.List.{List, []}
+use mathlib.Core.Path.{_≡_}
+use lib.Dec.{ltb, leb, eqb}
+use lib.ListN.{length, getD, set}
+use Rattle.words.specs.Choice.{if_then_else_}
+use Rattle.reading.specs.declared.Found.{Found}
+use Rattle.reading.specs.declared.Walk.{Walk}
+use Rattle.reading.specs.declared.Walk.the-variants.{Whole, PastTheEnd, AgainstTheTable}
+use Rattle.octets.specs.Octets.{part}
+use Rattle.message.specs.Answers.{Answer, refused, number}
+use Rattle.message.specs.declared.Part.{Part}
+use Rattle.reading.specs.declared.Opening.{Opening}
+use Rattle.reading.specs.declared.Opening.the-variants.{Of, Refused}
+use Rattle.reading.specs.Fields.{Fields, whole, fault, fieldsIn, startOf}
+use Rattle.reading.specs.Reading.{judged, reading}
+
+-- a start noted: the first counts
+unfoldable pub noted : List ℕ → ℕ → ℕ → List ℕ
+noted starts i start = if ltb i 16 && eqb (getD starts i 0) 0 then set starts i start else starts
+
+-- the array has the start of each ID below 16
+pub record Notes (starts : List ℕ) (fs : List Found) : Type 0 where
+  pub long : length starts ≡ 16
+  pub has : (i : ℕ) → i < 16 → getD starts i 0 ≡ startOf fs i
+
+-- the paper's number for a walk that ended at a fault
+abbrev pub faultNumber : Walk → ℕ
+faultNumber Whole = 0
+faultNumber PastTheEnd = 9
+faultNumber AgainstTheTable = 10
+
+-- what the walk's end and its array say of the fields
+abbrev pub Walked : Fields → Walk → List ℕ → Type 0
+Walked (whole fs) w starts = (w ≡ Whole) × Notes starts fs
+Walked (fault n) w starts = (faultNumber w ≡ n) × (w ≡ Whole → ⊥)
+
+-- the starts lie in the packet, with as much behind them as is read there
+pub record Reach (s : List ℕ) (start : ℕ → ℕ) : Type 0 where
+  pub long : 12 ≤ length s
+  pub two : (i : ℕ) → start i + 2 ≤ length s
+  pub four : start 14 + 4 ≤ length s
+  pub cause : (start 2 ≡ 0 → ⊥) → 2 ≤ getD s (start 2 - 1) 0
+
+-- what is known once checks 1 to 8 are done
+abbrev pub Opens : Opening → List ℕ → Type 0
+Opens (Refused r) s = reading s ≡ refused (number r)
+Opens (Of k) s = (12 ≤ length s) × (reading s ≡ judged k s (fieldsIn s))
+
+-- the part of the packet that a field's octets are; none where the part does not lie in it
+abbrev pub partIn : List ℕ → Part → List ℕ
+partIn s Part.Absent = []
+partIn s (Part.At from count) = if leb (from + count) (length s) then part s from count else []

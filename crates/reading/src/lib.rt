@@ -1,0 +1,287 @@
+// The reader (document 01, "The packet" and "What is answered to packets", 1 to 11): each field by one step on the packet and a
+// place in it, all fields by a walk, and then the message.
+use message::Cause;
+use message::Kind;
+use message::Message;
+use message::Number;
+use message::Octet;
+use message::Part;
+use message::Queue;
+use message::Refusal;
+use message::Typed;
+use message::Word;
+ghost use mathlib.Core.Path.{_≡_};
+ghost use Prim.Native.Nat.{ℕ, _+_, _-_, _<_, _≤_, _^_};
+ghost use Rattle.message.specs.Table.{padded};
+ghost use lib.ListN.{length, getD, replicate};
+ghost use Rattle.reading.specs.Fields.{stepAt, fieldsIn};
+ghost use Rattle.reading.specs.Reading.{octetAt, wordAt, numberAt, queueAt, partAt, causeAt, messageAt, judged, reading, told};
+ghost use Rattle.reading.specs.Walk.{noted, Walked, Reach, Opens, partIn};
+
+// A field: its ID, where its content starts, its length, and where the next field starts.
+pub struct Found {
+    pub id: u8,
+    pub start: usize,
+    pub len: usize,
+    pub next: usize,
+}
+
+// What stands at a place of a packet: a field, the packet's end, or a field that is at fault.
+pub enum Step {
+    Field(Found),
+    End,
+    PastTheEnd,
+    AgainstTheTable,
+}
+
+// What the first 12 octets say: the type of the packet, or a refusal.
+pub enum Opening {
+    Of(Kind),
+    Refused(Refusal),
+}
+
+// How a walk over all fields ended.
+pub enum Walk {
+    Whole,
+    PastTheEnd,
+    AgainstTheTable,
+}
+
+// The answer of reading.
+pub enum Reading {
+    Read(Message),
+    Refused(Refusal),
+}
+
+// Where the next field starts: four octets further for each word that a field has, counted from its ID.
+fn after(at: usize, len: u8) -> usize
+    requires { ⌜ at < 2 ^ 63 ⌝ }
+    ensures { λ r. ⌜ r ≡ at + padded len ⌝ }
+{
+    at + (len as usize + 5) / 4 * 4
+}
+
+// Judges the field that starts at a place.
+pub fn field_at(s: &[u8], at: usize) -> Step
+    ensures { λ r. ⌜ r ≡ stepAt (now (s .entry)) at ⌝ }
+{
+    if s.len() <= at {
+        return Step::End;
+    }
+    let id = s[at];
+    if 192 <= id {
+        return Step::AgainstTheTable;
+    }
+    // every padded field has at least 4 octets, so that its length and two octets of content or padding can be looked at
+    if s.len() - at < 4 {
+        return Step::PastTheEnd;
+    }
+    let len = s[at + 1];
+    let next = after(at, len);
+    if s.len() < next {
+        return Step::PastTheEnd;
+    }
+    if message::against(id, len, octets::number16(s, at + 2)) {
+        return Step::AgainstTheTable;
+    }
+    Step::Field(Found {
+        id: id,
+        start: at + 2,
+        len: len as usize,
+        next: next,
+    })
+}
+
+// Notes where a field's content starts, unless one with its ID came before it: of a repeated ID the first counts.
+fn note(starts: &mut [usize; 16], id: u8, start: usize)
+    ensures { λ _. ⌜ now (starts .exit) ≡ noted (now (starts .entry)) id start ⌝ }
+{
+    if id < 16 {
+        let i = id as usize;
+        if starts[i] == 0 {
+            starts[i] = start;
+        }
+    }
+}
+
+// Walks over all fields and notes where their contents start.
+fn note_all(s: &[u8], starts: &mut [usize; 16]) -> Walk
+    requires { ⌜ now starts ≡ replicate 16 0 ⌝ }
+    ensures { λ r. ⌜ Walked (fieldsIn (now (s .entry))) r (now (starts .exit)) ⌝ }
+{
+    let mut at = 12;
+    loop {
+        match field_at(s, at) {
+            Step::Field(f) => {
+                note(starts, f.id, f.start);
+                at = f.next;
+            }
+            Step::End => return Walk::Whole,
+            Step::PastTheEnd => return Walk::PastTheEnd,
+            Step::AgainstTheTable => return Walk::AgainstTheTable,
+        }
+    }
+}
+
+// What a message has of a field whose content starts at `at`; nothing where that is 0.
+fn octet_at(s: &[u8], at: usize) -> Octet
+    requires { ⌜ at + 2 ≤ length (now s) ⌝ }
+    ensures { λ r. ⌜ r ≡ octetAt (now (s .entry)) at ⌝ }
+{
+    if at == 0 {
+        return Octet::Absent;
+    }
+    Octet::Is(s[at])
+}
+
+fn word_at(s: &[u8], at: usize) -> Word
+    requires { ⌜ at + 2 ≤ length (now s) ⌝ }
+    ensures { λ r. ⌜ r ≡ wordAt (now (s .entry)) at ⌝ }
+{
+    if at == 0 {
+        return Word::Absent;
+    }
+    Word::Is(octets::number16(s, at))
+}
+
+fn number_at(s: &[u8], at: usize) -> Number
+    requires { ⌜ at + 4 ≤ length (now s) ⌝ }
+    ensures { λ r. ⌜ r ≡ numberAt (now (s .entry)) at ⌝ }
+{
+    if at == 0 {
+        return Number::Absent;
+    }
+    Number::Is(octets::number32(s, at))
+}
+
+fn queue_at(s: &[u8], at: usize) -> Queue
+    requires { ⌜ at + 2 ≤ length (now s) ⌝ }
+    ensures { λ r. ⌜ r ≡ queueAt (now (s .entry)) at ⌝ }
+{
+    if at == 0 {
+        return Queue::Absent;
+    }
+    Queue::Is(s[at], s[at + 1])
+}
+
+fn part_at(s: &[u8], at: usize) -> Part
+    requires { ⌜ at + 2 ≤ length (now s) ⌝ }
+    ensures { λ r. ⌜ r ≡ partAt (now (s .entry)) at ⌝ }
+{
+    if at == 0 {
+        return Part::Absent;
+    }
+    Part::At(at, s[at - 1] as usize)
+}
+
+fn cause_at(s: &[u8], at: usize) -> Cause
+    requires { ⌜ at + 2 ≤ length (now s) ⌝ }
+    requires { ⌜ ((at ≡ 0 → ⊥) → 2 ≤ getD (now s) (at - 1) 0) ⌝ }
+    ensures { λ r. ⌜ r ≡ causeAt (now (s .entry)) at ⌝ }
+{
+    if at == 0 {
+        return Cause::Absent;
+    }
+    Cause::Is(octets::number16(s, at), at + 2, s[at - 1] as usize - 2)
+}
+
+// The message of a packet of this type, from the starts of its fields' contents.
+fn message_at(s: &[u8], kind: Kind, starts: &[usize; 16]) -> Message
+    requires { ⌜ Reach (now s) (λ i. getD (now starts) i 0) ⌝ }
+    ensures { λ r. ⌜ r ≡ messageAt kind (now (s .entry)) (λ i. getD (now (starts .entry)) i 0) ⌝ }
+{
+    Message {
+        kind: kind,
+        ack: s[0] / 16 % 2 == 1,
+        ssrc: octets::number32(s, 4),
+        priority: octet_at(s, starts[0]),
+        duration: word_at(s, starts[1]),
+        cause: cause_at(s, starts[2]),
+        queue: queue_at(s, starts[3]),
+        granted: part_at(s, starts[4]),
+        permission: word_at(s, starts[5]),
+        user: part_at(s, starts[6]),
+        sequence: word_at(s, starts[8]),
+        source: word_at(s, starts[10]),
+        subject: octet_at(s, starts[12]),
+        indicator: word_at(s, starts[13]),
+        party: number_at(s, starts[14]),
+    }
+}
+
+// Checks 1 to 8, in that order.
+fn opened(s: &[u8]) -> Opening
+    ensures { λ r. ⌜ Opens r (now (s .entry)) ⌝ }
+{
+    if s.len() < 12 {
+        return Opening::Refused(Refusal::TooShort);
+    }
+    if 1024 < s.len() {
+        return Opening::Refused(Refusal::TooLong);
+    }
+    let first = s[0];
+    if first / 64 != 2 {
+        return Opening::Refused(Refusal::NotVersion2);
+    }
+    if first / 32 % 2 == 1 {
+        return Opening::Refused(Refusal::Padded);
+    }
+    if s[1] != 204 {
+        return Opening::Refused(Refusal::NotApplication);
+    }
+    if 4 * (octets::number16(s, 2) as usize + 1) != s.len() {
+        return Opening::Refused(Refusal::WrongLength);
+    }
+    if octets::number32(s, 8) != 0x4D43_5054 {
+        return Opening::Refused(Refusal::NotNamed);
+    }
+    match message::typed_by(first % 16) {
+        Typed::Listed(kind) => Opening::Of(kind),
+        Typed::Unlisted => Opening::Refused(Refusal::UnlistedType),
+    }
+}
+
+// Checks 9 to 11, and the message.
+fn read_fields(s: &[u8], kind: Kind) -> Reading
+    requires { ⌜ 12 ≤ length (now s) ⌝ }
+    ensures { λ r. ⌜ told r ≡ judged kind (now (s .entry)) (fieldsIn (now (s .entry))) ⌝ }
+{
+    let mut starts = [0usize; 16];
+    let walk = note_all(s, &mut starts);
+    match walk {
+        Walk::PastTheEnd => Reading::Refused(Refusal::PastTheEnd),
+        Walk::AgainstTheTable => Reading::Refused(Refusal::AgainstTheTable),
+        Walk::Whole => {
+            let m = message_at(s, kind, &starts);
+            if message::complete(m) {
+                return Reading::Read(m);
+            }
+            Reading::Refused(Refusal::Missing)
+        }
+    }
+}
+
+// Reads a packet: its message, or the first refusal that applies.
+pub fn read(s: &[u8]) -> Reading
+    ensures { λ r. ⌜ told r ≡ reading (now (s .entry)) ⌝ }
+{
+    match opened(s) {
+        Opening::Of(kind) => read_fields(s, kind),
+        Opening::Refused(r) => Reading::Refused(r),
+    }
+}
+
+// The part of the packet that holds an identity or a phrase; an empty part where the packet has none there.
+pub fn part_in(s: &[u8], p: Part) -> &[u8]
+    ensures { λ r. ⌜ now r ≡ partIn (now (s .entry)) p ⌝ }
+{
+    let Part::At(from, count) = p else {
+        return &s[0..0];
+    };
+    if from <= s.len() {
+        if count <= s.len() - from {
+            return &s[from..from + count];
+        }
+    }
+    &s[0..0]
+}
