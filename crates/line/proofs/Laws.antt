@@ -10,6 +10,7 @@ use lib.Dec.{eqb}
 use borrow.Author.Tests.{eqb-true, eqb-false}
 use lib.Seq.{drop-cons, take-suc, take-all, take-set-lt, set-at, getD-append-add, getD-take, getD-drop, getD-at, ext-getD, getD-set-same, getD-set-other}
 use Rattle.words.specs.Choice.{if_then_else_, if-yes, if-no, by-test}
+use Rattle.words.specs.Table as table
 use Rattle.line.specs.declared.Entry.{Entry}
 use Rattle.line.specs.declared.Line.{Line}
 use Rattle.line.specs.Line.{waiting, lineOf, empty, leading, ahead, atLeast, anyone, without, added}
@@ -44,30 +45,9 @@ pub ahead-le : (p : ℕ) (es : List Entry) → ahead p es ≤ length es
 unfolding ahead
 ahead-le p es = leading-le (atLeast p) es
 
--- the places behind a list are empty
+-- the array of fifteen that holds a list
 abbrev pub padded : List Entry → List Entry
-padded es = take 15 (es ++ replicate 15 empty)
-
-pub padded-length : (es : List Entry) → length (padded es) ≡ 15
-padded-length es = simp (length-take, length-append, length-replicate) (omega arith)
-
-getD-empties : (n i : ℕ) → getD (replicate n empty) i empty ≡ empty
-getD-empties zero i = refl
-getD-empties (suc n) zero = refl
-getD-empties (suc n) (suc i) = getD-empties n i
-
-getD-behind : (es : List Entry) (n i : ℕ) → getD (es ++ replicate n empty) i empty ≡ getD es i empty
-getD-behind [] n i = getD-empties n i
-getD-behind (e ∷ es) n zero = refl
-getD-behind (e ∷ es) n (suc i) = getD-behind es n i
-
-pub padded-at : (es : List Entry) (i : ℕ) → i < 15 → getD (padded es) i empty ≡ getD es i empty
-padded-at es i h = getD-take 15 (es ++ replicate 15 empty) i empty h ∙ getD-behind es 15 i
-
--- an array of fifteen that agrees with a list at every place is that list's
-pub padded-is : (a es : List Entry) → length a ≡ 15 → ((i : ℕ) → i < 15 → getD a i empty ≡ getD es i empty) → a ≡ padded es
-padded-is a es h f =
-    ext-getD empty a (padded es) (h ∙ sym (padded-length es)) (λ i k. f i (omega arith) ∙ sym (padded-at es i (omega arith)))
+padded es = table.padded empty 15 es
 
 -- a line by its two parts
 abbrev lineWith : List Entry → ℕ → Line
@@ -123,7 +103,7 @@ module _ (es : List Entry) (k : ℕ) (e : Entry) (h : k ≤ length es) where
 -- the line with an entry put in, from its array and its count
 pub line-put : (a es : List Entry) (n k : ℕ) (e : Entry) → k ≤ length es → length a ≡ 15 → ((i : ℕ) → i < 15 → getD a i empty ≡ getD (take k es ++ e ∷ drop k es) i empty) →
     n ≡ min 15 (length es + 1) → lineWith a n ≡ lineOf (take k es ++ e ∷ drop k es)
-line-put a es n k e h l f q = line-is a (take k es ++ e ∷ drop k es) n (padded-is a (take k es ++ e ∷ drop k es) l f) (q ∙ rw (length-take, put-length es k e h))
+line-put a es n k e h l f q = line-is a (take k es ++ e ∷ drop k es) n (table.padded-is empty 15 a (take k es ++ e ∷ drop k es) l f) (q ∙ rw (length-take, put-length es k e h))
 
 -- striking off goes entry by entry
 pub without-append : (seats : List Bool) (a b : List Entry) → without seats (a ++ b) ≡ without seats a ++ without seats b
@@ -158,10 +138,3 @@ added-on seats es i h = rw (drop-cons es i empty h, add-one)
 
 pub added-ends : (seats : List Bool) (es : List Entry) (i : ℕ) → length es ≤ i → added seats (drop i es) ≡ seats
 added-ends seats es i h = rw (drop-of-length-le es h)
-
--- one place further in a table that is filled from the front
-pub filled-more : (a t : List Entry) (i : ℕ) (e : Entry) → i < length a → ((j : ℕ) → j < i → getD a j empty ≡ getD t j empty) → e ≡ getD t i empty →
-    (j : ℕ) → j < i + 1 → getD (set a i e) j empty ≡ getD t j empty
-filled-more a t i e h f q j k = by-test (eqb j i)
-    (λ b. let s : j ≡ i = eqb-true j i b in rw s (getD-set-same a i e empty h ∙ q))
-    (λ b. getD-set-other a i j e empty (eqb-false j i b) ∙ f j (omega (arith, eqb-false j i b)))

@@ -1,6 +1,6 @@
 use Rattle.line.proofs.Laws.{line-put}
 use lib.ListN.{length-set, length-take}
-use Rattle.line.proofs.Laws.{filled-more, line-is}
+use Rattle.words.specs.Table.{filled-more}
 use Rattle.line.specs.Line.{waiting, empty, lineOf}
 use mathlib.Core.List.{_++_, _∷_}
 use Prim.Native.Nat.{ℕ}
@@ -8,7 +8,6 @@ use lib.Seq.{getD-set-same, getD-set-other}
 use lib.ListN.{length, take, drop, getD}
 use Prim.Native.Nat.{_+_, _-_, _≤_, _<_}
 use mathlib.Core.Path.{_≡_, refl, ap, sym, _∙_}
-use Rattle.line.proofs.Laws.{padded, padded-is, put-length}
 use borrow.Author.Needs.{needs}
 use native.Mathlib.Omega.{arith}
 use Rattle.line.proofs.insert.Statement.{statement}
@@ -42,7 +41,7 @@ loop-less : tie.Need-loop-less Inv-loop μ-loop
 loop-less c = search needs
 
 loop-again : tie.Need-loop-again Inv-loop μ-loop
-loop-again c = let h : c .before .before .loop .i < length (c .before .before .loop .entries) = omega (arith, c .before .before .loop .inv .3) in (c .before .before .loop .inv .0, c .before .before .loop .inv .1, omega arith, length-set (c .before .before .loop .entries) (c .before .before .loop .i) (c .entry-after .result) ∙ c .before .before .loop .inv .3, filled-more (c .before .before .loop .entries) (take (c .before .before .before .before .args .k) (waiting (c .before .before .before .before .args .line)) ++ c .before .before .before .before .args .e ∷ drop (c .before .before .before .before .args .k) (waiting (c .before .before .before .before .args .line))) _ _ h (c .before .before .loop .inv .4) (c .entry-after .ensures))
+loop-again c = let h : c .before .before .loop .i < length (c .before .before .loop .entries) = omega (arith, c .before .before .loop .inv .3) in (c .before .before .loop .inv .0, c .before .before .loop .inv .1, omega arith, length-set (c .before .before .loop .entries) (c .before .before .loop .i) (c .entry-after .result) ∙ c .before .before .loop .inv .3, filled-more empty (c .before .before .loop .entries) (take (c .before .before .before .before .args .k) (waiting (c .before .before .before .before .args .line)) ++ c .before .before .before .before .args .e ∷ drop (c .before .before .before .before .args .k) (waiting (c .before .before .before .before .args .line))) _ _ h (c .before .before .loop .inv .4) (c .entry-after .ensures))
 
 add-t16 : tie.Need-add-t16 Inv-loop μ-loop
 add-t16 c = search needs
