@@ -8,7 +8,7 @@ use native.Mathlib.Omega.{arith}
 use lib.ListN.{length, take, drop, getD, set, replicate, length-take, length-append, length-replicate, length-set, length-drop, drop-of-length-le, List·getD-append, List·getD-eq-default}
 use lib.Dec.{eqb}
 use borrow.Author.Tests.{eqb-true, eqb-false}
-use lib.Seq.{drop-cons, take-suc, take-all, take-set-lt, set-at, getD-append-add, getD-take, getD-drop, getD-at, ext-getD, getD-set-same, getD-set-other}
+use lib.Seq.{drop-cons, take-suc, take-all, take-take, take-append-seam, take-set-lt, set-at, getD-append-add, getD-take, getD-drop, getD-at, ext-getD, getD-set-same, getD-set-other}
 use Rattle.words.specs.Choice.{if_then_else_, if-yes, if-no, by-test}
 use Rattle.words.specs.Table as table
 use Rattle.line.specs.declared.Entry.{Entry}
@@ -56,6 +56,13 @@ lineWith a n = record { entries = a; len = n }
 pub line-is : (a es : List Entry) (n : ℕ) → a ≡ padded es → n ≡ length (take 15 es) → lineWith a n ≡ lineOf es
 unfolding lineOf
 line-is a es n p q = cc
+
+-- who waits in the line that holds a list
+pub waiting-lineOf : (es : List Entry) → length es ≤ 15 → waiting (lineOf es) ≡ es
+unfolding waiting lineOf
+waiting-lineOf es h =
+    let t : length (take 15 es) ≡ length es = ap length (take-all 15 es h) in
+    rw (t, take-take (length es) 15 (es ++ replicate 15 empty) h) (take-append-seam es (replicate 15 empty))
 
 -- one entry more, at the first empty place
 set-first : (es : List Entry) (n : ℕ) (e : Entry) → set (es ++ replicate (suc n) empty) (length es) e ≡ (es ++ e ∷ []) ++ replicate n empty

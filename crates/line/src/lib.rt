@@ -168,7 +168,7 @@ pub fn has(seats: [bool; 16], seat: u8) -> bool
 
 // The line once the seats of a set are struck off: the others close up.
 pub fn struck(line: Line, seats: [bool; 16]) -> Line
-    ensures { λ r. ⌜ r ≡ lineOf (without seats (waiting line)) ⌝ }
+    ensures { λ r. ⌜ (r ≡ lineOf (without seats (waiting line))) × (waiting r ≡ without seats (waiting line)) ⌝ }
 {
     let n = count(line);
     let mut entries = [Entry {

@@ -7,7 +7,7 @@ use Rattle.line.specs.Line.{empty}
 use mathlib.Core.List.{_++_, _∷_, []}
 use lib.ListN.{length-append}
 use lib.Seq.{take-all}
-use Rattle.line.proofs.Laws.{line-is}
+use Rattle.line.proofs.Laws.{line-is, waiting-lineOf}
 use Rattle.line.specs.Line.{waiting, without, lineOf}
 use lib.ListN.{length, take, drop, getD}
 use Prim.Native.Nat.{_+_, _-_, _≤_, _<_}
@@ -73,7 +73,8 @@ returns c = let l = waiting (c .before .before .before .args .line) in
     let e : c .before .loop .entries ≡ padded (without (c .before .before .before .args .seats) l) = rw t at (c .before .loop .inv .5) in
     let n : c .before .loop .len ≡ length (without (c .before .before .before .args .seats) l) = rw t at (c .before .loop .inv .3) in
     let w : length (without (c .before .before .before .args .seats) l) ≤ 15 = omega (arith, c .before .loop .inv .2, c .before .loop .inv .4) in
-    line-is _ _ _ e (n ∙ sym (ap length (take-all 15 (without (c .before .before .before .args .seats) l) w)))
+    let q : record { entries = c .before .loop .entries; len = c .before .loop .len } ≡ lineOf (without (c .before .before .before .args .seats) l) = line-is _ _ _ e (n ∙ sym (ap length (take-all 15 (without (c .before .before .before .args .seats) l) w))) in
+    (q, ap waiting q ∙ waiting-lineOf (without (c .before .before .before .args .seats) l) w)
 
 pub struck-spec : {M : Type 1} → statement M
 struck-spec =
