@@ -269,7 +269,7 @@ pub fn with_line(core: Core, line: Line) -> Core
     }
 }
 
-fn next_number(n: u16) -> u16
+pub fn next_number(n: u16) -> u16
     ensures { λ r. ⌜ r ≡ next n ⌝ }
 {
     if n < 65535 { n + 1 } else { 0 }
