@@ -1,0 +1,111 @@
+-- The timers of document 01, "The desk": which run, and what happens when one fires. Assumes nothing.
+use Prim.Native.Nat.{ℕ, _+_}
+use mathlib.Core.Bool.{Bool, true, false}
+use mathlib.Core.List.{[]}
+use lib.Dec.{ltb}
+use Rattle.words.specs.Choice.{if_then_else_}
+use Rattle.line.specs.declared.Entry.{Entry}
+use Rattle.line.specs.Line.{waiting, lineOf, seatsOf}
+use Rattle.hall.specs.declared.Hall.{Hall}
+use Rattle.hall.specs.declared.Answer.the-variants.{CallStopped, NotExpected}
+use Rattle.hall.specs.Seats.{only, everybody}
+use Rattle.rules.specs.declared.Beside.the-variants.{NoMore, T2, T20}
+use Rattle.rules.specs.declared.Phase.{Phase}
+use Rattle.rules.specs.declared.Phase.the-variants.{Stopped, Idle, Taken, Revoking}
+use Rattle.rules.specs.declared.Core.{Core}
+use Rattle.rules.specs.declared.Kind.the-variants as say
+use Rattle.rules.specs.declared.Step.{Step}
+use Rattle.rules.specs.Words.{_inPhase_, _withLine_, _countingC7_, _countingC20_, next, numbered, _⇒_, done, refused, _sends_, _marksStruck_, _marksEnded_}
+use Rattle.rules.specs.Floor.{floorEnds, revokes}
+use Rattle.rules.specs.Request.{grantedAgain}
+use Rattle.desk.specs.declared.Timer.{Timer}
+use Rattle.desk.specs.declared.Timer.the-variants as timer
+use Rattle.desk.specs.declared.Running.{Running}
+
+-- Which timers run follows from the phase: T4 and perhaps T7 in Idle, T1 and perhaps T2 or T20 in Taken, T1, T3 and T8 in Revoking.
+abbrev pub running : Phase → Running
+running Stopped = record { t1 = false; t2 = false; t3 = false; t4 = false; t7 = false; t8 = false; t20 = false }
+running (Idle t7) = record { t1 = false; t2 = false; t3 = false; t4 = true; t7 = t7; t8 = false; t20 = false }
+running (Taken e NoMore) = record { t1 = true; t2 = false; t3 = false; t4 = false; t7 = false; t8 = false; t20 = false }
+running (Taken e T2) = record { t1 = true; t2 = true; t3 = false; t4 = false; t7 = false; t8 = false; t20 = false }
+running (Taken e T20) = record { t1 = true; t2 = false; t3 = false; t4 = false; t7 = false; t8 = false; t20 = true }
+running (Revoking e n) = record { t1 = true; t2 = false; t3 = true; t4 = false; t7 = false; t8 = true; t20 = false }
+
+abbrev pub runs : Running → Timer → Bool
+runs r timer.T1 = r .t1
+runs r timer.T2 = r .t2
+runs r timer.T3 = r .t3
+runs r timer.T4 = r .t4
+runs r timer.T7 = r .t7
+runs r timer.T8 = r .t8
+runs r timer.T20 = r .t20
+
+-- Stop: "the holder's floor ends with no one given it, all in line struck off, no messages, all timers stop, seats stay"
+unfoldable pub halted : Core → Step
+halted c = done (c inPhase Stopped withLine lineOf []) marksStruck seatsOf (waiting (c .line))
+
+unfoldable pub stops : Core → Phase → Step
+stops c Stopped = refused c CallStopped
+stops c (Idle t7) = halted c
+stops c (Taken e b) = halted c marksEnded (e .seat)
+stops c (Revoking e n) = halted c marksEnded (e .seat)
+
+-- T1, T3: "the floor ends"
+unfoldable pub endsIn : Core → Hall → Phase → Step
+endsIn c h (Taken e b) = floorEnds c h (e .seat)
+endsIn c h (Revoking e n) = floorEnds c h (e .seat)
+endsIn c h (Idle t7) = refused c NotExpected
+endsIn c h Stopped = refused c NotExpected
+
+-- T2: "Revoke #2, Revoking"
+unfoldable pub revokesIn : Core → Phase → Step
+revokesIn c (Taken e b) = revokes (done c) e 2
+revokesIn c (Revoking e n) = refused c NotExpected
+revokesIn c (Idle t7) = refused c NotExpected
+revokesIn c Stopped = refused c NotExpected
+
+-- T7: "below its limit Idle again and C7 + 1; at the limit T7 stops"
+unfoldable pub idleAgain : Core → Hall → Step
+idleAgain c h =
+    if ltb (c .c7) (h .settings .c7) then done (numbered (c countingC7 (c .c7 + 1))) sends say.Idle (next (c .sequence)) ⇒ everybody h
+    else done (c inPhase Idle false)
+
+-- T8: "Revoke again with the same cause"
+unfoldable pub revokesAgain : Core → Phase → Step
+revokesAgain c (Revoking e n) = done c sends say.Revoke n ⇒ only (e .seat)
+revokesAgain c (Taken e b) = refused c NotExpected
+revokesAgain c (Idle t7) = refused c NotExpected
+revokesAgain c Stopped = refused c NotExpected
+
+-- T20: "below its limit Granted again as in rule 1 and C20 + 1; at the limit the floor ends"
+unfoldable pub grantsOrEnds : Core → Hall → Entry → Step
+grantsOrEnds c h e = if ltb (c .c20) (h .settings .c20) then grantedAgain (c countingC20 (c .c20 + 1)) e else floorEnds c h (e .seat)
+
+unfoldable pub grantsAgain : Core → Hall → Phase → Step
+grantsAgain c h (Taken e b) = grantsOrEnds c h e
+grantsAgain c h (Revoking e n) = refused c NotExpected
+grantsAgain c h (Idle t7) = refused c NotExpected
+grantsAgain c h Stopped = refused c NotExpected
+
+-- a timer that runs fires; the phases in which it does not run are refused above
+unfoldable pub fires : Core → Hall → Timer → Step
+fires c h timer.T1 = endsIn c h (c .phase)
+fires c h timer.T2 = revokesIn c (c .phase)
+fires c h timer.T3 = endsIn c h (c .phase)
+fires c h timer.T4 = stops c (c .phase)
+fires c h timer.T7 = idleAgain c h
+fires c h timer.T8 = revokesAgain c (c .phase)
+fires c h timer.T20 = grantsAgain c h (c .phase)
+
+abbrev pub isStopped : Phase → Bool
+isStopped Stopped = true
+isStopped (Idle t7) = false
+isStopped (Taken e b) = false
+isStopped (Revoking e n) = false
+
+-- 21 in Stopped; "one that isn't running gets 23"
+unfoldable pub expires : Core → Hall → Timer → Step
+expires c h t =
+    if isStopped (c .phase) then refused c CallStopped
+    else if runs (running (c .phase)) t then fires c h t
+    else refused c NotExpected

@@ -1,0 +1,12 @@
+use Rattle.hall.specs.Identity.{noNames}
+use borrow.Author.Needs.{needs}
+use native.Mathlib.Omega.{arith}
+use Rattle.hall.proofs.no_names.Statement.{statement}
+use Rattle.hall.proofs.no_names.Tie as tie
+
+returns : tie.Need-returns
+unfolding noNames
+returns c = search needs
+
+pub no-names-spec : {M : Type 1} → statement M
+no-names-spec = tie.close (tie.spec returns)

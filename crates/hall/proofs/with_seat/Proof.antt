@@ -1,0 +1,35 @@
+use Rattle.hall.specs.Seats.{withSeat}
+use native.Mathlib.Omega.{arith}
+use borrow.Author.Needs.{needs}
+use Rattle.hall.proofs.with_seat.Statement.{statement}
+use Rattle.hall.proofs.with_seat.Tie as tie
+
+with-flag-requires : tie.Need-with-flag-requires
+with-flag-requires c κs = search needs
+
+with-word-requires : tie.Need-with-word-requires
+with-word-requires c κs = search needs
+
+with-octet-requires : tie.Need-with-octet-requires
+with-octet-requires c κs = search needs
+
+with-flag-requires-2 : tie.Need-with-flag-requires-2
+with-flag-requires-2 c κs = search needs
+
+with-flag-requires-3 : tie.Need-with-flag-requires-3
+with-flag-requires-3 c κs = search needs
+
+returns : tie.Need-returns
+unfolding withSeat
+returns c = cc
+
+pub with-seat-spec : {M : Type 1} → statement M
+with-seat-spec =
+    tie.close
+    (tie.spec
+    with-flag-requires
+    with-word-requires
+    with-octet-requires
+    with-flag-requires-2
+    with-flag-requires-3
+    returns)

@@ -1,0 +1,15 @@
+-- The numbers that document 01, "The desk", gives the desk's answers; 0 is done. Assumes nothing.
+use Prim.Native.Nat.{ℕ}
+use Rattle.hall.specs.declared.Answer.{Answer}
+use Rattle.hall.specs.declared.Answer.the-variants.{Done, CallStopped, NoSuchSeat, NotExpected, AllSeatsTaken, IdentityLength, IdentityPresent, SsrcPresent, OutsideRange}
+
+abbrev pub number : Answer → ℕ
+number Done = 0
+number CallStopped = 21
+number NoSuchSeat = 22
+number NotExpected = 23
+number AllSeatsTaken = 24
+number IdentityLength = 25
+number IdentityPresent = 26
+number SsrcPresent = 27
+number OutsideRange = 28

@@ -1,0 +1,47 @@
+-- Identities: 1 to 62 octets, kept in an array of 62 with zeros behind them. Assumes nothing.
+use Prim.Native.Nat.{ℕ}
+use mathlib.Core.Bool.{Bool, true, false, _&&_}
+use mathlib.Core.List.{List, [], _∷_, _++_}
+use lib.Dec.{leb, eqb}
+use lib.ListN.{length, take, getD, set, replicate}
+use Rattle.words.specs.Choice.{if_then_else_}
+use Rattle.words.specs.Table.{padded}
+use Rattle.hall.specs.declared.Name.{Name}
+use Rattle.hall.specs.declared.Names.{Names}
+use Rattle.hall.specs.declared.Hall.{Hall}
+use Rattle.hall.specs.declared.Found.{Found}
+use Rattle.hall.specs.Seats.{lowest, isPresent}
+
+unfoldable pub octetsOf : Name → List ℕ
+octetsOf n = take (n .len) (n .octets)
+
+unfoldable pub nameOf : List ℕ → Name
+nameOf o = record { octets = padded 0 62 o; len = length o }
+
+abbrev pub noName : Name
+noName = record { octets = replicate 62 0; len = 0 }
+
+unfoldable pub noNames : Names
+noNames = record { «of» = replicate 16 noName }
+
+abbrev pub nameAt : Names → ℕ → Name
+nameAt ns s = getD (ns .«of») s noName
+
+unfoldable pub withName : Names → ℕ → Name → Names
+withName ns s n = record { «of» = set (ns .«of») s n }
+
+-- two identities are the same if they agree octet for octet
+unfoldable pub same : List ℕ → List ℕ → Bool
+same [] [] = true
+same [] (y ∷ ys) = false
+same (x ∷ xs) [] = false
+same (x ∷ xs) (y ∷ ys) = if eqb x y then same xs ys else false
+
+abbrev pub hasName : Hall → Names → List ℕ → ℕ → Bool
+hasName h ns o s = isPresent h s && same (octetsOf (nameAt ns s)) o
+
+unfoldable pub seatNamed : Hall → Names → List ℕ → Found
+seatNamed h ns o = lowest (hasName h ns o)
+
+unfoldable pub lengthAllowed : List ℕ → Bool
+lengthAllowed o = leb 1 (length o) && leb (length o) 62

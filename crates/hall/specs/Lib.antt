@@ -1,0 +1,4 @@
+pub mod Seats
+pub mod Identity
+pub mod Join
+pub mod Answers

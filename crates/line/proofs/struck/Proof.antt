@@ -1,0 +1,97 @@
+use mathlib.Core.List.{List}
+use lib.ListN.{set}
+use Prim.Native.Nat.{ℕ}
+use mathlib.Core.Bool.{false}
+use Rattle.line.specs.declared.Entry.{Entry}
+use Rattle.line.specs.Line.{empty}
+use mathlib.Core.List.{_++_, _∷_, []}
+use lib.ListN.{length-append}
+use lib.Seq.{take-all}
+use Rattle.line.proofs.Laws.{line-is, waiting-lineOf}
+use Rattle.line.specs.Line.{waiting, without, lineOf}
+use lib.ListN.{length, take, drop, getD}
+use Prim.Native.Nat.{_+_, _-_, _≤_, _<_}
+use mathlib.Core.Path.{_≡_, refl, ap, sym, _∙_}
+use Rattle.line.proofs.Laws.{padded, padded-next, without-le, without-struck, without-kept}
+use borrow.Author.Needs.{needs}
+use native.Mathlib.Omega.{arith}
+use Rattle.line.proofs.struck.Statement.{statement}
+use Rattle.line.proofs.struck.Tie as tie
+
+abbrev Inv-loop : tie.InvT-loop
+Inv-loop line seats n entries₀ len₀ i₀ entries len i = (n ≡ length (waiting line)) × (i ≤ n) × (n ≤ 15) × (len ≡ length (without seats (take i (waiting line)))) × (len ≤ i) × (entries ≡ padded (without seats (take i (waiting line))))
+
+abbrev μ-loop : tie.MeasureT-loop
+μ-loop line seats n entries₀ len₀ i₀ entries len i = n - i
+
+count-requires : tie.Need-count-requires Inv-loop μ-loop
+count-requires c κs = search needs
+
+loop-holds : tie.Need-loop-holds Inv-loop μ-loop
+unfolding without
+loop-holds c = (c .count .ensures .0, omega arith, c .count .ensures .1, refl, omega arith, refl)
+
+entry-at-requires : tie.Need-entry-at-requires Inv-loop μ-loop
+entry-at-requires c κs = search needs
+
+add-i : tie.Need-add-i Inv-loop μ-loop
+add-i c = search needs
+
+has-requires : tie.Need-has-requires Inv-loop μ-loop
+has-requires c κs = search needs
+
+loop-less : tie.Need-loop-less Inv-loop μ-loop
+loop-less c = search needs
+
+loop-again : tie.Need-loop-again Inv-loop μ-loop
+loop-again c = let l = c .before .before .before .before .before .before .args .line in let h : c .before .before .before .before .loop .i < length (waiting l) = omega (arith, c .before .before .before .before .loop .inv .0) in let q = without-struck (c .before .before .before .before .before .before .args .seats) (waiting l) _ h (sym (ap (λ (x : Entry). getD (c .before .before .before .before .before .before .args .seats) (x .seat) false) (c .before .before .entry-at .ensures)) ∙ sym (c .before .has .ensures) ∙ c .if1 .taken) in (c .before .before .before .before .loop .inv .0, omega arith, c .before .before .before .before .loop .inv .2, c .before .before .before .before .loop .inv .3 ∙ ap length (sym q), omega arith, c .before .before .before .before .loop .inv .5 ∙ ap padded (sym q))
+
+mul-entries : tie.Need-mul-entries Inv-loop μ-loop
+mul-entries c = search needs
+
+array-set-from-entries : tie.Need-array-set-from-entries Inv-loop μ-loop
+array-set-from-entries c = search needs
+
+add-len : tie.Need-add-len Inv-loop μ-loop
+add-len c = search needs
+
+loop-less-2 : tie.Need-loop-less-2 Inv-loop μ-loop
+loop-less-2 c = search needs
+
+loop-again-2 : tie.Need-loop-again-2 Inv-loop μ-loop
+loop-again-2 c = let l = c .before .before .before .before .before .before .args .line in let h : c .before .before .before .before .loop .i < length (waiting l) = omega (arith, c .before .before .before .before .loop .inv .0) in let k = without (c .before .before .before .before .before .before .args .seats) (take (c .before .before .before .before .loop .i) (waiting l)) in
+    let x = getD (waiting l) (c .before .before .before .before .loop .i) empty in
+    let q : without (c .before .before .before .before .before .before .args .seats) (take (c .before .before .before .before .loop .i + 1) (waiting l)) ≡ k ++ (x ∷ []) = without-kept (c .before .before .before .before .before .before .args .seats) (waiting l) _ h (sym (ap (λ (x : Entry). getD (c .before .before .before .before .before .before .args .seats) (x .seat) false) (c .before .before .entry-at .ensures)) ∙ sym (c .before .has .ensures) ∙ c .if1 .left) in
+    let m : c .before .before .before .before .loop .len ≡ length k = c .before .before .before .before .loop .inv .3 in
+    let z : length k < 15 = omega (arith, c .before .before .before .before .loop .inv .2) in
+    (c .before .before .before .before .loop .inv .0, omega arith, c .before .before .before .before .loop .inv .2, rw (q, length-append) (omega arith), omega arith, rw q (padded-next _ k _ _ x (c .before .before .before .before .loop .inv .5) m (c .before .before .entry-at .ensures) z))
+
+returns : tie.Need-returns Inv-loop μ-loop
+returns c = let l = waiting (c .before .before .before .args .line) in
+    let h : length l ≤ c .before .loop .i = omega (arith, c .before .loop .inv .0) in
+    let t : take (c .before .loop .i) l ≡ l = take-all _ l h in
+    let e : c .before .loop .entries ≡ padded (without (c .before .before .before .args .seats) l) = rw t at (c .before .loop .inv .5) in
+    let n : c .before .loop .len ≡ length (without (c .before .before .before .args .seats) l) = rw t at (c .before .loop .inv .3) in
+    let w : length (without (c .before .before .before .args .seats) l) ≤ 15 = omega (arith, c .before .loop .inv .2, c .before .loop .inv .4) in
+    let q : record { entries = c .before .loop .entries; len = c .before .loop .len } ≡ lineOf (without (c .before .before .before .args .seats) l) = line-is _ _ _ e (n ∙ sym (ap length (take-all 15 (without (c .before .before .before .args .seats) l) w))) in
+    (q, ap waiting q ∙ waiting-lineOf (without (c .before .before .before .args .seats) l) w)
+
+pub struck-spec : {M : Type 1} → statement M
+struck-spec =
+    tie.close
+    (tie.spec
+    Inv-loop
+    μ-loop
+    count-requires
+    loop-holds
+    entry-at-requires
+    add-i
+    has-requires
+    loop-less
+    loop-again
+    mul-entries
+    array-set-from-entries
+    add-len
+    loop-less-2
+    loop-again-2
+    returns)

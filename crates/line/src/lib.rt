@@ -1,0 +1,215 @@
+// The line: seats waiting for the floor, highest priority first, earlier first among equals (document 01, "The desk"). What each
+// function gives is said of the list of entries that the array and the length stand for: specs/Line.antt.
+ghost use mathlib.Core.Path.{_≡_};
+ghost use Prim.Native.Nat.{_≤_};
+ghost use mathlib.Core.List.{_++_, _∷_, []};
+ghost use mathlib.Core.Bool.{true, false};
+ghost use lib.ListN.{length, take, drop, getD, set};
+ghost use Rattle.line.specs.Line.{waiting, lineOf, empty, before, ahead, enter, otherAtLeast, anotherAtLeast, without, seatsOf};
+
+// A seat in line, and the holder of the floor: who, and the priority it asked at.
+pub struct Entry {
+    pub seat: u8,
+    pub priority: u8,
+}
+
+// Those who wait are the first `len` entries.
+pub struct Line {
+    pub entries: [Entry; 15],
+    pub len: usize,
+}
+
+pub fn nobody_waits() -> Line
+    ensures { λ r. ⌜ r ≡ lineOf [] ⌝ }
+{
+    let entries = [Entry {
+        seat: 0,
+        priority: 0,
+    }; 15];
+    Line { entries, len: 0 }
+}
+
+// How many wait.
+pub fn count(line: Line) -> usize
+    ensures { λ r. ⌜ (r ≡ length (waiting line)) × (r ≤ 15) ⌝ }
+{
+    if line.len < 15 { line.len } else { 15 }
+}
+
+// Who waits at a place, 0 being the head; no one's entry past the end.
+pub fn entry_at(line: Line, place: usize) -> Entry
+    ensures { λ r. ⌜ r ≡ getD (waiting line) place empty ⌝ }
+{
+    let n = count(line);
+    if place < n {
+        let entries = line.entries;
+        entries[place]
+    } else {
+        Entry {
+            seat: 0,
+            priority: 0,
+        }
+    }
+}
+
+// How many wait before this seat; everybody, if it is not in line.
+pub fn place_of(line: Line, seat: u8) -> usize
+    ensures { λ r. ⌜ r ≡ before seat (waiting line) ⌝ }
+{
+    let n = count(line);
+    let mut i = 0;
+    while i < n {
+        let e = entry_at(line, i);
+        if e.seat == seat {
+            return i;
+        }
+        i += 1;
+    }
+    n
+}
+
+// How many a newcomer of this priority goes behind.
+fn place_for(line: Line, priority: u8) -> usize
+    ensures { λ r. ⌜ r ≡ ahead priority (waiting line) ⌝ }
+{
+    let n = count(line);
+    let mut i = 0;
+    while i < n {
+        let e = entry_at(line, i);
+        if e.priority < priority {
+            return i;
+        }
+        i += 1;
+    }
+    n
+}
+
+fn other_at_least(e: Entry, seat: u8, priority: u8) -> bool
+    ensures { λ r. ⌜ r ≡ otherAtLeast seat priority e ⌝ }
+{
+    if e.seat == seat {
+        false
+    } else {
+        priority <= e.priority
+    }
+}
+
+// Whether another seat waits at this priority or above.
+pub fn another_at_least(line: Line, seat: u8, priority: u8) -> bool
+    ensures { λ r. ⌜ r ≡ anotherAtLeast seat priority (waiting line) ⌝ }
+{
+    let n = count(line);
+    let mut i = 0;
+    while i < n {
+        let e = entry_at(line, i);
+        if other_at_least(e, seat, priority) {
+            return true;
+        }
+        i += 1;
+    }
+    false
+}
+
+// The entry at a place once `e` stands behind `k` others.
+fn entry_after(line: Line, k: usize, e: Entry, place: usize) -> Entry
+    requires { ⌜ k ≤ length (waiting line) ⌝ }
+    ensures { λ r. ⌜ r ≡ getD (take k (waiting line) ++ e ∷ drop k (waiting line)) place empty ⌝ }
+{
+    if place < k {
+        entry_at(line, place)
+    } else {
+        if place == k {
+            e
+        } else {
+            entry_at(line, place - 1)
+        }
+    }
+}
+
+fn insert(line: Line, k: usize, e: Entry) -> Line
+    requires { ⌜ k ≤ length (waiting line) ⌝ }
+    ensures { λ r. ⌜ r ≡ lineOf (take k (waiting line) ++ e ∷ drop k (waiting line)) ⌝ }
+{
+    let n = count(line);
+    let mut entries = [Entry {
+        seat: 0,
+        priority: 0,
+    }; 15];
+    let mut i = 0;
+    while i < 15 {
+        entries[i] = entry_after(line, k, e, i);
+        i += 1;
+    }
+    if n < 15 {
+        Line {
+            entries,
+            len: n + 1,
+        }
+    } else {
+        Line { entries, len: 15 }
+    }
+}
+
+// The line with a newcomer in its place: behind all of at least its priority.
+pub fn entered(line: Line, e: Entry) -> Line
+    ensures { λ r. ⌜ r ≡ lineOf (enter e (waiting line)) ⌝ }
+{
+    let k = place_for(line, e.priority);
+    insert(line, k, e)
+}
+
+// Whether a seat is in a set.
+pub fn has(seats: [bool; 16], seat: u8) -> bool
+    ensures { λ r. ⌜ r ≡ getD seats seat false ⌝ }
+{
+    let s = seat as usize;
+    if s < 16 { seats[s] } else { false }
+}
+
+// The line once the seats of a set are struck off: the others close up.
+pub fn struck(line: Line, seats: [bool; 16]) -> Line
+    ensures { λ r. ⌜ (r ≡ lineOf (without seats (waiting line))) × (waiting r ≡ without seats (waiting line)) ⌝ }
+{
+    let n = count(line);
+    let mut entries = [Entry {
+        seat: 0,
+        priority: 0,
+    }; 15];
+    let mut len = 0;
+    let mut i = 0;
+    while i < n {
+        let e = entry_at(line, i);
+        i += 1;
+        if has(seats, e.seat) {
+            continue;
+        }
+        entries[len] = e;
+        len += 1;
+    }
+    Line { entries, len }
+}
+
+// One more seat in the set.
+pub fn add(seats: &mut [bool], seat: u8)
+    ensures { λ _. ⌜ now (seats .exit) ≡ set (now (seats .entry)) seat true ⌝ }
+{
+    let s = seat as usize;
+    if s < seats.len() {
+        seats[s] = true;
+    }
+}
+
+// The seats in line, as a set.
+pub fn seats_of(line: Line) -> [bool; 16]
+    ensures { λ r. ⌜ r ≡ seatsOf (waiting line) ⌝ }
+{
+    let n = count(line);
+    let mut seats = [false; 16];
+    let mut i = 0;
+    while i < n {
+        let e = entry_at(line, i);
+        add(&mut seats, e.seat);
+        i += 1;
+    }
+    seats
+}

@@ -1,0 +1,19 @@
+use Rattle.rules.specs.Request.{full}
+use mathlib.Core.Path.{_≡_, refl, ap, sym, _∙_}
+use native.Mathlib.Omega.{arith}
+use borrow.Author.Needs.{needs}
+use Rattle.rules.proofs.is_full.Statement.{statement}
+use Rattle.rules.proofs.is_full.Tie as tie
+
+count-requires : tie.Need-count-requires
+count-requires c κs = search needs
+
+cast-result : tie.Need-cast-result
+cast-result c = search needs
+
+returns : tie.Need-returns
+unfolding full
+returns c = rw (sym (c .count .ensures .0))
+
+pub is-full-spec : {M : Type 1} → statement M
+is-full-spec = tie.close (tie.spec count-requires cast-result returns)

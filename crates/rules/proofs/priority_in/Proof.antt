@@ -1,0 +1,19 @@
+use Rattle.rules.specs.Request.{priorityIn}
+use mathlib.Core.Path.{_≡_, refl, ap, sym, _∙_}
+use native.Mathlib.Omega.{arith}
+use borrow.Author.Needs.{needs}
+use Rattle.rules.proofs.priority_in.Statement.{statement}
+use Rattle.rules.proofs.priority_in.Tie as tie
+
+place-of-requires : tie.Need-place-of-requires
+place-of-requires c κs = search needs
+
+entry-at-requires : tie.Need-entry-at-requires
+entry-at-requires c κs = search needs
+
+returns : tie.Need-returns
+unfolding priorityIn
+returns c = rw (c .entry-at .ensures, c .before .place-of .ensures)
+
+pub priority-in-spec : {M : Type 1} → statement M
+priority-in-spec = tie.close (tie.spec place-of-requires entry-at-requires returns)

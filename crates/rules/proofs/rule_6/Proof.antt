@@ -1,0 +1,19 @@
+use Rattle.rules.specs.Request.{rule6}
+use mathlib.Core.Path.{_≡_, refl, ap, sym, _∙_}
+use native.Mathlib.Omega.{arith}
+use borrow.Author.Needs.{needs}
+use Rattle.rules.proofs.rule_6.Statement.{statement}
+use Rattle.rules.proofs.rule_6.Tie as tie
+
+inform-requires : tie.Need-inform-requires
+inform-requires c κs = search needs
+
+press-on-requires : tie.Need-press-on-requires
+press-on-requires c κs = search needs
+
+returns : tie.Need-returns
+unfolding rule6
+returns c = rw (sym (c .before .inform .ensures)) (c .press-on .ensures)
+
+pub rule-6-spec : {M : Type 1} → statement M
+rule-6-spec = tie.close (tie.spec inform-requires press-on-requires returns)

@@ -1,0 +1,117 @@
+-- Request, rules 1 to 6 of document 01, "The desk". The call is running and the seat is known; `p` is the effective priority. Assumes nothing.
+use Prim.Native.Nat.{ℕ, _+_}
+use mathlib.Core.Bool.{Bool, true, false, not, _&&_}
+use mathlib.Core.List.{List}
+use lib.Dec.{leb, ltb, eqb}
+use lib.ListN.{length, getD}
+use Rattle.words.specs.Choice.{if_then_else_}
+use Rattle.line.specs.declared.Entry.{Entry}
+use Rattle.line.specs.declared.Line.{Line}
+use Rattle.line.specs.Line.{waiting, lineOf, empty, before, isIn, enter, anotherAtLeast, without}
+use Rattle.hall.specs.declared.Hall.{Hall}
+use Rattle.hall.specs.declared.Answer.the-variants.{NotExpected}
+use Rattle.hall.specs.Seats.{only, alone, queues, receivesOnly}
+use Rattle.rules.specs.declared.Phase.{Phase}
+use Rattle.rules.specs.declared.Phase.the-variants.{Stopped, Idle, Taken, Revoking}
+use Rattle.rules.specs.declared.Core.{Core}
+use Rattle.rules.specs.declared.Kind.{Kind}
+use Rattle.rules.specs.declared.Kind.the-variants as say
+use Rattle.rules.specs.declared.Step.{Step}
+use Rattle.rules.specs.Words.{_withLine_, _⇒_, done, refused, _sends_, _marksPlaced_}
+use Rattle.rules.specs.Floor.{holds, givenAtOnce, revokes}
+
+abbrev pub isIdle : Phase → Bool
+isIdle Stopped = false
+isIdle (Idle t7) = true
+isIdle (Taken e b) = false
+isIdle (Revoking e n) = false
+
+abbrev pub entry : ℕ → ℕ → Entry
+entry s p = record { seat = s; priority = p }
+
+unfoldable pub waits : Core → ℕ → Bool
+waits c s = isIn s (waiting (c .line))
+
+-- the priority at which a seat waits
+unfoldable pub priorityIn : Line → ℕ → ℕ
+priorityIn l s = getD (waiting l) (before s (waiting l)) empty .priority
+
+unfoldable pub full : Core → Hall → Bool
+full c h = leb (h .settings .limit) (length (waiting (c .line)))
+
+-- a request presses "if it is at or above the pre-emptive level and neither the holder nor another in line is"
+abbrev pub holderAtLeast : ℕ → Phase → Bool
+holderAtLeast level Stopped = false
+holderAtLeast level (Idle t7) = false
+holderAtLeast level (Taken e b) = leb level (e .priority)
+holderAtLeast level (Revoking e n) = leb level (e .priority)
+
+unfoldable pub presses : Core → Hall → ℕ → ℕ → Bool
+presses c h s p =
+    leb (h .settings .level) p && not (holderAtLeast (h .settings .level) (c .phase)) && not (anotherAtLeast s (h .settings .level) (waiting (c .line)))
+
+-- Deny: a message to the asker, and nothing changes
+unfoldable pub denied : Core → ℕ → ℕ → Step
+denied c s cause = done c sends say.Deny cause ⇒ only s
+
+-- Queue Position Info: 1 is the head, with its priority; 255 and 0 for a seat not in line
+unfoldable pub infoOf : Line → ℕ → Kind
+infoOf l s = if isIn s (waiting l) then say.Info (before s (waiting l) + 1) (priorityIn l s) else say.Info 255 0
+
+-- 1. "Holder in Taken: Granted again, with the priority it was given at, which stays; no given mark. Holder in Revoking: 23."
+abbrev pub grantedAgain : Core → Entry → Step
+grantedAgain c e = done c sends say.Granted (e .priority) ⇒ only (e .seat)
+
+unfoldable pub holderAsks : Core → Phase → Step
+holderAsks c (Taken e b) = grantedAgain c e
+holderAsks c (Revoking e n) = refused c NotExpected
+holderAsks c (Idle t7) = refused c NotExpected
+holderAsks c Stopped = refused c NotExpected
+
+-- 6. "a seat that negotiated queueing gets Queue Position Info .. Then, if it presses and the phase is Taken: Revoke #4 to the holder, Revoking."
+unfoldable pub informed : Core → Hall → ℕ → Step
+informed c h s = if queues h s then done c sends infoOf (c .line) s ⇒ only s else done c
+
+unfoldable pub pressed : Step → Phase → Bool → Step
+pressed r (Taken e b) press = if press then revokes r e 4 else r
+pressed r (Revoking e n) press = r
+pressed r (Idle t7) press = r
+pressed r Stopped press = r
+
+unfoldable pub rule6 : Core → Hall → ℕ → Bool → Step
+rule6 c h s press = pressed (informed c h s) (c .phase) press
+
+-- 4. "a changed priority moves it behind all of at least the new priority; the same priority keeps its place. No placed mark."
+abbrev pub moved : Line → Entry → Line
+moved l e = lineOf (enter e (without (only (e .seat)) (waiting l)))
+
+unfoldable pub asksAgain : Core → Hall → ℕ → ℕ → Bool → Step
+asksAgain c h s p press =
+    if eqb (priorityIn (c .line) s) p then rule6 c h s press else rule6 (c withLine moved (c .line) (entry s p)) h s press
+
+-- 5. "then it is placed"
+unfoldable pub placed : Core → Hall → ℕ → ℕ → Bool → Step
+placed c h s p press = rule6 (c withLine lineOf (enter (entry s p) (waiting (c .line)))) h s press marksPlaced s
+
+-- the parts of the page below that the code has as functions of their own
+abbrev pub idleRequest : Core → Hall → ℕ → ℕ → Step
+idleRequest c h s p = if alone h s then denied c s 3 else givenAtOnce c h (entry s p)
+
+abbrev pub placedUnlessFull : Core → Hall → ℕ → ℕ → Bool → Step
+placedUnlessFull c h s p press = if full c h then denied c s 7 else placed c h s p press
+
+abbrev pub rule5 : Core → Hall → ℕ → ℕ → Bool → Step
+rule5 c h s p press =
+    if not press && not (queues h s) then denied c s 1
+    else if full c h then denied c s 7
+    else placed c h s p press
+
+unfoldable pub request : Core → Hall → ℕ → ℕ → Step
+request c h s p =
+    if holds (c .phase) s then holderAsks c (c .phase)  -- 1
+    else if receivesOnly h s then denied c s 5  -- 2
+    else if isIdle (c .phase) then (if alone h s then denied c s 3 else givenAtOnce c h (entry s p))  -- 3
+    else if waits c s then asksAgain c h s p (presses c h s p)  -- 4, 6
+    else if not (presses c h s p) && not (queues h s) then denied c s 1  -- 5
+    else if full c h then denied c s 7
+    else placed c h s p (presses c h s p)  -- 5, 6
