@@ -4,6 +4,7 @@ ghost use mathlib.Core.List.{List};
 ghost use Prim.Native.Nat.{ℕ};
 ghost use Rattle.message.specs.Types.{typed, typeNumber};
 ghost use Rattle.message.specs.Table.{atFault, against};
+ghost use Rattle.message.specs.Answers.{number};
 ghost use Rattle.message.specs.Message.{ofOctet, ofWord, ofCause, ofQueue, ofPart, isGiven, said, complete};
 
 // The ten types.
@@ -128,6 +129,27 @@ pub fn type_number(kind: Kind) -> u8
         Kind::QueuePositionRequest => 8,
         Kind::QueuePositionInfo => 9,
         Kind::Ack => 10,
+    }
+}
+
+// The number of a refusal.
+pub fn refusal_number(r: Refusal) -> u8
+    ensures { λ n. ⌜ n ≡ number r ⌝ }
+{
+    match r {
+        Refusal::TooShort => 1,
+        Refusal::TooLong => 2,
+        Refusal::NotVersion2 => 3,
+        Refusal::Padded => 4,
+        Refusal::NotApplication => 5,
+        Refusal::WrongLength => 6,
+        Refusal::NotNamed => 7,
+        Refusal::UnlistedType => 8,
+        Refusal::PastTheEnd => 9,
+        Refusal::AgainstTheTable => 10,
+        Refusal::Missing => 11,
+        Refusal::Unreadable => 12,
+        Refusal::NoRoom => 13,
     }
 }
 

@@ -16,7 +16,7 @@ add-result-2 : tie.Need-add-result-2
 add-result-2 c = search needs
 
 returns : tie.Need-returns
-returns c = rw (padded-is (c .args .len))
+returns c = omega (arith, padded-is (c .args .len))
 
 pub after-spec : {M : Type 1} → statement M
 after-spec = tie.close (tie.spec add-result mul-result add-result-2 returns)
