@@ -1,0 +1,12 @@
+-- Proofs of specs/Again: Back, Again, Promised and Coincide each prove the statement that names them; the laws under them stand first.
+pub mod Numbers
+pub mod Fits
+pub mod Places
+pub mod Walk
+pub mod Back
+pub mod Judged
+pub mod Kept
+pub mod Sizes
+pub mod Again
+pub mod Coincide
+pub mod Promised
