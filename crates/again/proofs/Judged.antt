@@ -26,13 +26,13 @@ passed true a b r d e = let z : _≡_ {A = ℕ} 0 1 = d e in absurd (omega arith
 passed false a b r d e = (refl, e)
 
 -- a step that found a field
-record Stepped (s : List ℕ) (p : ℕ) (f : Found) : Type 0 where
-  is : fieldAt s p ≡ f
-  before : p < length s
-  inside : p + padded (lengthAt s p) ≤ length s
-  fit : Agrees (idAt s p) (lengthAt s p) (be16 s (p + 2))
+pub record Stepped (s : List ℕ) (p : ℕ) (f : Found) : Type 0 where
+  pub is : fieldAt s p ≡ f
+  pub before : p < length s
+  pub inside : p + padded (lengthAt s p) ≤ length s
+  pub fit : Agrees (idAt s p) (lengthAt s p) (be16 s (p + 2))
 
-stepped : (s : List ℕ) (p : ℕ) (f : Found) → stepAt s p ≡ Step.Field f → Stepped s p f
+pub stepped : (s : List ℕ) (p : ℕ) (f : Found) → stepAt s p ≡ Step.Field f → Stepped s p f
 unfolding stepAt
 stepped s p f e =
     let a = passed (leb (length s) p) Step.End _ (Step.Field f) (λ q. cc) e in

@@ -35,7 +35,7 @@ pub record Walked (s : List ℕ) (fs : List Field) (answer : Fields) : Type 0 wh
   pub all : answer ≡ whole found
   pub stands : (i : ℕ) → Stands s i (firstOf fs i) (startOf found i)
 
-step-end : (s : List ℕ) (p : ℕ) → length s ≤ p → stepAt s p ≡ Step.End
+pub step-end : (s : List ℕ) (p : ℕ) → length s ≤ p → stepAt s p ≡ Step.End
 unfolding stepAt
 step-end s p h = if-yes (leb (length s) p) Step.End _ (le-leb (length s) p h)
 

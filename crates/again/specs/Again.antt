@@ -1,7 +1,7 @@
 -- What is written reads back, what was read can be written again, and no promise leaves a choice (document 01, "The packet", "What is
 -- answered to packets" and "How strictly it is stated"). Each statement here is proved in proofs/, in the file named beside it.
 -- Assumes nothing.
-use Prim.Native.Nat.{ℕ, _≤_}
+use Prim.Native.Nat.{ℕ, _+_, _≤_}
 use mathlib.Core.Path.{_≡_}
 use mathlib.Core.Bool.{true}
 use mathlib.Core.List.{List}
@@ -12,6 +12,7 @@ use Rattle.message.specs.Message.{Said, said}
 use Rattle.message.specs.Answers.{result, number}
 use Rattle.reading.specs.declared.Reading.{Reading}
 use Rattle.reading.specs.declared.Reading.the-variants.{Read}
+use Rattle.reading.specs.Fields.{fieldsFrom, fieldsIn}
 use Rattle.reading.specs.Reading.{reading, told as toldByReader}
 use Rattle.writing.specs.declared.Writing.{Writing}
 use Rattle.writing.specs.declared.Writing.the-variants.{Written}
@@ -42,6 +43,10 @@ ReadIsWritten = (s : List ℕ) (m : Message) → reading s ≡ result m → Writ
 -- in the source, the writer accepts it.
 abbrev pub OnlyTwelve : Type 0
 OnlyTwelve = (m : Message) (src s : List ℕ) → lies m src ≡ true → ReadsAs s (said m src) → readable m src ≡ true
+
+-- Every field is judged (proofs/Steps): the walk's steps never run out before the packet does, however many more it were given.
+abbrev pub StepsSuffice : Type 0
+StepsSuffice = (s : List ℕ) (more : ℕ) → fieldsFrom (length s + more) s 12 ≡ fieldsIn s
 
 -- The same through the promises of the code (proofs/Promised): what the reader promises of its answer q to s; what the writer promises
 -- of its answer r, and of the room as it leaves it.
