@@ -1,0 +1,108 @@
+-- What is written reads back, what was read can be written again, and no promise leaves a choice (document 01, "The packet", "What is
+-- answered to packets" and "How strictly it is stated"). Each statement here is proved in proofs/, in the file named beside it.
+-- Assumes nothing.
+use Prim.Native.Nat.{ℕ, _+_, _≤_}
+use mathlib.Core.Path.{_≡_}
+use mathlib.Core.Bool.{true}
+use mathlib.Core.List.{List}
+use lib.ListN.{length, take, drop}
+use Rattle.message.specs.declared.Message.{Message}
+use Rattle.message.specs.declared.Refusal.{Refusal}
+use Rattle.message.specs.Message.{Said, said}
+use Rattle.message.specs.Answers.{result, number}
+use Rattle.reading.specs.declared.Reading.{Reading}
+use Rattle.reading.specs.declared.Reading.the-variants.{Read}
+use Rattle.reading.specs.Fields.{fieldsFrom, fieldsIn}
+use Rattle.reading.specs.Reading.{reading, told as toldByReader}
+use Rattle.writing.specs.declared.Writing.{Writing}
+use Rattle.writing.specs.declared.Writing.the-variants.{Written}
+use Rattle.writing.specs.Wire.{wire}
+use Rattle.writing.specs.Writing.{lies, readable, writing, written, told as toldByWriter}
+
+-- reading these octets gives a message, and it says this
+pub record ReadsAs (s : List ℕ) (what : Said) : Type 0 where
+  pub message : Message
+  pub read : reading s ≡ result message
+  pub same : said message s ≡ what
+
+-- Read back (proofs/Back): "12 (writer) a message that no reader would accept"; any other, as octets, reads as the same message.
+abbrev pub ReadBack : Type 0
+ReadBack = (m : Message) (src : List ℕ) → readable m src ≡ true → ReadsAs (wire (said m src)) (said m src)
+
+-- Written again (proofs/Again): a message that was read is one that the writer accepts, its octets read as the same message, and they
+-- are no more than there were ("without spare, padding or skipped fields").
+pub record WrittenAgain (s : List ℕ) (m : Message) : Type 0 where
+  pub accepted : readable m s ≡ true
+  pub again : ReadsAs (wire (said m s)) (said m s)
+  pub noLonger : length (wire (said m s)) ≤ length s
+
+abbrev pub ReadIsWritten : Type 0
+ReadIsWritten = (s : List ℕ) (m : Message) → reading s ≡ result m → WrittenAgain s m
+
+-- "12 (writer) a message that no reader would accept" (proofs/Again), and no other message: where any octets read as it, and its parts lie
+-- in the source, the writer accepts it.
+abbrev pub OnlyTwelve : Type 0
+OnlyTwelve = (m : Message) (src s : List ℕ) → lies m src ≡ true → ReadsAs s (said m src) → readable m src ≡ true
+
+-- Every field is judged (proofs/Steps): the walk's steps never run out before the packet does, however many more it were given.
+abbrev pub StepsSuffice : Type 0
+StepsSuffice = (s : List ℕ) (more : ℕ) → fieldsFrom (length s + more) s 12 ≡ fieldsIn s
+
+-- The same through the promises of the code (proofs/Promised): what the reader promises of its answer q to s; what the writer promises
+-- of its answer r, and of the room as it leaves it.
+abbrev pub ReaderPromise : List ℕ → Reading → Type 0
+ReaderPromise s q = toldByReader q ≡ reading s
+
+pub record WriterPromise (m : Message) (src room : List ℕ) (r : Writing) (room′ : List ℕ) : Type 0 where
+  pub answer : toldByWriter r ≡ writing m src (length room)
+  pub left : room′ ≡ written m src room
+
+-- the answer q to s is a message, and it says this
+pub record IsRead (s : List ℕ) (q : Reading) (what : Said) : Type 0 where
+  pub message : Message
+  pub read : q ≡ Read message
+  pub same : said message s ≡ what
+
+-- a writer that answers n leaves n octets that any reader reads as the same message
+abbrev pub WriteThenRead : Type 0
+WriteThenRead =
+    (m : Message) (src room room′ : List ℕ) (r : Writing) (n : ℕ) (q : Reading) → WriterPromise m src room r room′ → r ≡ Written n
+    → ReaderPromise (take n room′) q → IsRead (take n room′) q (said m src)
+
+-- "A refusal returns its number only and writes nothing; a result leaves the room past its end untouched"
+abbrev pub RefusalWritesNothing : Type 0
+RefusalWritesNothing =
+    (m : Message) (src room room′ : List ℕ) (r : Writing) (why : Refusal) → WriterPromise m src room r room′ → r ≡ Writing.Refused why
+    → room′ ≡ room
+
+abbrev pub RestUntouched : Type 0
+RestUntouched =
+    (m : Message) (src room room′ : List ℕ) (r : Writing) (n : ℕ) → WriterPromise m src room r room′ → r ≡ Written n
+    → drop n room′ ≡ drop n room
+
+-- what a reader read from s, a writer with room for s writes, and any reader reads it as the same message
+pub record SameAgain (s : List ℕ) (m : Message) (r : Writing) (room′ : List ℕ) : Type 0 where
+  pub count : ℕ
+  pub wrote : r ≡ Written count
+  pub readAgain : (q : Reading) → ReaderPromise (take count room′) q → IsRead (take count room′) q (said m s)
+
+abbrev pub ReadThenWrite : Type 0
+ReadThenWrite =
+    (s room room′ : List ℕ) (q : Reading) (m : Message) (r : Writing) → ReaderPromise s q → q ≡ Read m → length s ≤ length room
+    → WriterPromise m s room r room′ → SameAgain s m r room′
+
+-- "any two results it would allow are proved to coincide" (proofs/Coincide)
+abbrev pub NumbersDiffer : Type 0
+NumbersDiffer = (a b : Refusal) → number a ≡ number b → a ≡ b
+
+abbrev pub ReadersCoincide : Type 0
+ReadersCoincide = (s : List ℕ) (q q′ : Reading) → ReaderPromise s q → ReaderPromise s q′ → q ≡ q′
+
+pub record SameResult (r r′ : Writing) (room room′ : List ℕ) : Type 0 where
+  pub answers : r ≡ r′
+  pub rooms : room ≡ room′
+
+abbrev pub WritersCoincide : Type 0
+WritersCoincide =
+    (m : Message) (src room : List ℕ) (r r′ : Writing) (left left′ : List ℕ) → WriterPromise m src room r left
+    → WriterPromise m src room r′ left′ → SameResult r r′ left left′
