@@ -1,0 +1,41 @@
+//! The numbered refusals of document 01.
+
+/// Why something was refused. The number of each is the paper's.
+///
+/// Number 20 is not here: it is about the octets that a C program lends.
+#[derive(Clone, Copy, Debug, PartialEq, Eq, Hash)]
+#[repr(u8)]
+pub enum Refusal {
+    PacketTooShort = 1,
+    PacketTooLong = 2,
+    WrongVersion = 3,
+    PaddingBitSet = 4,
+    NotApplicationPacket = 5,
+    WrongLengthWord = 6,
+    WrongName = 7,
+    UnlistedType = 8,
+    FieldPastTheEnd = 9,
+    FieldAtFault = 10,
+    FieldMissing = 11,
+    NoReaderWouldAccept = 12,
+    RoomTooShort = 13,
+    CallStopped = 21,
+    NoSuchSeat = 22,
+    NotExpectedNow = 23,
+    AllSeatsTaken = 24,
+    IdentityLength = 25,
+    IdentityPresent = 26,
+    SsrcPresent = 27,
+    SettingOutOfRange = 28,
+    SheetEnding = 41,
+    SheetForm = 42,
+    SheetOffsets = 43,
+    SheetSettings = 44,
+    SheetSeats = 45,
+}
+
+impl Refusal {
+    pub fn number(self) -> u8 {
+        self as u8
+    }
+}

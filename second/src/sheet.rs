@@ -1,0 +1,127 @@
+//! The sheet: seats and settings, saved and loaded (document 01, "The sheet").
+
+use crate::desk::Desk;
+use crate::refusal::Refusal;
+use crate::seats::{Seat, Seats, SEATS};
+use crate::settings::{Settings, Wishes};
+
+const SETTINGS: usize = 12;
+const TRAILER: usize = 8;
+const FORM: u8 = 1;
+const LETTERS: [u8; 2] = *b"FS";
+const QUEUEING: u8 = 1;
+const RECEIVE_ONLY: u8 = 2;
+
+/// The sheet of a desk, whatever its phase.
+pub fn save(desk: &Desk) -> Vec<u8> {
+    let mut sheet = Vec::new();
+    for (_, seat) in desk.seats().taken() {
+        put_seat(&mut sheet, seat);
+    }
+    // Sixteen seats take 1,104 octets at the most, so both numbers fit.
+    let offset = u16::try_from(sheet.len()).unwrap_or(u16::MAX);
+    let count = u8::try_from(desk.seats().taken().count()).unwrap_or(u8::MAX);
+    put_settings(&mut sheet, desk.settings());
+    sheet.extend(offset.to_be_bytes());
+    sheet.extend([0, 0, count, FORM]);
+    sheet.extend(LETTERS);
+    sheet
+}
+
+/// Saves to the front of the lent room and says how long the sheet is.
+pub fn save_in(desk: &Desk, room: &mut [u8]) -> Result<usize, Refusal> {
+    let sheet = save(desk);
+    let Some(front) = room.get_mut(..sheet.len()) else {
+        return Err(Refusal::RoomTooShort);
+    };
+    front.copy_from_slice(&sheet);
+    Ok(sheet.len())
+}
+
+fn put_seat(sheet: &mut Vec<u8>, seat: &Seat) {
+    let queueing = if seat.queueing { QUEUEING } else { 0 };
+    let receive_only = if seat.receive_only { RECEIVE_ONLY } else { 0 };
+    sheet.extend([queueing | receive_only, seat.highest]);
+    sheet.extend(seat.ssrc.to_be_bytes());
+    sheet.push(u8::try_from(seat.identity.len()).unwrap_or(u8::MAX));
+    sheet.extend(&seat.identity);
+}
+
+fn put_settings(sheet: &mut Vec<u8>, settings: &Settings) {
+    sheet.extend(settings.ssrc().to_be_bytes());
+    sheet.extend([settings.level(), settings.line_limit()]);
+    sheet.extend([settings.c7_limit(), settings.c20_limit()]);
+    sheet.extend(settings.duration().to_be_bytes());
+    sheet.extend([0, 0]);
+}
+
+/// A fresh desk with the seats and settings of a sheet.
+pub fn load(sheet: &[u8]) -> Result<Desk, Refusal> {
+    let ending = sheet.split_last_chunk::<TRAILER>();
+    let (front, trailer) = ending.ok_or(Refusal::SheetEnding)?;
+    let middle = front.split_last_chunk::<SETTINGS>();
+    let (seats, settings) = middle.ok_or(Refusal::SheetEnding)?;
+    let count = judge_trailer(trailer, seats.len())?;
+    let settings = read_settings(settings)?;
+    let seats = read_seats(seats, count, settings.ssrc()).ok_or(Refusal::SheetSeats)?;
+    Ok(Desk::fresh(settings, seats))
+}
+
+/// Refusals 41 to 43; answers the count of seats.
+fn judge_trailer(trailer: &[u8; TRAILER], settings_at: usize) -> Result<u8, Refusal> {
+    let [high, low, seats_high, seats_low, count, form, letters @ ..] = *trailer;
+    if letters != LETTERS {
+        return Err(Refusal::SheetEnding);
+    }
+    if form != FORM {
+        return Err(Refusal::SheetForm);
+    }
+    let points_back = usize::from(u16::from_be_bytes([high, low])) == settings_at;
+    if usize::from(count) > SEATS || !points_back || [seats_high, seats_low] != [0, 0] {
+        return Err(Refusal::SheetOffsets);
+    }
+    Ok(count)
+}
+
+fn read_settings(octets: &[u8; SETTINGS]) -> Result<Settings, Refusal> {
+    let [a, b, c, d, level, line_limit, c7_limit, c20_limit, high, low, zeros @ ..] = *octets;
+    if zeros != [0, 0] {
+        return Err(Refusal::SheetSettings);
+    }
+    let wishes = Wishes {
+        ssrc: u32::from_be_bytes([a, b, c, d]),
+        level: level.into(),
+        line_limit: line_limit.into(),
+        c7_limit: c7_limit.into(),
+        c20_limit: c20_limit.into(),
+        duration: u16::from_be_bytes([high, low]).into(),
+    };
+    Settings::judge(wishes).map_err(|_| Refusal::SheetSettings)
+}
+
+/// All seats, which must fill their part of the sheet and could all have joined.
+fn read_seats(mut octets: &[u8], count: u8, desk_ssrc: u32) -> Option<Seats> {
+    let mut seats = Seats::default();
+    for _ in 0..count {
+        let (seat, rest) = read_seat(octets)?;
+        seats.admit(seat, desk_ssrc).ok()?;
+        octets = rest;
+    }
+    octets.is_empty().then_some(seats)
+}
+
+fn read_seat(octets: &[u8]) -> Option<(Seat, &[u8])> {
+    let (&[flags, highest, a, b, c, d, length], rest) = octets.split_first_chunk()?;
+    if flags & !(QUEUEING | RECEIVE_ONLY) != 0 {
+        return None;
+    }
+    let (identity, rest) = rest.split_at_checked(usize::from(length))?;
+    let seat = Seat {
+        identity: identity.to_vec(),
+        ssrc: u32::from_be_bytes([a, b, c, d]),
+        highest,
+        queueing: flags & QUEUEING != 0,
+        receive_only: flags & RECEIVE_ONLY != 0,
+    };
+    Some((seat, rest))
+}

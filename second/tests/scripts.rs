@@ -1,0 +1,301 @@
+//! Scripts: what the maker makes, and what the player answers to it.
+
+use std::collections::BTreeMap;
+
+use second::maker::{Dice, Maker, Order};
+use second::script::Player;
+
+fn order(seed: u64, count: usize) -> Order {
+    Order {
+        seed,
+        count,
+        wrap: false,
+        write: false,
+    }
+}
+
+/// All lines that are answered, with their answers.
+fn played(order: Order) -> Vec<(String, String)> {
+    let mut player = Player::new();
+    let answer = |line: String| player.answer(line.as_bytes()).map(|answer| (line, answer));
+    Maker::new(order).filter_map(answer).collect()
+}
+
+/// The refusal that an answer tells, if it tells one.
+fn refusal(answer: &str) -> Option<u8> {
+    let mut words = answer.split(' ');
+    let number: u8 = match words.next() {
+        Some("A" | "R") => words.next()?.parse().ok()?,
+        _ => return None,
+    };
+    (number != 0).then_some(number)
+}
+
+fn refusals(order: Order) -> BTreeMap<u8, usize> {
+    let mut counts = BTreeMap::new();
+    for (_, answer) in played(order) {
+        if let Some(number) = refusal(&answer) {
+            *counts.entry(number).or_default() += 1;
+        }
+    }
+    counts
+}
+
+#[test]
+fn every_refusal_is_reached_within_5000_lines() {
+    // What was read can be written, so no command of issue 7 gets 12; `write` does.
+    let by_issue_7 = (1..=11).chain([13]).chain(21..=28).chain(41..=45);
+    let by_issue_7: Vec<u8> = by_issue_7.collect();
+    for seed in 0..12 {
+        let counts = refusals(order(seed, 5_000));
+        assert_eq!(
+            counts.keys().copied().collect::<Vec<_>>(),
+            by_issue_7,
+            "seed {seed}"
+        );
+        let counts = refusals(Order {
+            write: true,
+            ..order(seed, 5_000)
+        });
+        assert_eq!(counts.len(), by_issue_7.len() + 1, "seed {seed}");
+        assert!(counts.contains_key(&12), "seed {seed}");
+    }
+}
+
+#[test]
+fn a_script_depends_on_its_seed_alone() {
+    let script = |seed| Maker::new(order(seed, 1_000)).collect::<Vec<_>>();
+    assert_eq!(script(5), script(5));
+    assert_ne!(script(5), script(6));
+}
+
+/// What an `A` line says that conservation is about.
+struct Marks<'a> {
+    placed: bool,
+    struck_off: u32,
+    out_of_the_line: bool,
+    phase: &'a str,
+    holder: &'a str,
+    line: Vec<(u8, u8)>,
+}
+
+fn marks(answer: &str) -> Option<Marks<'_>> {
+    let parts: Vec<&str> = answer.strip_prefix("A ")?.split(" | ").collect();
+    let [_, _, marks, state] = parts[..] else {
+        panic!("{answer}");
+    };
+    let marks: Vec<&str> = marks.split(' ').collect();
+    let [placed, struck_off, _, _, how] = marks[..] else {
+        panic!("{answer}");
+    };
+    let state: Vec<&str> = state.split(' ').collect();
+    let [phase, _, _, holder, line, _, _] = state[..] else {
+        panic!("{answer}");
+    };
+    Some(Marks {
+        placed: placed != "-",
+        struck_off: u16::from_str_radix(struck_off, 16)
+            .expect("a mask")
+            .count_ones(),
+        out_of_the_line: how == "line",
+        phase,
+        holder,
+        line: line
+            .split(',')
+            .filter(|entry| *entry != "-")
+            .map(entry)
+            .collect(),
+    })
+}
+
+fn entry(text: &str) -> (u8, u8) {
+    let (seat, priority) = text.split_once(':').expect("an entry");
+    (
+        seat.parse().expect("a seat"),
+        priority.parse().expect("a priority"),
+    )
+}
+
+#[test]
+fn who_is_placed_is_given_the_floor_or_struck_off_or_waits() {
+    let mut longest = 0;
+    for seed in 100..104 {
+        let (mut placed, mut gone) = (0, 0);
+        for (line, answer) in played(order(seed, 20_000)) {
+            if answer == "OK" {
+                (placed, gone) = (0, 0);
+            }
+            let Some(marks) = marks(&answer) else {
+                continue;
+            };
+            placed += usize::from(marks.placed);
+            gone += marks.struck_off as usize + usize::from(marks.out_of_the_line);
+            assert_eq!(
+                placed,
+                gone + marks.line.len(),
+                "seed {seed}, {line}: {answer}"
+            );
+            longest = longest.max(marks.line.len());
+            check_line(&marks);
+        }
+    }
+    assert_eq!(longest, 15);
+}
+
+/// The line is in order, no seat stands in it twice, and the holder does not.
+fn check_line(marks: &Marks<'_>) {
+    assert!(marks.line.is_sorted_by(|first, second| first.1 >= second.1));
+    let mut seats: Vec<u8> = marks.line.iter().map(|(seat, _)| *seat).collect();
+    if marks.holder != "-" {
+        seats.push(entry(marks.holder).0);
+    }
+    let held = matches!(marks.phase, "Taken" | "Revoking");
+    assert_eq!(held, marks.holder != "-");
+    assert!(held || marks.line.is_empty());
+    seats.sort_unstable();
+    assert!(seats.windows(2).all(|pair| pair[0] != pair[1]));
+}
+
+#[test]
+fn refused_steps_leave_the_desk_as_it_was() {
+    let mut player = Player::new();
+    for line in Maker::new(order(200, 20_000)) {
+        let before = player.desk().cloned();
+        let Some(answer) = player.answer(line.as_bytes()) else {
+            continue;
+        };
+        if refusal(&answer).is_some() || answer.contains("| Deny ") {
+            assert_eq!(player.desk(), before.as_ref(), "{line}: {answer}");
+        }
+        if refusal(&answer).is_some() && answer.starts_with('A') {
+            assert!(
+                answer.contains(" | - | - 0000 - - - | "),
+                "{line}: {answer}"
+            );
+        }
+    }
+}
+
+#[test]
+fn a_long_script_takes_the_sequence_number_past_65535() {
+    let wrapping = Order {
+        wrap: true,
+        ..order(300, 10)
+    };
+    let mut idle = Vec::new();
+    for (_, answer) in played(wrapping) {
+        if let Some((_, message)) = answer.split_once("| Idle ") {
+            idle.extend(
+                message
+                    .split(' ')
+                    .next()
+                    .and_then(|word| word.parse::<u32>().ok()),
+            );
+        }
+    }
+    let falls = idle
+        .windows(2)
+        .filter(|pair| pair[0] > 65_400 && pair[1] < 100);
+    assert_eq!(falls.count(), 1);
+}
+
+#[test]
+fn an_accepted_sheet_is_saved_octet_for_octet() {
+    let mut player = Player::new();
+    let mut accepted = 0;
+    for line in Maker::new(order(400, 20_000)) {
+        let answer = player.answer(line.as_bytes());
+        if let (Some(octets), Some("OK")) = (line.strip_prefix("load "), answer.as_deref()) {
+            assert_eq!(player.answer(b"save").as_deref(), Some(octets));
+            accepted += 1;
+        }
+    }
+    assert!(accepted > 20);
+}
+
+#[test]
+fn what_is_rewritten_reads_the_same_and_is_no_longer() {
+    let mut player = Player::new();
+    let mut compared = 0;
+    for line in Maker::new(order(500, 20_000)) {
+        let Some(octets) = line.strip_prefix("rewrite ") else {
+            continue;
+        };
+        let mut answer = |line: String| player.answer(line.as_bytes()).expect("an answer");
+        let rewritten = answer(line.clone());
+        let read = answer(format!("read {octets}"));
+        if rewritten.starts_with('R') {
+            assert_eq!(rewritten, read);
+            continue;
+        }
+        assert_eq!(answer(format!("read {rewritten}")), read);
+        assert_eq!(answer(format!("rewrite {rewritten}")), rewritten);
+        assert!(rewritten.len() <= octets.len());
+        compared += 1;
+    }
+    assert!(compared > 100);
+}
+
+#[test]
+fn lines_that_cannot_be_understood() {
+    let mut player = Player::new();
+    for line in [
+        "save",
+        "screen 1",
+        "start",
+        "join 61 1 1 1 0",
+        "nothing",
+        "START",
+        "read 0",
+    ] {
+        let answer = player.answer(line.as_bytes()).expect("an answer");
+        assert!(answer.starts_with("? "), "{line}: {answer}");
+    }
+    for line in ["", "  \t", "#", "# start", "  #start", "\r", "\n"] {
+        assert_eq!(player.answer(line.as_bytes()), None);
+    }
+    // A desk that was refused is no desk.
+    assert_eq!(player.answer(b"make 1 0 2 2 2 30").as_deref(), Some("R 28"));
+    assert_eq!(player.answer(b"save").as_deref(), Some("? no desk"));
+}
+
+#[test]
+fn any_octets_at_all_get_an_answer() {
+    let mut dice = Dice::new(600);
+    let mut player = Player::new();
+    player.answer(b"make 1 200 2 2 2 30");
+    let names = [
+        "make", "load", "join", "packet", "read", "write", "timer", "leave", "screen",
+    ];
+    for _ in 0..20_000 {
+        let length = dice.below(60);
+        let mut line = dice.one_of(names).as_bytes().to_vec();
+        line.push(b' ');
+        line.extend((0..length).map(|_| dice.one_of(*b"0123456789abcdef --=,  \x00\xff")));
+        assert!(player.answer(&line).is_some());
+    }
+}
+
+#[test]
+fn the_examples_of_the_format_are_what_is_answered() {
+    let page = include_str!("../FORMAT.md");
+    let mut player = Player::new();
+    let mut compared = 0;
+    let mut expected: Option<Option<String>> = None;
+    for line in page.lines() {
+        if let Some(script) = line.strip_prefix("    > ") {
+            assert!(
+                !matches!(expected, Some(Some(_))),
+                "no answer before {line}"
+            );
+            expected = Some(player.answer(script.as_bytes()));
+        } else if let Some(answer) = line.strip_prefix("    < ") {
+            let given = expected.take().flatten().unwrap_or_default();
+            let same = given == answer || given.starts_with("? ") && answer.starts_with("? ");
+            assert!(same, "{given}\nis not\n{answer}");
+            compared += 1;
+        }
+    }
+    assert!(!matches!(expected, Some(Some(_))));
+    assert!(compared > 20);
+}
