@@ -85,8 +85,16 @@ pub fn writer() {
     attempt(b"  Release in a room of 12: ", bare(Kind::Release), 12);
     attempt(b"  Release in a room of 11: ", bare(Kind::Release), 11);
     attempt(b"  Granted without a duration: ", bare(Kind::Granted), 512);
-    attempt(b"  every field, in a room of 440: ", full(62, 253, 1, 3), 440);
-    attempt(b"  every field, in a room of 439: ", full(62, 253, 1, 3), 439);
+    attempt(
+        b"  every field, in a room of 440: ",
+        full(62, 253, 1, 3),
+        440,
+    );
+    attempt(
+        b"  every field, in a room of 439: ",
+        full(62, 253, 1, 3),
+        439,
+    );
     attempt(b"  identities of 61: ", full(61, 253, 1, 3), 512);
 }
 

@@ -1,0 +1,2 @@
+-- The desk's messages read back.
+pub mod Back
