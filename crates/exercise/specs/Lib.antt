@@ -1,0 +1,2 @@
+pub mod Thursday
+pub mod Idle

@@ -1,0 +1,121 @@
+-- Who is in line after an entry, after striking off, and who is in the set of those in line. Assumes nothing.
+use Prim.Native.Nat.{ℕ, zero, suc, _+_, _≤_, _<_}
+use mathlib.Core.Path.{_≡_, refl, ap, sym, _∙_}
+use mathlib.Core.Bool.{Bool, true, false, not, _&&_, _||_}
+use mathlib.Core.List.{List, [], _∷_, _++_}
+use native.Mathlib.Omega.{arith}
+use lib.Dec.{eqb, ltb, leb·suc-suc}
+use lib.ListN.{length, take, drop, getD, set, replicate, length-append, length-set, length-replicate, take-append-drop, List·getD-eq-default}
+use lib.Seq.{getD-set-same, getD-set-other}
+use borrow.Author.Tests.{eqb-true, eqb-false, eq-eqb, ne-eqb, lt-ltb}
+use Rattle.words.specs.Choice.{if_then_else_, by-test}
+use Rattle.line.specs.declared.Entry.{Entry}
+use Rattle.line.specs.Line.{before, leading, isOther, isIn, enter, ahead, without, added, seatsOf, nobody}
+use Rattle.hall.specs.Seats.{only}
+
+pub in-nil : (s : ℕ) → isIn s [] ≡ false
+unfolding before
+in-nil s = refl
+
+pub in-cons : (s : ℕ) (e : Entry) (es : List Entry) → isIn s (e ∷ es) ≡ (eqb (e .seat) s || isIn s es)
+unfolding before if_then_else_
+in-cons s e es =
+    by-test (eqb (e .seat) s)
+    (λ q. rw q (lt-ltb 0 (suc (length es)) (omega arith)))
+    (λ q. rw q (leb·suc-suc (suc (leading (isOther s) es)) (length es)))
+
+pub in-append : (s : ℕ) (a b : List Entry) → isIn s (a ++ b) ≡ (isIn s a || isIn s b)
+in-append s [] b = rw (in-nil s)
+in-append s (e ∷ a) b = rw (in-cons s e (a ++ b), in-cons s e a, in-append s a b) (or-assoc (eqb (e .seat) s) (isIn s a) (isIn s b))
+  where
+    or-assoc : (x y z : Bool) → (x || (y || z)) ≡ ((x || y) || z)
+    or-assoc true y z = refl
+    or-assoc false y z = refl
+
+-- put in at a place, or without it
+pub in-enter : (s : ℕ) (e : Entry) (es : List Entry) → isIn s (enter e es) ≡ (eqb (e .seat) s || isIn s es)
+unfolding enter
+in-enter s e es =
+    let k = ahead (e .priority) es in
+    let whole : isIn s es ≡ (isIn s (take k es) || isIn s (drop k es)) = ap (isIn s) (sym (take-append-drop k es)) ∙ in-append s (take k es) (drop k es) in
+    in-append s (take k es) (e ∷ drop k es) ∙ ap (λ (b : Bool). isIn s (take k es) || b) (in-cons s e (drop k es))
+    ∙ swap (isIn s (take k es)) (eqb (e .seat) s) (isIn s (drop k es)) ∙ ap (λ (b : Bool). eqb (e .seat) s || b) (sym whole)
+  where
+    swap : (x y z : Bool) → (x || (y || z)) ≡ (y || (x || z))
+    swap true true z = refl
+    swap true false z = refl
+    swap false y z = refl
+
+pub in-without : (s : ℕ) (seats : List Bool) (es : List Entry) → isIn s (without seats es) ≡ (isIn s es && not (getD seats s false))
+unfolding without if_then_else_
+in-without s seats [] = rw (in-nil s)
+in-without s seats (e ∷ es) =
+    by-test (getD seats (e .seat) false)
+    (λ q. rw (q, in-cons s e es, in-without s seats es) (struck q))
+    (λ q. rw (q, in-cons s e es, in-cons s e (without seats es), in-without s seats es) (kept q))
+  where
+    struck : getD seats (e .seat) false ≡ true → (isIn s es && not (getD seats s false)) ≡ ((eqb (e .seat) s || isIn s es) && not (getD seats s false))
+    struck q =
+        by-test (eqb (e .seat) s)
+        (λ t. let x : getD seats s false ≡ true = ap (λ (n : ℕ). getD seats n false) (sym (eqb-true (e .seat) s t)) ∙ q in rw (t, x) (and-false (isIn s es)))
+        (λ t. rw t)
+      where
+        and-false : (b : Bool) → (b && false) ≡ false
+        and-false true = refl
+        and-false false = refl
+
+    kept : getD seats (e .seat) false ≡ false → (eqb (e .seat) s || (isIn s es && not (getD seats s false))) ≡ ((eqb (e .seat) s || isIn s es) && not (getD seats s false))
+    kept q =
+        by-test (eqb (e .seat) s)
+        (λ t. let x : getD seats s false ≡ false = ap (λ (n : ℕ). getD seats n false) (sym (eqb-true (e .seat) s t)) ∙ q in rw (t, x))
+        (λ t. rw t)
+
+-- one seat as a set
+pub only-at : (t s : ℕ) → t < 16 → getD (only t) s false ≡ eqb t s
+only-at t s h =
+    by-test (eqb t s)
+    (λ q. let e : t ≡ s = eqb-true t s q in ap (λ (n : ℕ). getD (only t) n false) (sym e) ∙ getD-set-same (replicate 16 false) t true false (rw (length-replicate 16 false) h) ∙ sym q)
+    (λ q. getD-set-other (replicate 16 false) t s true false (λ e. eqb-false t s q (sym e)) ∙ none 16 s ∙ sym q)
+  where
+    none : (n i : ℕ) → getD (replicate n false) i false ≡ false
+    none zero i = refl
+    none (suc n) zero = refl
+    none (suc n) (suc i) = none n i
+
+-- striking off a seat that is in line makes the line shorter
+pub without-less : (t : ℕ) (seats : List Bool) (es : List Entry) → getD seats t false ≡ true → isIn t es ≡ true → length (without seats es) < length es
+unfolding without if_then_else_
+without-less t seats [] h i = let z : _≡_ {A = ℕ} 0 1 = cc (in-nil t) in absurd (omega arith)
+without-less t seats (e ∷ es) h i =
+    by-test (getD seats (e .seat) false)
+    (λ q. rw q (let l : length (without seats es) ≤ length es = less seats es in omega arith))
+    (λ q. rw q (let l : length (without seats es) < length es = without-less t seats es h (rest q) in omega arith))
+  where
+    less : (seats : List Bool) (es : List Entry) → length (without seats es) ≤ length es
+    less seats [] = omega arith
+    less seats (e ∷ es) =
+        let l : length (without seats es) ≤ length es = less seats es in by-test (getD seats (e .seat) false) (λ q. rw q (omega arith)) (λ q. rw q (omega arith))
+
+    rest : getD seats (e .seat) false ≡ false → isIn t es ≡ true
+    rest q = by-test (eqb (e .seat) t)
+        (λ x. let z : _≡_ {A = ℕ} 0 1 = (let y : getD seats t false ≡ false = ap (λ (n : ℕ). getD seats n false) (sym (eqb-true (e .seat) t x)) ∙ q in cc) in absurd (omega arith))
+        (λ x. rw x at (sym (in-cons t e es) ∙ i))
+
+-- the set of those in line, where all sit below 16
+pub in-added : (s : ℕ) (seats : List Bool) (es : List Entry) → length seats ≡ 16 → ((t : ℕ) → isIn t es ≡ true → t < 16) → getD (added seats es) s false ≡ (getD seats s false || isIn s es)
+in-added s seats [] h f = rw (in-nil s) (sym (or-false (getD seats s false)))
+  where
+    or-false : (b : Bool) → (b || false) ≡ b
+    or-false true = refl
+    or-false false = refl
+in-added s seats (e ∷ es) h f =
+    let i : e .seat < length seats = rw h (f (e .seat) (in-cons (e .seat) e es ∙ rw (eq-eqb (e .seat) (e .seat) refl))) in
+    in-added s (set seats (e .seat) true) es (length-set seats (e .seat) true ∙ h) (λ t q. f t (in-cons t e es ∙ rw q (or-true (eqb (e .seat) t))))
+    ∙ by-test (eqb (e .seat) s)
+    (λ q. let x : e .seat ≡ s = eqb-true (e .seat) s q in
+    rw (in-cons s e es, q) (ap (λ (b : Bool). b || isIn s es) (ap (λ (n : ℕ). getD (set seats (e .seat) true) n false) (sym x) ∙ getD-set-same seats (e .seat) true false i) ∙ sym (or-true (getD seats s false))))
+    (λ q. rw (in-cons s e es, q) (ap (λ (b : Bool). b || isIn s es) (getD-set-other seats (e .seat) s true false (λ y. eqb-false (e .seat) s q (sym y)))))
+  where
+    or-true : (b : Bool) → (b || true) ≡ true
+    or-true true = refl
+    or-true false = refl

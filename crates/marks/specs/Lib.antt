@@ -1,0 +1,4 @@
+pub mod Marks
+pub mod Floor
+pub mod InLine
+pub mod Line

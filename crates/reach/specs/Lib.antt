@@ -1,0 +1,5 @@
+pub mod Sound
+pub mod InLine
+pub mod Steps
+pub mod Hall
+pub mod Reach
