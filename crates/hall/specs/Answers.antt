@@ -1,5 +1,8 @@
 -- The numbers that document 01, "The desk", gives the desk's answers; 0 is done. Assumes nothing.
 use Prim.Native.Nat.{ℕ}
+use Rattle.words.specs.Choice.{if_then_else_}
+use Rattle.hall.specs.declared.Settings.{Settings}
+use Rattle.hall.specs.Seats.{inRange}
 use Rattle.hall.specs.declared.Answer.{Answer}
 use Rattle.hall.specs.declared.Answer.the-variants.{Done, CallStopped, NoSuchSeat, NotExpected, AllSeatsTaken, IdentityLength, IdentityPresent, SsrcPresent, OutsideRange}
 
@@ -13,3 +16,7 @@ number IdentityLength = 25
 number IdentityPresent = 26
 number SsrcPresent = 27
 number OutsideRange = 28
+
+-- 28: "a setting outside its range"
+unfoldable pub settingsAnswer : Settings → Answer
+settingsAnswer s = if inRange s then Done else OutsideRange

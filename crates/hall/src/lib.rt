@@ -7,6 +7,7 @@ ghost use lib.Dec.{eqb};
 ghost use lib.ListN.{length, getD, set, replicate};
 ghost use Rattle.hall.specs.Seats.{inRange, emptyHall, isPresent, queues, receivesOnly, only, others, alone, effective, hasSsrc, seatOf, freeSeat, withSeat, vacated, lower, asked};
 ghost use Rattle.hall.specs.Identity.{octetsOf, nameOf, noName, noNames, nameAt, withName, same, hasName, seatNamed, lengthAllowed};
+ghost use Rattle.hall.specs.Answers.{number, settingsAnswer};
 ghost use Rattle.hall.specs.Join.{join, seated, notJoined, ssrcTaken};
 
 // What a desk answers; specs/Answers.antt has the paper's number of each.
@@ -157,6 +158,34 @@ pub fn in_range(settings: Settings) -> bool
         return false;
     }
     1 <= settings.duration
+}
+
+// The answer to settings that a desk is to be made with.
+pub fn check_settings(settings: Settings) -> Answer
+    ensures { λ r. ⌜ r ≡ settingsAnswer settings ⌝ }
+{
+    if in_range(settings) {
+        Answer::Done
+    } else {
+        Answer::OutsideRange
+    }
+}
+
+// The paper's number of an answer.
+pub fn number_of(answer: Answer) -> u8
+    ensures { λ r. ⌜ r ≡ number answer ⌝ }
+{
+    match answer {
+        Answer::Done => 0,
+        Answer::CallStopped => 21,
+        Answer::NoSuchSeat => 22,
+        Answer::NotExpected => 23,
+        Answer::AllSeatsTaken => 24,
+        Answer::IdentityLength => 25,
+        Answer::IdentityPresent => 26,
+        Answer::SsrcPresent => 27,
+        Answer::OutsideRange => 28,
+    }
 }
 
 pub fn empty_hall(settings: Settings) -> Hall

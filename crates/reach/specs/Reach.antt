@@ -34,6 +34,9 @@ use Rattle.rules.specs.Floor.{holds, floorEnds}
 use Rattle.rules.specs.Request.{waits}
 use Rattle.desk.specs.declared.Left.{Left}
 use Rattle.desk.specs.Events.{fresh, struckOff, step, left, leaves, leave}
+use Rattle.marks.specs.Marks.{FloorCounts, LineCounts}
+use Rattle.marks.specs.Floor.{floor-counts}
+use Rattle.marks.specs.Line.{Fit, line-counts}
 use Rattle.marks.specs.InLine.{in-nil, in-without, only-at}
 use Rattle.history.specs.Doing.{Desk, Doing, event, leaves as leaves-now, joins, made, does, deskOf, after, afterAll, joined}
 use Rattle.reach.specs.Sound.{ListOk, LineOk, FloorOk, NumbersOk, HallOk, CoreOk, SeatsOk, Sound}
@@ -289,3 +292,18 @@ sound-reached g r xs = go (made g) xs (sound-made g r)
     go : (d : Desk) (xs : List Doing) → Sound d → Sound (afterAll d xs)
     go d [] k = k
     go d (x ∷ xs) k = go (after d x) xs (sound-kept d x k)
+
+-- and at every such desk, whatever happens, the marks are what the line and the holder did: for each seat, whoever waited or was placed waits now, or
+-- was struck off, or was given the floor out of the line; whoever held the floor or was given it holds it now, or has ended
+fits : (d : Desk) → Sound d → Fit (d .core) (d .hall)
+fits d k =
+    let h = hall-ok (d .hall) (d .names) (k .seats) in
+    record {
+      room = omega (arith, k .core .line .list .within, h .limit);
+      limit = h .limit;
+      seats = λ t q. present-below (d .hall) h t (k .core .line .list .here t q);
+    }
+
+pub marks-counted : (d : Desk) (x : Doing) (s : ℕ) → Sound d →
+    LineCounts (d .core) (does d x .core) (does d x .report .marks) s × FloorCounts (d .core) (does d x .core) (does d x .report .marks) s
+marks-counted d x s k = (line-counts d x s (fits d k), floor-counts d x s)

@@ -1,8 +1,8 @@
+-- `desk::caller_of` meets its contract. Assumes nothing.
+use mathlib.Core.Path.{sym}
+use borrow.Author.Needs.{needs}
 use Rattle.words.specs.Choice.{if_then_else_}
 use Rattle.desk.specs.Events.{callerOf}
-use mathlib.Core.Path.{_≡_, refl, ap, sym, _∙_}
-use native.Mathlib.Omega.{arith}
-use borrow.Author.Needs.{needs}
 use Rattle.desk.proofs.caller_of.Statement.{statement}
 use Rattle.desk.proofs.caller_of.Tie as tie
 
@@ -24,11 +24,23 @@ enum-told c = search needs
 
 returns-2 : tie.Need-returns-2
 unfolding callerOf if_then_else_
-returns-2 c = rw (sym (c .before .before .before .before .before .is-stopped .ensures), c .before .before .before .before .if1 .left, sym (c .before .before .before .seat-of .ensures), c .before .found .given .1)
+returns-2 c =
+    rw (
+      sym (c .before .before .before .before .before .is-stopped .ensures),
+      c .before .before .before .before .if1 .left,
+      sym (c .before .before .before .seat-of .ensures),
+      c .before .found .given .1,
+    )
 
 returns-3 : tie.Need-returns-3
 unfolding callerOf if_then_else_
-returns-3 c = rw (sym (c .before .before .before .before .is-stopped .ensures), c .before .before .before .if1 .left, sym (c .before .before .seat-of .ensures), c .enum-told .given .1)
+returns-3 c =
+    rw (
+      sym (c .before .before .before .before .is-stopped .ensures),
+      c .before .before .before .if1 .left,
+      sym (c .before .before .seat-of .ensures),
+      c .enum-told .given .1,
+    )
 
 pub caller-of-spec : {M : Type 1} → statement M
 caller-of-spec =

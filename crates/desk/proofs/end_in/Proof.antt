@@ -1,7 +1,7 @@
-use Rattle.desk.specs.Timers.{endsIn}
-use mathlib.Core.Path.{_≡_, refl, ap, sym, _∙_}
-use native.Mathlib.Omega.{arith}
+-- `desk::end_in` meets its contract. Assumes nothing.
+use mathlib.Core.Path.{ap, sym, _∙_}
 use borrow.Author.Needs.{needs}
+use Rattle.desk.specs.Timers.{endsIn}
 use Rattle.desk.proofs.end_in.Statement.{statement}
 use Rattle.desk.proofs.end_in.Tie as tie
 
@@ -31,19 +31,29 @@ end-floor-requires-2 c κs = search needs
 
 returns : tie.Need-returns
 unfolding endsIn
-returns c = c .answer .ensures ∙ sym (ap (endsIn (c .before .before .before .args .core) (c .before .before .before .args .hall)) (c .before .enum-told .given .1))
+returns c =
+    c .answer .ensures ∙ sym (ap (endsIn (c .before .before .before .args .core) (c .before .before .before .args .hall))
+    (c .before .enum-told .given .1))
 
 returns-2 : tie.Need-returns-2
 unfolding endsIn
-returns-2 c = c .answer2 .ensures ∙ sym (ap (endsIn (c .before .before .before .args .core) (c .before .before .before .args .hall)) (c .before .enum-told2 .given .1))
+returns-2 c =
+    c .answer2 .ensures ∙ sym (ap (endsIn (c .before .before .before .args .core) (c .before .before .before .args .hall))
+    (c .before .enum-told2 .given .1))
 
 returns-3 : tie.Need-returns-3
 unfolding endsIn
-returns-3 c = c .end-floor .ensures ∙ sym (ap (endsIn (c .before .before .before .before .args .core) (c .before .before .before .before .args .hall)) (c .before .before .phase .given .1))
+returns-3 c =
+    c .end-floor .ensures
+    ∙ sym (ap (endsIn (c .before .before .before .before .args .core) (c .before .before .before .before .args .hall))
+    (c .before .before .phase .given .1))
 
 returns-4 : tie.Need-returns-4
 unfolding endsIn
-returns-4 c = c .end-floor2 .ensures ∙ sym (ap (endsIn (c .before .before .before .before .args .core) (c .before .before .before .before .args .hall)) (c .before .before .phase2 .given .1))
+returns-4 c =
+    c .end-floor2 .ensures
+    ∙ sym (ap (endsIn (c .before .before .before .before .args .core) (c .before .before .before .before .args .hall))
+    (c .before .before .phase2 .given .1))
 
 pub end-in-spec : {M : Type 1} → statement M
 end-in-spec =

@@ -1,8 +1,8 @@
+-- `desk::expire` meets its contract. Assumes nothing.
+use mathlib.Core.Path.{sym}
+use borrow.Author.Needs.{needs}
 use Rattle.words.specs.Choice.{if_then_else_}
 use Rattle.desk.specs.Timers.{expires}
-use mathlib.Core.Path.{_≡_, refl, ap, sym, _∙_}
-use native.Mathlib.Omega.{arith}
-use borrow.Author.Needs.{needs}
 use Rattle.desk.proofs.expire.Statement.{statement}
 use Rattle.desk.proofs.expire.Tie as tie
 
@@ -30,11 +30,26 @@ answer-requires-2 c κs = search needs
 
 returns-2 : tie.Need-returns-2
 unfolding expires if_then_else_
-returns-2 c = rw (sym (c .before .before .before .before .before .is-stopped .ensures), c .before .before .before .before .if1 .left, sym (c .before .before .before .running-timers .ensures), sym (c .before .before .is-running .ensures), c .before .if2 .taken) (c .fire .ensures)
+returns-2 c =
+    rw (
+      sym (c .before .before .before .before .before .is-stopped .ensures),
+      c .before .before .before .before .if1 .left,
+      sym (c .before .before .before .running-timers .ensures),
+      sym (c .before .before .is-running .ensures),
+      c .before .if2 .taken,
+    ) (c .fire .ensures)
 
 returns-3 : tie.Need-returns-3
 unfolding expires if_then_else_
-returns-3 c = rw (sym (c .before .before .before .before .before .is-stopped .ensures), c .before .before .before .before .if1 .left, sym (c .before .before .before .running-timers .ensures), sym (c .before .before .is-running .ensures), c .before .if2 .left) (c .answer2 .ensures)
+returns-3 c =
+    rw (
+      sym (c .before .before .before .before .before .is-stopped .ensures),
+      c .before .before .before .before .if1 .left,
+      sym (c .before .before .before .running-timers .ensures),
+      sym (c .before .before .is-running .ensures),
+      c .before .if2 .left,
+    )
+    (c .answer2 .ensures)
 
 pub expire-spec : {M : Type 1} → statement M
 expire-spec =

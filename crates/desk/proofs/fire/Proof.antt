@@ -1,7 +1,6 @@
-use Rattle.desk.specs.Timers.{fires}
-use mathlib.Core.Path.{_≡_, refl, ap, sym, _∙_}
-use native.Mathlib.Omega.{arith}
+-- `desk::fire` meets its contract. Assumes nothing.
 use borrow.Author.Needs.{needs}
+use Rattle.desk.specs.Timers.{fires}
 use Rattle.desk.proofs.fire.Statement.{statement}
 use Rattle.desk.proofs.fire.Tie as tie
 

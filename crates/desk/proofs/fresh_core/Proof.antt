@@ -1,7 +1,6 @@
-use Rattle.desk.specs.Events.{fresh}
-use mathlib.Core.Path.{_≡_, refl, ap, sym, _∙_}
-use native.Mathlib.Omega.{arith}
+-- `desk::fresh_core` meets its contract. Assumes nothing.
 use borrow.Author.Needs.{needs}
+use Rattle.desk.specs.Events.{fresh}
 use Rattle.desk.proofs.fresh_core.Statement.{statement}
 use Rattle.desk.proofs.fresh_core.Tie as tie
 

@@ -1,7 +1,7 @@
-use Rattle.desk.specs.Timers.{grantsAgain}
-use mathlib.Core.Path.{_≡_, refl, ap, sym, _∙_}
-use native.Mathlib.Omega.{arith}
+-- `desk::grant_in` meets its contract. Assumes nothing.
+use mathlib.Core.Path.{ap, sym, _∙_}
 use borrow.Author.Needs.{needs}
+use Rattle.desk.specs.Timers.{grantsAgain}
 use Rattle.desk.proofs.grant_in.Statement.{statement}
 use Rattle.desk.proofs.grant_in.Tie as tie
 
@@ -31,19 +31,28 @@ answer-requires-3 c κs = search needs
 
 returns : tie.Need-returns
 unfolding grantsAgain
-returns c = c .answer .ensures ∙ sym (ap (grantsAgain (c .before .before .before .args .core) (c .before .before .before .args .hall)) (c .before .enum-told .given .1))
+returns c =
+    c .answer .ensures ∙ sym (ap (grantsAgain (c .before .before .before .args .core) (c .before .before .before .args .hall))
+    (c .before .enum-told .given .1))
 
 returns-2 : tie.Need-returns-2
 unfolding grantsAgain
-returns-2 c = c .answer2 .ensures ∙ sym (ap (grantsAgain (c .before .before .before .args .core) (c .before .before .before .args .hall)) (c .before .enum-told2 .given .1))
+returns-2 c =
+    c .answer2 .ensures ∙ sym (ap (grantsAgain (c .before .before .before .args .core) (c .before .before .before .args .hall))
+    (c .before .enum-told2 .given .1))
 
 returns-3 : tie.Need-returns-3
 unfolding grantsAgain
-returns-3 c = c .grant-or-end .ensures ∙ sym (ap (grantsAgain (c .before .before .before .before .args .core) (c .before .before .before .before .args .hall)) (c .before .before .phase .given .1))
+returns-3 c =
+    c .grant-or-end .ensures
+    ∙ sym (ap (grantsAgain (c .before .before .before .before .args .core) (c .before .before .before .before .args .hall))
+    (c .before .before .phase .given .1))
 
 returns-4 : tie.Need-returns-4
 unfolding grantsAgain
-returns-4 c = c .answer3 .ensures ∙ sym (ap (grantsAgain (c .before .before .before .args .core) (c .before .before .before .args .hall)) (c .before .enum-told3 .given .1))
+returns-4 c =
+    c .answer3 .ensures ∙ sym (ap (grantsAgain (c .before .before .before .args .core) (c .before .before .before .args .hall))
+    (c .before .enum-told3 .given .1))
 
 pub grant-in-spec : {M : Type 1} → statement M
 grant-in-spec =

@@ -1,9 +1,8 @@
+-- `desk::grant_or_end` meets its contract. Assumes nothing.
 use borrow.Author.Tests.{lt-ltb, le-ltb}
+use borrow.Author.Needs.{needs}
 use Rattle.words.specs.Choice.{if_then_else_}
 use Rattle.desk.specs.Timers.{grantsOrEnds}
-use mathlib.Core.Path.{_≡_, refl, ap, sym, _∙_}
-use native.Mathlib.Omega.{arith}
-use borrow.Author.Needs.{needs}
 use Rattle.desk.proofs.grant_or_end.Statement.{statement}
 use Rattle.desk.proofs.grant_or_end.Tie as tie
 

@@ -1,7 +1,6 @@
-use Rattle.desk.specs.Timers.{halted}
-use mathlib.Core.Path.{_≡_, refl, ap, sym, _∙_}
-use native.Mathlib.Omega.{arith}
+-- `desk::halt` meets its contract. Assumes nothing.
 use borrow.Author.Needs.{needs}
+use Rattle.desk.specs.Timers.{halted}
 use Rattle.desk.proofs.halt.Statement.{statement}
 use Rattle.desk.proofs.halt.Tie as tie
 
@@ -19,7 +18,8 @@ mark-struck-requires c κs = search needs
 
 returns : tie.Need-returns
 unfolding halted
-returns c = rw (c .mark-struck .ensures, c .before .answer .ensures, c .before .before .nobody-waits .ensures, c .before .before .before .seats-of .ensures)
+returns c =
+    rw (c .mark-struck .ensures, c .before .answer .ensures, c .before .before .nobody-waits .ensures, c .before .before .before .seats-of .ensures)
 
 pub halt-spec : {M : Type 1} → statement M
 halt-spec =

@@ -1,9 +1,8 @@
+-- `desk::idle_again` meets its contract. Assumes nothing.
 use borrow.Author.Tests.{lt-ltb, le-ltb}
+use borrow.Author.Needs.{needs}
 use Rattle.words.specs.Choice.{if_then_else_}
 use Rattle.desk.specs.Timers.{idleAgain}
-use mathlib.Core.Path.{_≡_, refl, ap, sym, _∙_}
-use native.Mathlib.Omega.{arith}
-use borrow.Author.Needs.{needs}
 use Rattle.desk.proofs.idle_again.Statement.{statement}
 use Rattle.desk.proofs.idle_again.Tie as tie
 
@@ -27,7 +26,13 @@ answer-requires-2 c κs = search needs
 
 returns : tie.Need-returns
 unfolding idleAgain if_then_else_
-returns c = rw (lt-ltb _ _ (c .before .before .before .before .before .if1 .taken), c .send .ensures, c .before .before .answer .ensures, c .before .before .before .before .next-number .ensures)
+returns c =
+    rw (
+      lt-ltb _ _ (c .before .before .before .before .before .if1 .taken),
+      c .send .ensures,
+      c .before .before .answer .ensures,
+      c .before .before .before .before .next-number .ensures,
+    )
 
 returns-2 : tie.Need-returns-2
 unfolding idleAgain if_then_else_

@@ -1,8 +1,8 @@
+-- `desk::leave_call` meets its contract. Assumes nothing.
+use mathlib.Core.Path.{sym}
+use borrow.Author.Needs.{needs}
 use Rattle.words.specs.Choice.{if_then_else_}
 use Rattle.desk.specs.Events.{leave}
-use mathlib.Core.Path.{_≡_, refl, ap, sym, _∙_}
-use native.Mathlib.Omega.{arith}
-use borrow.Author.Needs.{needs}
 use Rattle.desk.proofs.leave_call.Statement.{statement}
 use Rattle.desk.proofs.leave_call.Tie as tie
 
@@ -23,7 +23,14 @@ answer-requires c κs = search needs
 
 returns : tie.Need-returns
 unfolding leave if_then_else_
-returns c = rw (sym (c .before .before .before .before .before .before .is-present .ensures), c .before .before .before .before .before .if1 .taken, c .before .before .with-name .ensures, c .before .before .before .vacate .ensures, c .before .before .before .before .leave-floor .ensures)
+returns c =
+    rw (
+      sym (c .before .before .before .before .before .before .is-present .ensures),
+      c .before .before .before .before .before .if1 .taken,
+      c .before .before .with-name .ensures,
+      c .before .before .before .vacate .ensures,
+      c .before .before .before .before .leave-floor .ensures,
+    )
 
 returns-2 : tie.Need-returns-2
 unfolding leave if_then_else_

@@ -1,8 +1,8 @@
+-- `desk::leave_floor` meets its contract. Assumes nothing.
+use mathlib.Core.Path.{sym}
+use borrow.Author.Needs.{needs}
 use Rattle.words.specs.Choice.{if_then_else_}
 use Rattle.desk.specs.Events.{leaves}
-use mathlib.Core.Path.{_≡_, refl, ap, sym, _∙_}
-use native.Mathlib.Omega.{arith}
-use borrow.Author.Needs.{needs}
 use Rattle.desk.proofs.leave_floor.Statement.{statement}
 use Rattle.desk.proofs.leave_floor.Tie as tie
 
@@ -17,7 +17,8 @@ end-floor-requires c κs = search needs
 
 returns : tie.Need-returns
 unfolding leaves if_then_else_
-returns c = rw (sym (c .before .before .before .is-holder .ensures), c .before .before .if1 .taken, sym (c .before .vacate .ensures)) (c .end-floor .ensures)
+returns c =
+    rw (sym (c .before .before .before .is-holder .ensures), c .before .before .if1 .taken, sym (c .before .vacate .ensures)) (c .end-floor .ensures)
 
 is-waiting-requires : tie.Need-is-waiting-requires
 is-waiting-requires c κs = search needs
@@ -30,11 +31,23 @@ answer-requires c κs = search needs
 
 returns-2 : tie.Need-returns-2
 unfolding leaves if_then_else_
-returns-2 c = rw (sym (c .before .before .before .before .is-holder .ensures), c .before .before .before .if1 .left, sym (c .before .before .is-waiting .ensures), c .before .if2 .taken) (c .strike-off .ensures)
+returns-2 c =
+    rw (
+      sym (c .before .before .before .before .is-holder .ensures),
+      c .before .before .before .if1 .left,
+      sym (c .before .before .is-waiting .ensures),
+      c .before .if2 .taken,
+    ) (c .strike-off .ensures)
 
 returns-3 : tie.Need-returns-3
 unfolding leaves if_then_else_
-returns-3 c = rw (sym (c .before .before .before .before .is-holder .ensures), c .before .before .before .if1 .left, sym (c .before .before .is-waiting .ensures), c .before .if2 .left) (c .answer .ensures)
+returns-3 c =
+    rw (
+      sym (c .before .before .before .before .is-holder .ensures),
+      c .before .before .before .if1 .left,
+      sym (c .before .before .is-waiting .ensures),
+      c .before .if2 .left,
+    ) (c .answer .ensures)
 
 pub leave-floor-spec : {M : Type 1} → statement M
 leave-floor-spec =

@@ -1,7 +1,7 @@
-use Rattle.desk.specs.Events.{step}
-use mathlib.Core.Path.{_≡_, refl, ap, sym, _∙_}
-use native.Mathlib.Omega.{arith}
+-- `desk::make_step` meets its contract. Assumes nothing.
+use mathlib.Core.Path.{sym}
 use borrow.Author.Needs.{needs}
+use Rattle.desk.specs.Events.{step}
 use Rattle.desk.proofs.make_step.Statement.{statement}
 use Rattle.desk.proofs.make_step.Tie as tie
 

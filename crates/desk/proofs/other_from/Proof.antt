@@ -1,5 +1,4 @@
-use mathlib.Core.Path.{_≡_, refl, ap, sym, _∙_}
-use native.Mathlib.Omega.{arith}
+-- `desk::other_from` meets its contract. Assumes nothing.
 use borrow.Author.Needs.{needs}
 use Rattle.desk.proofs.other_from.Statement.{statement}
 use Rattle.desk.proofs.other_from.Tie as tie

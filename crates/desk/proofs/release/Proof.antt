@@ -1,8 +1,8 @@
+-- `desk::release` meets its contract. Assumes nothing.
+use mathlib.Core.Path.{sym}
+use borrow.Author.Needs.{needs}
 use Rattle.words.specs.Choice.{if_then_else_}
 use Rattle.desk.specs.Events.{releases}
-use mathlib.Core.Path.{_≡_, refl, ap, sym, _∙_}
-use native.Mathlib.Omega.{arith}
-use borrow.Author.Needs.{needs}
 use Rattle.desk.proofs.release.Statement.{statement}
 use Rattle.desk.proofs.release.Tie as tie
 
@@ -27,11 +27,23 @@ answer-requires c κs = search needs
 
 returns-2 : tie.Need-returns-2
 unfolding releases if_then_else_
-returns-2 c = rw (sym (c .before .before .before .before .is-holder .ensures), c .before .before .before .if1 .left, sym (c .before .before .is-waiting .ensures), c .before .if2 .taken) (c .strike-off .ensures)
+returns-2 c =
+    rw (
+      sym (c .before .before .before .before .is-holder .ensures),
+      c .before .before .before .if1 .left,
+      sym (c .before .before .is-waiting .ensures),
+      c .before .if2 .taken,
+    ) (c .strike-off .ensures)
 
 returns-3 : tie.Need-returns-3
 unfolding releases if_then_else_
-returns-3 c = rw (sym (c .before .before .before .before .is-holder .ensures), c .before .before .before .if1 .left, sym (c .before .before .is-waiting .ensures), c .before .if2 .left) (c .answer .ensures)
+returns-3 c =
+    rw (
+      sym (c .before .before .before .before .is-holder .ensures),
+      c .before .before .before .if1 .left,
+      sym (c .before .before .is-waiting .ensures),
+      c .before .if2 .left,
+    ) (c .answer .ensures)
 
 pub release-spec : {M : Type 1} → statement M
 release-spec =

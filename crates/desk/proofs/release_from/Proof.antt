@@ -1,5 +1,4 @@
-use mathlib.Core.Path.{_≡_, refl, ap, sym, _∙_}
-use native.Mathlib.Omega.{arith}
+-- `desk::release_from` meets its contract. Assumes nothing.
 use borrow.Author.Needs.{needs}
 use Rattle.desk.proofs.release_from.Statement.{statement}
 use Rattle.desk.proofs.release_from.Tie as tie

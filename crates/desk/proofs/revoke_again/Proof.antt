@@ -1,7 +1,7 @@
-use Rattle.desk.specs.Timers.{revokesAgain}
-use mathlib.Core.Path.{_≡_, refl, ap, sym, _∙_}
-use native.Mathlib.Omega.{arith}
+-- `desk::revoke_again` meets its contract. Assumes nothing.
+use mathlib.Core.Path.{ap, sym, _∙_}
 use borrow.Author.Needs.{needs}
+use Rattle.desk.specs.Timers.{revokesAgain}
 use Rattle.desk.proofs.revoke_again.Statement.{statement}
 use Rattle.desk.proofs.revoke_again.Tie as tie
 
@@ -49,7 +49,9 @@ returns-3 c = c .answer3 .ensures ∙ sym (ap (revokesAgain (c .before .before .
 
 returns-4 : tie.Need-returns-4
 unfolding revokesAgain
-returns-4 c = c .send .ensures ∙ rw (c .before .only-seat .ensures, c .before .before .answer4 .ensures) (sym (ap (revokesAgain (c .before .before .before .before .before .before .args .core)) (c .before .before .before .before .phase .given .1)))
+returns-4 c =
+    c .send .ensures ∙ rw (c .before .only-seat .ensures, c .before .before .answer4 .ensures)
+    (sym (ap (revokesAgain (c .before .before .before .before .before .before .args .core)) (c .before .before .before .before .phase .given .1)))
 
 pub revoke-again-spec : {M : Type 1} → statement M
 revoke-again-spec =

@@ -1,7 +1,7 @@
-use Rattle.desk.specs.Timers.{revokesIn}
-use mathlib.Core.Path.{_≡_, refl, ap, sym, _∙_}
-use native.Mathlib.Omega.{arith}
+-- `desk::revoke_in` meets its contract. Assumes nothing.
+use mathlib.Core.Path.{ap, sym, _∙_}
 use borrow.Author.Needs.{needs}
+use Rattle.desk.specs.Timers.{revokesIn}
 use Rattle.desk.proofs.revoke_in.Statement.{statement}
 use Rattle.desk.proofs.revoke_in.Tie as tie
 
@@ -42,7 +42,9 @@ returns-2 c = c .answer2 .ensures ∙ sym (ap (revokesIn (c .before .before .bef
 
 returns-3 : tie.Need-returns-3
 unfolding revokesIn
-returns-3 c = c .revoke .ensures ∙ rw (c .before .answer3 .ensures) (sym (ap (revokesIn (c .before .before .before .before .before .args .core)) (c .before .before .before .phase .given .1)))
+returns-3 c =
+    c .revoke .ensures ∙ rw (c .before .answer3 .ensures)
+    (sym (ap (revokesIn (c .before .before .before .before .before .args .core)) (c .before .before .before .phase .given .1)))
 
 returns-4 : tie.Need-returns-4
 unfolding revokesIn

@@ -1,5 +1,4 @@
-use mathlib.Core.Path.{_≡_, refl, ap, sym, _∙_}
-use native.Mathlib.Omega.{arith}
+-- `desk::running_timers` meets its contract. Assumes nothing.
 use borrow.Author.Needs.{needs}
 use Rattle.desk.proofs.running_timers.Statement.{statement}
 use Rattle.desk.proofs.running_timers.Tie as tie
@@ -35,13 +34,16 @@ returns-2 : tie.Need-returns-2
 returns-2 c = rw (c .before .phase .given .1, c .before .before .before .none-running .ensures)
 
 returns-3 : tie.Need-returns-3
-returns-3 c = rw (c .before .before .before .phase2 .given .1, c .enum-told2 .given .1, c .before .before .before .before .before .none-running .ensures)
+returns-3 c =
+    rw (c .before .before .before .phase2 .given .1, c .enum-told2 .given .1, c .before .before .before .before .before .none-running .ensures)
 
 returns-4 : tie.Need-returns-4
-returns-4 c = rw (c .before .before .before .phase2 .given .1, c .enum-told3 .given .1, c .before .before .before .before .before .none-running .ensures)
+returns-4 c =
+    rw (c .before .before .before .phase2 .given .1, c .enum-told3 .given .1, c .before .before .before .before .before .none-running .ensures)
 
 returns-5 : tie.Need-returns-5
-returns-5 c = rw (c .before .before .before .phase2 .given .1, c .enum-told4 .given .1, c .before .before .before .before .before .none-running .ensures)
+returns-5 c =
+    rw (c .before .before .before .phase2 .given .1, c .enum-told4 .given .1, c .before .before .before .before .before .none-running .ensures)
 
 returns-6 : tie.Need-returns-6
 returns-6 c = rw (c .enum-told5 .given .1, c .before .before .none-running .ensures)

@@ -1,7 +1,7 @@
-use Rattle.desk.specs.Events.{starts}
-use mathlib.Core.Path.{_≡_, refl, ap, sym, _∙_}
-use native.Mathlib.Omega.{arith}
+-- `desk::start_call` meets its contract. Assumes nothing.
+use mathlib.Core.Path.{ap, sym, _∙_}
 use borrow.Author.Needs.{needs}
+use Rattle.desk.specs.Events.{starts}
 use Rattle.desk.proofs.start_call.Statement.{statement}
 use Rattle.desk.proofs.start_call.Tie as tie
 
@@ -31,19 +31,27 @@ answer-requires-3 c κs = search needs
 
 returns : tie.Need-returns
 unfolding starts
-returns c = c .enter-idle .ensures ∙ sym (ap (starts (c .before .before .before .args .core) (c .before .before .before .args .hall)) (c .before .enum-told .given .1))
+returns c =
+    c .enter-idle .ensures
+    ∙ sym (ap (starts (c .before .before .before .args .core) (c .before .before .before .args .hall)) (c .before .enum-told .given .1))
 
 returns-2 : tie.Need-returns-2
 unfolding starts
-returns-2 c = c .answer .ensures ∙ sym (ap (starts (c .before .before .before .args .core) (c .before .before .before .args .hall)) (c .before .enum-told2 .given .1))
+returns-2 c =
+    c .answer .ensures ∙ sym (ap (starts (c .before .before .before .args .core) (c .before .before .before .args .hall))
+    (c .before .enum-told2 .given .1))
 
 returns-3 : tie.Need-returns-3
 unfolding starts
-returns-3 c = c .answer2 .ensures ∙ sym (ap (starts (c .before .before .before .args .core) (c .before .before .before .args .hall)) (c .before .enum-told3 .given .1))
+returns-3 c =
+    c .answer2 .ensures ∙ sym (ap (starts (c .before .before .before .args .core) (c .before .before .before .args .hall))
+    (c .before .enum-told3 .given .1))
 
 returns-4 : tie.Need-returns-4
 unfolding starts
-returns-4 c = c .answer3 .ensures ∙ sym (ap (starts (c .before .before .before .args .core) (c .before .before .before .args .hall)) (c .before .enum-told4 .given .1))
+returns-4 c =
+    c .answer3 .ensures ∙ sym (ap (starts (c .before .before .before .args .core) (c .before .before .before .args .hall))
+    (c .before .enum-told4 .given .1))
 
 pub start-call-spec : {M : Type 1} → statement M
 start-call-spec =

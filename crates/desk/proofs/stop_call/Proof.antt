@@ -1,7 +1,7 @@
-use Rattle.desk.specs.Timers.{stops}
-use mathlib.Core.Path.{_≡_, refl, ap, sym, _∙_}
-use native.Mathlib.Omega.{arith}
+-- `desk::stop_call` meets its contract. Assumes nothing.
+use mathlib.Core.Path.{ap, sym, _∙_}
 use borrow.Author.Needs.{needs}
+use Rattle.desk.specs.Timers.{stops}
 use Rattle.desk.proofs.stop_call.Statement.{statement}
 use Rattle.desk.proofs.stop_call.Tie as tie
 
@@ -45,11 +45,17 @@ returns-2 c = c .halt .ensures ∙ sym (ap (stops (c .before .before .before .ar
 
 returns-3 : tie.Need-returns-3
 unfolding stops
-returns-3 c = c .mark-ended .ensures ∙ rw (c .before .halt2 .ensures) (sym (ap (stops (c .before .before .before .before .before .args .core)) (c .before .before .before .phase .given .1)))
+returns-3 c =
+    c .mark-ended .ensures
+    ∙ rw (c .before .halt2 .ensures)
+    (sym (ap (stops (c .before .before .before .before .before .args .core)) (c .before .before .before .phase .given .1)))
 
 returns-4 : tie.Need-returns-4
 unfolding stops
-returns-4 c = c .mark-ended2 .ensures ∙ rw (c .before .halt3 .ensures) (sym (ap (stops (c .before .before .before .before .before .args .core)) (c .before .before .before .phase2 .given .1)))
+returns-4 c =
+    c .mark-ended2 .ensures
+    ∙ rw (c .before .halt3 .ensures)
+    (sym (ap (stops (c .before .before .before .before .before .args .core)) (c .before .before .before .phase2 .given .1)))
 
 pub stop-call-spec : {M : Type 1} → statement M
 stop-call-spec =

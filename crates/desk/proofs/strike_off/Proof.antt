@@ -1,7 +1,6 @@
-use Rattle.desk.specs.Events.{struckOff}
-use mathlib.Core.Path.{_≡_, refl, ap, sym, _∙_}
-use native.Mathlib.Omega.{arith}
+-- `desk::strike_off` meets its contract. Assumes nothing.
 use borrow.Author.Needs.{needs}
+use Rattle.desk.specs.Events.{struckOff}
 use Rattle.desk.proofs.strike_off.Statement.{statement}
 use Rattle.desk.proofs.strike_off.Tie as tie
 
@@ -22,7 +21,14 @@ mark-struck-requires c κs = search needs
 
 returns : tie.Need-returns
 unfolding struckOff
-returns c = rw (c .mark-struck .ensures, c .before .answer .ensures, c .before .before .with-line .ensures, c .before .before .before .struck .ensures .0, c .before .before .before .before .only-seat .ensures)
+returns c =
+    rw (
+      c .mark-struck .ensures,
+      c .before .answer .ensures,
+      c .before .before .with-line .ensures,
+      c .before .before .before .struck .ensures .0,
+      c .before .before .before .before .only-seat .ensures,
+    )
 
 pub strike-off-spec : {M : Type 1} → statement M
 strike-off-spec =

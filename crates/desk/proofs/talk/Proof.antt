@@ -1,9 +1,9 @@
+-- `desk::talk` meets its contract. Assumes nothing.
+use mathlib.Core.Path.{ap, sym, _∙_}
 use borrow.Author.Tests.{eq-eqb, ne-eqb}
+use borrow.Author.Needs.{needs}
 use Rattle.words.specs.Choice.{if_then_else_}
 use Rattle.desk.specs.Events.{talks}
-use mathlib.Core.Path.{_≡_, refl, ap, sym, _∙_}
-use native.Mathlib.Omega.{arith}
-use borrow.Author.Needs.{needs}
 use Rattle.desk.proofs.talk.Statement.{statement}
 use Rattle.desk.proofs.talk.Tie as tie
 
@@ -42,27 +42,44 @@ answer-requires-6 c κs = search needs
 
 returns : tie.Need-returns
 unfolding talks
-returns c = c .answer .ensures ∙ sym (ap (talks (c .before .before .before .args .core) (c .before .before .before .args .seat)) (c .before .enum-told .given .1))
+returns c =
+    c .answer .ensures ∙ sym (ap (talks (c .before .before .before .args .core) (c .before .before .before .args .seat))
+    (c .before .enum-told .given .1))
 
 returns-2 : tie.Need-returns-2
 unfolding talks
-returns-2 c = c .answer2 .ensures ∙ sym (ap (talks (c .before .before .before .args .core) (c .before .before .before .args .seat)) (c .before .enum-told2 .given .1))
+returns-2 c =
+    c .answer2 .ensures ∙ sym (ap (talks (c .before .before .before .args .core) (c .before .before .before .args .seat))
+    (c .before .enum-told2 .given .1))
 
 returns-3 : tie.Need-returns-3
 unfolding talks if_then_else_
-returns-3 c = c .answer3 .ensures ∙ rw (c .before .in-phase .ensures) (sym (ap (talks (c .before .before .before .before .before .before .before .args .core) (c .before .before .before .before .before .before .before .args .seat)) (c .before .before .before .before .before .phase .given .1) ∙ rw (eq-eqb _ _ (c .before .before .if1 .taken))))
+returns-3 c =
+    c .answer3 .ensures ∙ rw (c .before .in-phase .ensures)
+    (sym (ap (talks (c .before .before .before .before .before .before .before .args .core)
+    (c .before .before .before .before .before .before .before .args .seat)) (c .before .before .before .before .before .phase .given .1)
+    ∙ rw (eq-eqb _ _ (c .before .before .if1 .taken))))
 
 returns-4 : tie.Need-returns-4
 unfolding talks if_then_else_
-returns-4 c = c .answer4 .ensures ∙ sym (ap (talks (c .before .before .before .before .before .before .args .core) (c .before .before .before .before .before .before .args .seat)) (c .before .before .before .before .phase .given .1) ∙ rw (ne-eqb _ _ (c .before .if1 .left)))
+returns-4 c =
+    c .answer4 .ensures ∙ sym (ap (talks (c .before .before .before .before .before .before .args .core)
+    (c .before .before .before .before .before .before .args .seat)) (c .before .before .before .before .phase .given .1)
+    ∙ rw (ne-eqb _ _ (c .before .if1 .left)))
 
 returns-5 : tie.Need-returns-5
 unfolding talks if_then_else_
-returns-5 c = c .answer5 .ensures ∙ sym (ap (talks (c .before .before .before .before .before .before .args .core) (c .before .before .before .before .before .before .args .seat)) (c .before .before .before .before .phase2 .given .1) ∙ rw (eq-eqb _ _ (c .before .if2 .taken)))
+returns-5 c =
+    c .answer5 .ensures ∙ sym (ap (talks (c .before .before .before .before .before .before .args .core)
+    (c .before .before .before .before .before .before .args .seat)) (c .before .before .before .before .phase2 .given .1)
+    ∙ rw (eq-eqb _ _ (c .before .if2 .taken)))
 
 returns-6 : tie.Need-returns-6
 unfolding talks if_then_else_
-returns-6 c = c .answer6 .ensures ∙ sym (ap (talks (c .before .before .before .before .before .before .args .core) (c .before .before .before .before .before .before .args .seat)) (c .before .before .before .before .phase2 .given .1) ∙ rw (ne-eqb _ _ (c .before .if2 .left)))
+returns-6 c =
+    c .answer6 .ensures ∙ sym (ap (talks (c .before .before .before .before .before .before .args .core)
+    (c .before .before .before .before .before .before .args .seat)) (c .before .before .before .before .phase2 .given .1)
+    ∙ rw (ne-eqb _ _ (c .before .if2 .left)))
 
 pub talk-spec : {M : Type 1} → statement M
 talk-spec =

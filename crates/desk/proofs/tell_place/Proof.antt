@@ -1,7 +1,6 @@
-use Rattle.desk.specs.Events.{asksPlace}
-use mathlib.Core.Path.{_≡_, refl, ap, sym, _∙_}
-use native.Mathlib.Omega.{arith}
+-- `desk::tell_place` meets its contract. Assumes nothing.
 use borrow.Author.Needs.{needs}
+use Rattle.desk.specs.Events.{asksPlace}
 use Rattle.desk.proofs.tell_place.Statement.{statement}
 use Rattle.desk.proofs.tell_place.Tie as tie
 

@@ -1,7 +1,6 @@
+-- `hall::allowed_length` meets its contract. Assumes nothing.
 use borrow.Author.Tests.{le-leb, lt-leb}
 use Rattle.hall.specs.Identity.{lengthAllowed}
-use borrow.Author.Needs.{needs}
-use native.Mathlib.Omega.{arith}
 use Rattle.hall.proofs.allowed_length.Statement.{statement}
 use Rattle.hall.proofs.allowed_length.Tie as tie
 

@@ -1,11 +1,11 @@
-use lib.ListN.{getD}
-use Rattle.hall.proofs.Laws.{getD-any}
-use mathlib.Core.Path.{_≡_, refl, ap, sym, _∙_}
-use borrow.Author.Tests.{le-leb, lt-leb}
-use Rattle.words.specs.Choice.{if_then_else_, if-yes, if-no}
-use Rattle.hall.specs.Seats.{effective, asked, lower}
+-- `hall::effective_priority` meets its contract. Assumes nothing.
+use mathlib.Core.Path.{sym}
 use native.Mathlib.Omega.{arith}
+use lib.ListN.{getD}
+use borrow.Author.Tests.{le-leb, lt-leb}
 use borrow.Author.Needs.{needs}
+use Rattle.words.specs.Choice.{if_then_else_}
+use Rattle.hall.specs.Seats.{effective}
 use Rattle.hall.proofs.effective_priority.Statement.{statement}
 use Rattle.hall.proofs.effective_priority.Tie as tie
 
@@ -28,7 +28,11 @@ returns-2 c = rw (c .before .before .wish .given .1, sym (c .before .before .bef
 
 returns-3 : tie.Need-returns-3
 unfolding effective if_then_else_
-returns-3 c = rw (c .enum-told .given .1, le-leb 0 (getD (c .before .before .before .before .args .hall .highest) (c .before .before .before .before .args .seat) 0) (omega arith))
+returns-3 c =
+    rw (
+      c .enum-told .given .1,
+      le-leb 0 (getD (c .before .before .before .before .args .hall .highest) (c .before .before .before .before .args .seat) 0) (omega arith),
+    )
 
 pub effective-priority-spec : {M : Type 1} → statement M
 effective-priority-spec =

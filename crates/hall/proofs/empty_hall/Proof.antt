@@ -1,6 +1,6 @@
-use Rattle.hall.specs.Seats.{emptyHall}
+-- `hall::empty_hall` meets its contract. Assumes nothing.
 use borrow.Author.Needs.{needs}
-use native.Mathlib.Omega.{arith}
+use Rattle.hall.specs.Seats.{emptyHall}
 use Rattle.hall.proofs.empty_hall.Statement.{statement}
 use Rattle.hall.proofs.empty_hall.Tie as tie
 

@@ -1,10 +1,11 @@
-use Rattle.hall.specs.Seats.{hasSsrc, seatOf, isPresent, freeSeat, firstFrom}
-use mathlib.Core.Bool.{true, false, not}
-use Prim.Native.Nat.{ℕ, _+_, _-_, _≤_, _<_}
+-- `hall::free_seat` meets its contract. The invariant says what is done at the present place, and what is left. Assumes nothing.
+use Prim.Native.Nat.{ℕ, _-_, _≤_}
+use mathlib.Core.Bool.{not}
 use mathlib.Core.Path.{_≡_, refl, ap, sym, _∙_}
-use Rattle.hall.proofs.Laws.{lowest-on, lowest-stops, lowest-ends}
-use borrow.Author.Needs.{needs}
 use native.Mathlib.Omega.{arith}
+use borrow.Author.Needs.{needs}
+use Rattle.hall.specs.Seats.{isPresent, freeSeat, firstFrom}
+use Rattle.hall.proofs.Laws.{lowest-on, lowest-stops, lowest-ends}
 use Rattle.hall.proofs.free_seat.Statement.{statement}
 use Rattle.hall.proofs.free_seat.Tie as tie
 
@@ -22,7 +23,10 @@ is-present-requires : tie.Need-is-present-requires Inv-loop μ-loop
 is-present-requires c κs = search needs
 
 returns : tie.Need-returns Inv-loop μ-loop
-returns c = sym (c .before .before .before .loop .inv .1 ∙ lowest-stops (λ (x : ℕ). not (isPresent (c .before .before .before .before .args .hall) x)) _ (c .before .before .loop-test .taken) (ap not (sym (c .before .is-present .ensures)) ∙ c .if1 .taken))
+returns c =
+    sym (c .before .before .before .loop .inv .1
+    ∙ lowest-stops (λ (x : ℕ). not (isPresent (c .before .before .before .before .args .hall) x)) _ (c .before .before .loop-test .taken)
+    (ap not (sym (c .before .is-present .ensures)) ∙ c .if1 .taken))
 
 add-s : tie.Need-add-s Inv-loop μ-loop
 add-s c = search needs
@@ -31,7 +35,12 @@ loop-less : tie.Need-loop-less Inv-loop μ-loop
 loop-less c = search needs
 
 loop-again : tie.Need-loop-again Inv-loop μ-loop
-loop-again c = (omega arith, c .before .before .before .loop .inv .1 ∙ lowest-on (λ (x : ℕ). not (isPresent (c .before .before .before .before .args .hall) x)) _ (c .before .before .loop-test .taken) (ap not (sym (c .before .is-present .ensures)) ∙ c .if1 .left))
+loop-again c = (
+  omega arith,
+  c .before .before .before .loop .inv .1
+      ∙ lowest-on (λ (x : ℕ). not (isPresent (c .before .before .before .before .args .hall) x)) _ (c .before .before .loop-test .taken)
+      (ap not (sym (c .before .is-present .ensures)) ∙ c .if1 .left),
+)
 
 returns-2 : tie.Need-returns-2 Inv-loop μ-loop
 returns-2 c = sym (c .before .loop .inv .1 ∙ lowest-ends (λ (x : ℕ). not (isPresent (c .before .before .args .hall) x)) _ (c .loop-test .left))

@@ -1,5 +1,5 @@
-use mathlib.Core.Path.{_≡_, refl, ap, sym, _∙_}
-use native.Mathlib.Omega.{arith}
+-- `hall::has_ssrc` meets its contract. Assumes nothing.
+use mathlib.Core.Path.{sym}
 use borrow.Author.Needs.{needs}
 use Rattle.hall.proofs.has_ssrc.Statement.{statement}
 use Rattle.hall.proofs.has_ssrc.Tie as tie

@@ -1,7 +1,6 @@
+-- `hall::in_range` meets its contract. Assumes nothing.
 use borrow.Author.Tests.{le-leb, lt-leb}
 use Rattle.hall.specs.Seats.{inRange}
-use borrow.Author.Needs.{needs}
-use native.Mathlib.Omega.{arith}
 use Rattle.hall.proofs.in_range.Statement.{statement}
 use Rattle.hall.proofs.in_range.Tie as tie
 
@@ -19,11 +18,23 @@ returns-3 c = simp (le-leb _ _ (c .before .before .before .before .if1 .left), l
 
 returns-4 : tie.Need-returns-4
 unfolding inRange
-returns-4 c = simp (le-leb _ _ (c .before .before .before .before .before .before .if1 .left), le-leb _ _ (c .before .before .before .before .if2 .left), le-leb _ _ (c .before .before .if3 .left), lt-leb _ _ (c .if4 .taken))
+returns-4 c =
+    simp (
+      le-leb _ _ (c .before .before .before .before .before .before .if1 .left),
+      le-leb _ _ (c .before .before .before .before .if2 .left),
+      le-leb _ _ (c .before .before .if3 .left),
+      lt-leb _ _ (c .if4 .taken),
+    )
 
 returns-5 : tie.Need-returns-5
 unfolding inRange
-returns-5 c = rw (le-leb _ _ (c .before .before .before .before .before .before .before .if1 .left), le-leb _ _ (c .before .before .before .before .before .if2 .left), le-leb _ _ (c .before .before .before .if3 .left), le-leb _ _ (c .before .if4 .left))
+returns-5 c =
+    rw (
+      le-leb _ _ (c .before .before .before .before .before .before .before .if1 .left),
+      le-leb _ _ (c .before .before .before .before .before .if2 .left),
+      le-leb _ _ (c .before .before .before .if3 .left),
+      le-leb _ _ (c .before .if4 .left),
+    )
 
 pub in-range-spec : {M : Type 1} → statement M
 in-range-spec = tie.close (tie.spec returns returns-2 returns-3 returns-4 returns-5)

@@ -1,12 +1,11 @@
-use lib.ListN.{length-set, length-map}
-use Rattle.hall.specs.Seats.{alone, others, someone}
-use mathlib.Core.Bool.{true, false, not}
-use lib.ListN.{length, take, drop, getD, set}
-use Prim.Native.Nat.{ℕ, _+_, _-_, _≤_, _<_}
+-- `hall::is_alone` meets its contract. The invariant says what is done at the present place, and what is left. Assumes nothing.
+use Prim.Native.Nat.{_-_, _≤_}
 use mathlib.Core.Path.{_≡_, refl, ap, sym, _∙_}
-use Rattle.hall.proofs.Laws.{someone-on, someone-stops, someone-ends}
-use borrow.Author.Needs.{needs}
 use native.Mathlib.Omega.{arith}
+use lib.ListN.{length-set, length-map, length, drop}
+use borrow.Author.Needs.{needs}
+use Rattle.hall.specs.Seats.{alone, someone}
+use Rattle.hall.proofs.Laws.{someone-on, someone-stops, someone-ends}
 use Rattle.hall.proofs.is_alone.Statement.{statement}
 use Rattle.hall.proofs.is_alone.Tie as tie
 
@@ -27,7 +26,13 @@ flag-requires c κs = search needs
 
 returns : tie.Need-returns Inv-loop μ-loop
 unfolding alone
-returns c = let x = c .before .before .before .before .all-others .result in rw (sym (c .before .before .before .before .all-others .ensures), c .before .before .before .loop .inv .2 ∙ someone-stops x _ (omega arith) (sym (c .before .flag .ensures) ∙ c .if1 .taken))
+returns c =
+    let x = c .before .before .before .before .all-others .result in
+    rw (
+      sym (c .before .before .before .before .all-others .ensures),
+      c .before .before .before .loop .inv .2
+          ∙ someone-stops x _ (omega arith) (sym (c .before .flag .ensures) ∙ c .if1 .taken),
+    )
 
 add-s : tie.Need-add-s Inv-loop μ-loop
 add-s c = search needs
@@ -36,11 +41,19 @@ loop-less : tie.Need-loop-less Inv-loop μ-loop
 loop-less c = search needs
 
 loop-again : tie.Need-loop-again Inv-loop μ-loop
-loop-again c = (omega arith, c .before .before .before .loop .inv .1, c .before .before .before .loop .inv .2 ∙ someone-on (c .before .before .before .before .all-others .result) _ (omega arith) (sym (c .before .flag .ensures) ∙ c .if1 .left))
+loop-again c = (
+  omega arith,
+  c .before .before .before .loop .inv .1,
+  c .before .before .before .loop .inv .2
+      ∙ someone-on (c .before .before .before .before .all-others .result) _ (omega arith) (sym (c .before .flag .ensures) ∙ c .if1 .left),
+)
 
 returns-2 : tie.Need-returns-2 Inv-loop μ-loop
 unfolding alone
-returns-2 c = let x = c .before .before .all-others .result in let h : length x ≤ c .before .loop .s = omega (arith, c .before .loop .inv .1) in rw (sym (c .before .before .all-others .ensures), c .before .loop .inv .2 ∙ someone-ends x _ h)
+returns-2 c =
+    let x = c .before .before .all-others .result in
+    let h : length x ≤ c .before .loop .s = omega (arith, c .before .loop .inv .1) in
+    rw (sym (c .before .before .all-others .ensures), c .before .loop .inv .2 ∙ someone-ends x _ h)
 
 pub is-alone-spec : {M : Type 1} → statement M
 is-alone-spec =

@@ -1,18 +1,21 @@
-use lib.Dec.{eqb}
-use borrow.Author.Tests.{eq-eqb, ne-eqb}
-use denote.Ref.{now}
-use Rattle.hall.specs.Identity.{same, octetsOf}
-use lib.ListN.{length, take, drop, getD, set}
-use Prim.Native.Nat.{ℕ, _+_, _-_, _≤_, _<_}
+-- `hall::is_same` meets its contract. The invariant says what is done at the present place, and what is left. Assumes nothing.
+use Prim.Native.Nat.{ℕ, _-_, _≤_, _<_}
 use mathlib.Core.Path.{_≡_, refl, ap, sym, _∙_}
-use Rattle.hall.proofs.Laws.{same-lengths, same-on, same-stops, same-ends}
-use borrow.Author.Needs.{needs}
 use native.Mathlib.Omega.{arith}
+use lib.Dec.{eqb}
+use lib.ListN.{length, drop, getD}
+use denote.Ref.{now}
+use borrow.Author.Tests.{eq-eqb, ne-eqb}
+use borrow.Author.Needs.{needs}
+use Rattle.hall.specs.Identity.{same, octetsOf}
+use Rattle.hall.proofs.Laws.{same-lengths, same-on, same-stops, same-ends}
 use Rattle.hall.proofs.is_same.Statement.{statement}
 use Rattle.hall.proofs.is_same.Tie as tie
 
 abbrev Inv-loop : tie.InvT-loop
-Inv-loop name identity n i₀ i = (n ≡ length identity) × (n ≡ length (octetsOf name)) × (i ≤ n) × (same (octetsOf name) identity ≡ same (drop i (octetsOf name)) (drop i identity))
+Inv-loop name identity n i₀ i =
+    (n ≡ length identity) × (n ≡ length (octetsOf name)) × (i ≤ n)
+    × (same (octetsOf name) identity ≡ same (drop i (octetsOf name)) (drop i identity))
 
 abbrev μ-loop : tie.MeasureT-loop
 μ-loop name identity n i₀ i = n - i
@@ -21,7 +24,9 @@ name-length-requires : tie.Need-name-length-requires Inv-loop μ-loop
 name-length-requires c κs = search needs
 
 returns : tie.Need-returns Inv-loop μ-loop
-returns c = let h : length (octetsOf (c .before .before .before .args .name)) ≡ length (now (c .before .before .before .args .identity)) → ⊥ = λ e. c .if1 .taken (c .before .name-length .ensures .0 ∙ e) in sym (same-lengths (octetsOf (c .before .before .before .args .name)) (now (c .before .before .before .args .identity)) h)
+returns c =
+    let h : length (octetsOf (c .before .before .before .args .name)) ≡ length (now (c .before .before .before .args .identity)) → ⊥ = λ e. c .if1 .taken (c .before .name-length .ensures .0 ∙ e) in
+    sym (same-lengths (octetsOf (c .before .before .before .args .name)) (now (c .before .before .before .args .identity)) h)
 
 loop-holds : tie.Need-loop-holds Inv-loop μ-loop
 loop-holds c = (refl, sym (c .if1 .left) ∙ c .before .name-length .ensures .0, omega arith, refl)
@@ -38,7 +43,9 @@ returns-2 c = let o = octetsOf (c .before .before .before .before .before .befor
     let i = c .before .before .before .before .loop .i in
     let h : i < length y = c .before .before .before .loop-test .taken in
     let k : i < length o = omega (arith, c .before .before .before .before .loop .inv .1) in
-    sym (c .before .before .before .before .loop .inv .3 ∙ same-stops o y i k h (ap (eqb (getD o i 0)) (sym (c .before .octet-at .ensures)) ∙ ap (λ (x : ℕ). eqb x (c .before .octet-at .result)) (sym (c .before .before .octet-of .ensures)) ∙ ne-eqb _ _ (c .if2 .taken)))
+    sym (c .before .before .before .before .loop .inv .3
+    ∙ same-stops o y i k h (ap (eqb (getD o i 0)) (sym (c .before .octet-at .ensures))
+    ∙ ap (λ (x : ℕ). eqb x (c .before .octet-at .result)) (sym (c .before .before .octet-of .ensures)) ∙ ne-eqb _ _ (c .if2 .taken)))
 
 add-i : tie.Need-add-i Inv-loop μ-loop
 add-i c = search needs
@@ -51,8 +58,14 @@ loop-again c = let o = octetsOf (c .before .before .before .before .before .befo
     let y = now (c .before .before .before .before .before .before .before .before .args .identity) in
     let i = c .before .before .before .before .loop .i in
     let h : i < length y = c .before .before .before .loop-test .taken in
-    let k : i < length o = omega (arith, c .before .before .before .before .loop .inv .1) in
-    (refl, c .before .before .before .before .loop .inv .1, omega arith, c .before .before .before .before .loop .inv .3 ∙ same-on o y i k h (ap (eqb (getD o i 0)) (sym (c .before .octet-at .ensures)) ∙ ap (λ (x : ℕ). eqb x (c .before .octet-at .result)) (sym (c .before .before .octet-of .ensures)) ∙ eq-eqb _ _ (c .if2 .left)))
+    let k : i < length o = omega (arith, c .before .before .before .before .loop .inv .1) in (
+      refl,
+      c .before .before .before .before .loop .inv .1,
+      omega arith,
+      c .before .before .before .before .loop .inv .3
+          ∙ same-on o y i k h (ap (eqb (getD o i 0)) (sym (c .before .octet-at .ensures))
+          ∙ ap (λ (x : ℕ). eqb x (c .before .octet-at .result)) (sym (c .before .before .octet-of .ensures)) ∙ eq-eqb _ _ (c .if2 .left)),
+    )
 
 returns-3 : tie.Need-returns-3 Inv-loop μ-loop
 returns-3 c = let o = octetsOf (c .before .before .before .before .before .args .name) in

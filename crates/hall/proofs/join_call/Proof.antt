@@ -1,8 +1,8 @@
-use Rattle.hall.specs.Join.{join}
-use Rattle.words.specs.Choice.{if_then_else_, if-yes, if-no}
-use mathlib.Core.Path.{_≡_, refl, ap, sym, _∙_}
-use native.Mathlib.Omega.{arith}
+-- `hall::join_call` meets its contract. Assumes nothing.
+use mathlib.Core.Path.{sym}
 use borrow.Author.Needs.{needs}
+use Rattle.words.specs.Choice.{if_then_else_}
+use Rattle.hall.specs.Join.{join}
 use Rattle.hall.proofs.join_call.Statement.{statement}
 use Rattle.hall.proofs.join_call.Tie as tie
 
@@ -27,7 +27,13 @@ not-joined-requires-2 c κs = search needs
 
 returns-2 : tie.Need-returns-2
 unfolding join if_then_else_
-returns-2 c = rw (sym (c .before .before .before .before .before .allowed-length .ensures), c .before .before .before .before .if1 .left, sym (c .before .before .before .seat-named .ensures), c .before .enum-told .given .1) (c .not-joined2 .ensures)
+returns-2 c =
+    rw (
+      sym (c .before .before .before .before .before .allowed-length .ensures),
+      c .before .before .before .before .if1 .left,
+      sym (c .before .before .before .seat-named .ensures),
+      c .before .enum-told .given .1,
+    ) (c .not-joined2 .ensures)
 
 enum-told-2 : tie.Need-enum-told-2
 enum-told-2 c = search needs
@@ -40,14 +46,30 @@ not-joined-requires-3 c κs = search needs
 
 returns-3 : tie.Need-returns-3
 unfolding join if_then_else_
-returns-3 c = rw (sym (c .before .before .before .before .before .before .before .allowed-length .ensures), c .before .before .before .before .before .before .if1 .left, sym (c .before .before .before .before .before .seat-named .ensures), c .before .before .before .enum-told2 .given .1, sym (c .before .before .ssrc-taken .ensures), c .before .if2 .taken) (c .not-joined3 .ensures)
+returns-3 c =
+    rw (
+      sym (c .before .before .before .before .before .before .before .allowed-length .ensures),
+      c .before .before .before .before .before .before .if1 .left,
+      sym (c .before .before .before .before .before .seat-named .ensures),
+      c .before .before .before .enum-told2 .given .1,
+      sym (c .before .before .ssrc-taken .ensures),
+      c .before .if2 .taken,
+    ) (c .not-joined3 .ensures)
 
 take-seat-requires : tie.Need-take-seat-requires
 take-seat-requires c κs = search needs
 
 returns-4 : tie.Need-returns-4
 unfolding join if_then_else_
-returns-4 c = rw (sym (c .before .before .before .before .before .before .before .allowed-length .ensures), c .before .before .before .before .before .before .if1 .left, sym (c .before .before .before .before .before .seat-named .ensures), c .before .before .before .enum-told2 .given .1, sym (c .before .before .ssrc-taken .ensures), c .before .if2 .left) (c .take-seat .ensures)
+returns-4 c =
+    rw (
+      sym (c .before .before .before .before .before .before .before .allowed-length .ensures),
+      c .before .before .before .before .before .before .if1 .left,
+      sym (c .before .before .before .before .before .seat-named .ensures),
+      c .before .before .before .enum-told2 .given .1,
+      sym (c .before .before .ssrc-taken .ensures),
+      c .before .if2 .left,
+    ) (c .take-seat .ensures)
 
 pub join-call-spec : {M : Type 1} → statement M
 join-call-spec =

@@ -1,7 +1,7 @@
+-- `hall::name_length` meets its contract. Assumes nothing.
+use native.Mathlib.Omega.{arith}
 use lib.ListN.{length-take, length-map}
 use Rattle.hall.specs.Identity.{octetsOf}
-use borrow.Author.Needs.{needs}
-use native.Mathlib.Omega.{arith}
 use Rattle.hall.proofs.name_length.Statement.{statement}
 use Rattle.hall.proofs.name_length.Tie as tie
 

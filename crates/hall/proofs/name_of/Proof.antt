@@ -1,12 +1,12 @@
-use denote.Ref.{now}
-use lib.ListN.{length-set}
-use Rattle.hall.specs.Identity.{nameOf}
-use lib.ListN.{length, take, drop, getD, set}
-use Prim.Native.Nat.{ℕ, _+_, _-_, _≤_, _<_}
-use mathlib.Core.Path.{_≡_, refl, ap, sym, _∙_}
-use Rattle.words.specs.Table.{padded, padded-is, filled-more}
-use borrow.Author.Needs.{needs}
+-- `hall::name_of` meets its contract. The invariant says what is done at the present place, and what is left. Assumes nothing.
+use Prim.Native.Nat.{ℕ, _-_, _≤_, _<_}
+use mathlib.Core.Path.{_≡_, refl}
 use native.Mathlib.Omega.{arith}
+use lib.ListN.{length-set, length, getD}
+use denote.Ref.{now}
+use borrow.Author.Needs.{needs}
+use Rattle.words.specs.Table.{padded, padded-is, filled-more}
+use Rattle.hall.specs.Identity.{nameOf}
 use Rattle.hall.proofs.name_of.Statement.{statement}
 use Rattle.hall.proofs.name_of.Tie as tie
 
@@ -32,11 +32,19 @@ loop-less : tie.Need-loop-less Inv-loop μ-loop
 loop-less c = search needs
 
 loop-again : tie.Need-loop-again Inv-loop μ-loop
-loop-again c = let h : c .before .before .loop .i < length (c .before .before .loop .octets) = omega (arith, c .before .before .loop .inv .1) in (omega arith, simp length-set (c .before .before .loop .inv .1), filled-more 0 (c .before .before .loop .octets) (now (c .before .before .before .before .args .identity)) _ _ h (c .before .before .loop .inv .2) (c .octet-at .ensures))
+loop-again c =
+    let h : c .before .before .loop .i < length (c .before .before .loop .octets) = omega (arith, c .before .before .loop .inv .1) in (
+      omega arith,
+      simp length-set (c .before .before .loop .inv .1),
+      filled-more 0 (c .before .before .loop .octets) (now (c .before .before .before .before .args .identity)) _ _ h (c .before .before .loop .inv .2)
+          (c .octet-at .ensures),
+    )
 
 returns : tie.Need-returns Inv-loop μ-loop
 unfolding nameOf
-returns c = let e : c .before .loop .octets ≡ padded 0 62 (now (c .before .before .before .args .identity)) = padded-is 0 62 _ (now (c .before .before .before .args .identity)) (c .before .loop .inv .1) (λ i k. c .before .loop .inv .2 i (omega arith)) in rw e
+returns c =
+    let e : c .before .loop .octets ≡ padded 0 62 (now (c .before .before .before .args .identity)) = padded-is 0 62 _ (now (c .before .before .before .args .identity)) (c .before .loop .inv .1) (λ i k. c .before .loop .inv .2 i (omega arith)) in
+    rw e
 
 pub name-of-spec : {M : Type 1} → statement M
 name-of-spec =

@@ -1,6 +1,6 @@
-use Rattle.hall.specs.Identity.{noNames}
+-- `hall::no_names` meets its contract. Assumes nothing.
 use borrow.Author.Needs.{needs}
-use native.Mathlib.Omega.{arith}
+use Rattle.hall.specs.Identity.{noNames}
 use Rattle.hall.proofs.no_names.Statement.{statement}
 use Rattle.hall.proofs.no_names.Tie as tie
 

@@ -1,9 +1,9 @@
-use denote.Ref.{now}
-use lib.ListN.{List·getD-eq-default}
-use lib.ListN.{length, take, drop, getD, set}
-use Prim.Native.Nat.{ℕ, _+_, _-_, _≤_, _<_}
-use mathlib.Core.Path.{_≡_, refl, ap, sym, _∙_}
+-- `hall::octet_at` meets its contract. Assumes nothing.
+use Prim.Native.Nat.{_≤_}
+use mathlib.Core.Path.{sym}
 use native.Mathlib.Omega.{arith}
+use lib.ListN.{List·getD-eq-default, length}
+use denote.Ref.{now}
 use borrow.Author.Needs.{needs}
 use Rattle.hall.proofs.octet_at.Statement.{statement}
 use Rattle.hall.proofs.octet_at.Tie as tie
@@ -15,7 +15,9 @@ returns : tie.Need-returns
 returns c = search needs
 
 returns-2 : tie.Need-returns-2
-returns-2 c = let h : length (now (c .before .args .identity)) ≤ c .before .args .i = omega arith in sym (List·getD-eq-default (now (c .before .args .identity)) 0 h)
+returns-2 c =
+    let h : length (now (c .before .args .identity)) ≤ c .before .args .i = omega arith in
+    sym (List·getD-eq-default (now (c .before .args .identity)) 0 h)
 
 pub octet-at-spec : {M : Type 1} → statement M
 octet-at-spec = tie.close (tie.spec shared-slice-read-result returns returns-2)

@@ -1,12 +1,12 @@
+-- `hall::seat_named` meets its contract. The invariant says what is done at the present place, and what is left. Assumes nothing.
+use Prim.Native.Nat.{_-_, _≤_}
+use mathlib.Core.Path.{_≡_, refl, sym, _∙_}
+use native.Mathlib.Omega.{arith}
 use denote.Ref.{now}
+use borrow.Author.Needs.{needs}
 use Rattle.hall.specs.Identity.{hasName, seatNamed}
 use Rattle.hall.specs.Seats.{firstFrom}
-use mathlib.Core.Bool.{true, false, not}
-use Prim.Native.Nat.{ℕ, _+_, _-_, _≤_, _<_}
-use mathlib.Core.Path.{_≡_, refl, ap, sym, _∙_}
 use Rattle.hall.proofs.Laws.{lowest-on, lowest-stops, lowest-ends}
-use borrow.Author.Needs.{needs}
-use native.Mathlib.Omega.{arith}
 use Rattle.hall.proofs.seat_named.Statement.{statement}
 use Rattle.hall.proofs.seat_named.Tie as tie
 
@@ -24,7 +24,11 @@ has-name-requires : tie.Need-has-name-requires Inv-loop μ-loop
 has-name-requires c κs = search needs
 
 returns : tie.Need-returns Inv-loop μ-loop
-returns c = sym (c .before .before .before .loop .inv .1 ∙ lowest-stops (hasName (c .before .before .before .before .before .args .hall) (c .before .before .before .before .before .args .names) (now (c .before .before .before .before .before .args .identity))) _ (c .before .before .loop-test .taken) (sym (c .before .has-name .ensures) ∙ c .if1 .taken))
+returns c =
+    sym (c .before .before .before .loop .inv .1
+    ∙ lowest-stops (hasName (c .before .before .before .before .before .args .hall) (c .before .before .before .before .before .args .names)
+    (now (c .before .before .before .before .before .args .identity))) _ (c .before .before .loop-test .taken)
+    (sym (c .before .has-name .ensures) ∙ c .if1 .taken))
 
 add-s : tie.Need-add-s Inv-loop μ-loop
 add-s c = search needs
@@ -33,10 +37,19 @@ loop-less : tie.Need-loop-less Inv-loop μ-loop
 loop-less c = search needs
 
 loop-again : tie.Need-loop-again Inv-loop μ-loop
-loop-again c = (omega arith, c .before .before .before .loop .inv .1 ∙ lowest-on (hasName (c .before .before .before .before .before .args .hall) (c .before .before .before .before .before .args .names) (now (c .before .before .before .before .before .args .identity))) _ (c .before .before .loop-test .taken) (sym (c .before .has-name .ensures) ∙ c .if1 .left))
+loop-again c = (
+  omega arith,
+  c .before .before .before .loop .inv .1
+      ∙ lowest-on (hasName (c .before .before .before .before .before .args .hall) (c .before .before .before .before .before .args .names)
+      (now (c .before .before .before .before .before .args .identity))) _ (c .before .before .loop-test .taken)
+      (sym (c .before .has-name .ensures) ∙ c .if1 .left),
+)
 
 returns-2 : tie.Need-returns-2 Inv-loop μ-loop
-returns-2 c = sym (c .before .loop .inv .1 ∙ lowest-ends (hasName (c .before .before .before .args .hall) (c .before .before .before .args .names) (now (c .before .before .before .args .identity))) _ (c .loop-test .left))
+returns-2 c =
+    sym (c .before .loop .inv .1
+    ∙ lowest-ends (hasName (c .before .before .before .args .hall) (c .before .before .before .args .names)
+    (now (c .before .before .before .args .identity))) _ (c .loop-test .left))
 
 pub seat-named-spec : {M : Type 1} → statement M
 seat-named-spec =

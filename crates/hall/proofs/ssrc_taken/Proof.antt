@@ -1,9 +1,9 @@
+-- `hall::ssrc_taken` meets its contract. Assumes nothing.
+use mathlib.Core.Path.{sym}
 use borrow.Author.Tests.{eq-eqb, ne-eqb}
-use Rattle.hall.specs.Join.{ssrcTaken}
-use Rattle.words.specs.Choice.{if_then_else_, if-yes, if-no}
-use mathlib.Core.Path.{_≡_, refl, ap, sym, _∙_}
-use native.Mathlib.Omega.{arith}
 use borrow.Author.Needs.{needs}
+use Rattle.words.specs.Choice.{if_then_else_}
+use Rattle.hall.specs.Join.{ssrcTaken}
 use Rattle.hall.proofs.ssrc_taken.Statement.{statement}
 use Rattle.hall.proofs.ssrc_taken.Tie as tie
 

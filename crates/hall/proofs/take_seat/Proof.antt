@@ -1,7 +1,7 @@
-use Rattle.hall.specs.Join.{seated}
-use mathlib.Core.Path.{_≡_, refl, ap, sym, _∙_}
-use native.Mathlib.Omega.{arith}
+-- `hall::take_seat` meets its contract. Assumes nothing.
+use mathlib.Core.Path.{sym}
 use borrow.Author.Needs.{needs}
+use Rattle.hall.specs.Join.{seated}
 use Rattle.hall.proofs.take_seat.Statement.{statement}
 use Rattle.hall.proofs.take_seat.Tie as tie
 
@@ -25,7 +25,14 @@ enum-told c = search needs
 
 returns : tie.Need-returns
 unfolding seated
-returns c = rw (sym (c .before .before .before .before .before .before .free-seat .ensures), c .before .before .before .before .found .given .1, c .with-name .ensures, c .before .with-seat .ensures, c .before .before .name-of .ensures)
+returns c =
+    rw (
+      sym (c .before .before .before .before .before .before .free-seat .ensures),
+      c .before .before .before .before .found .given .1,
+      c .with-name .ensures,
+      c .before .with-seat .ensures,
+      c .before .before .name-of .ensures,
+    )
 
 returns-2 : tie.Need-returns-2
 unfolding seated

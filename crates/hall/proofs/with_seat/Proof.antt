@@ -1,6 +1,6 @@
-use Rattle.hall.specs.Seats.{withSeat}
-use native.Mathlib.Omega.{arith}
+-- `hall::with_seat` meets its contract. Assumes nothing.
 use borrow.Author.Needs.{needs}
+use Rattle.hall.specs.Seats.{withSeat}
 use Rattle.hall.proofs.with_seat.Statement.{statement}
 use Rattle.hall.proofs.with_seat.Tie as tie
 

@@ -1,8 +1,9 @@
-use lib.Seq.{set-out}
-use lib.ListN.{length, take, drop, getD, set}
-use Prim.Native.Nat.{ℕ, _+_, _-_, _≤_, _<_}
-use mathlib.Core.Path.{_≡_, refl, ap, sym, _∙_}
+-- `hall::with_word` meets its contract. Assumes nothing.
+use Prim.Native.Nat.{_≤_}
+use mathlib.Core.Path.{sym}
 use native.Mathlib.Omega.{arith}
+use lib.Seq.{set-out}
+use lib.ListN.{length}
 use borrow.Author.Needs.{needs}
 use Rattle.hall.proofs.with_word.Statement.{statement}
 use Rattle.hall.proofs.with_word.Tie as tie
@@ -17,7 +18,9 @@ returns : tie.Need-returns
 returns c = search needs
 
 returns-2 : tie.Need-returns-2
-returns-2 c = let h : length (c .before .args .column) ≤ c .before .args .seat = omega (arith, c .before .good .0 .1 .0 .1) in sym (set-out (c .before .args .column) _ (c .before .args .value) h)
+returns-2 c =
+    let h : length (c .before .args .column) ≤ c .before .args .seat = omega (arith, c .before .good .0 .1 .0 .1) in
+    sym (set-out (c .before .args .column) _ (c .before .args .value) h)
 
 pub with-word-spec : {M : Type 1} → statement M
 with-word-spec = tie.close (tie.spec mul-more array-write-more returns returns-2)

@@ -1,9 +1,8 @@
-use lib.ListN.{List·getD-eq-default}
-use mathlib.Core.Bool.{true, false, not}
-use lib.ListN.{length, take, drop, getD, set}
-use Prim.Native.Nat.{ℕ, _+_, _-_, _≤_, _<_}
-use mathlib.Core.Path.{_≡_, refl, ap, sym, _∙_}
+-- `hall::word` meets its contract. Assumes nothing.
+use Prim.Native.Nat.{_≤_}
+use mathlib.Core.Path.{sym}
 use native.Mathlib.Omega.{arith}
+use lib.ListN.{List·getD-eq-default, length}
 use borrow.Author.Needs.{needs}
 use Rattle.hall.proofs.word.Statement.{statement}
 use Rattle.hall.proofs.word.Tie as tie
@@ -18,7 +17,9 @@ returns : tie.Need-returns
 returns c = search needs
 
 returns-2 : tie.Need-returns-2
-returns-2 c = let h : length (c .before .args .t1) ≤ c .before .args .seat = omega (arith, c .before .good .0 .1 .0 .1) in sym (List·getD-eq-default (c .before .args .t1) 0 h)
+returns-2 c =
+    let h : length (c .before .args .t1) ≤ c .before .args .seat = omega (arith, c .before .good .0 .1 .0 .1) in
+    sym (List·getD-eq-default (c .before .args .t1) 0 h)
 
 pub word-spec : {M : Type 1} → statement M
 word-spec = tie.close (tie.spec mul-result array-read-result returns returns-2)

@@ -1,8 +1,7 @@
-use mathlib.Core.Path.{_≡_, refl, ap, sym, _∙_}
-use lib.ListN.{length, length-take, length-map}
-use Rattle.line.specs.Line.{waiting}
-use borrow.Author.Needs.{needs}
+-- `line::count` meets its contract. Assumes nothing.
 use native.Mathlib.Omega.{arith}
+use lib.ListN.{length-take, length-map}
+use Rattle.line.specs.Line.{waiting}
 use Rattle.line.proofs.count.Statement.{statement}
 use Rattle.line.proofs.count.Tie as tie
 

@@ -1,9 +1,8 @@
-use Rattle.line.specs.Line.{waiting, lineOf}
+-- `line::entered` meets its contract. Assumes nothing.
+use mathlib.Core.Path.{sym}
+use borrow.Author.Needs.{needs}
 use Rattle.line.specs.Line.{enter}
 use Rattle.line.proofs.Laws.{ahead-le}
-use mathlib.Core.Path.{_≡_, refl, ap, sym, _∙_}
-use native.Mathlib.Omega.{arith}
-use borrow.Author.Needs.{needs}
 use Rattle.line.proofs.entered.Statement.{statement}
 use Rattle.line.proofs.entered.Tie as tie
 

@@ -1,11 +1,11 @@
-use Prim.Native.Nat.{_+_, _-_, _≤_, _<_}
-use lib.ListN.{List·getD-eq-default, length-take}
-use lib.Seq.{getD-take}
-use lib.ListN.{length, take, drop, getD}
-use mathlib.Core.Path.{_≡_, refl, ap, sym, _∙_}
-use Rattle.line.specs.Line.{waiting, empty}
+-- `line::entry_at` meets its contract. Assumes nothing.
+use Prim.Native.Nat.{_≤_, _<_}
+use mathlib.Core.Path.{sym}
 use native.Mathlib.Omega.{arith}
+use lib.ListN.{List·getD-eq-default, length-take, length}
+use lib.Seq.{getD-take}
 use borrow.Author.Needs.{needs}
+use Rattle.line.specs.Line.{waiting, empty}
 use Rattle.line.proofs.entry_at.Statement.{statement}
 use Rattle.line.proofs.entry_at.Tie as tie
 
@@ -20,10 +20,17 @@ array-copy-out-result c = search needs
 
 returns : tie.Need-returns
 unfolding waiting
-returns c = let h : c .before .before .before .before .args .place < c .before .before .before .before .args .line .len = omega (arith, simp length-take at (c .before .before .before .count .ensures .0)) in sym (getD-take _ _ _ empty h)
+returns c =
+    let h : c .before .before .before .before .args .place < c .before .before .before .before .args .line .len = omega (
+      arith,
+      simp length-take at (c .before .before .before .count .ensures .0),
+    ) in
+    sym (getD-take _ _ _ empty h)
 
 returns-2 : tie.Need-returns-2
-returns-2 c = let h : length (waiting (c .before .before .args .line)) ≤ c .before .before .args .place = omega (arith, c .before .count .ensures .0) in sym (List·getD-eq-default (waiting (c .before .before .args .line)) empty h)
+returns-2 c =
+    let h : length (waiting (c .before .before .args .line)) ≤ c .before .before .args .place = omega (arith, c .before .count .ensures .0) in
+    sym (List·getD-eq-default (waiting (c .before .before .args .line)) empty h)
 
 pub entry-at-spec : {M : Type 1} → statement M
 entry-at-spec =

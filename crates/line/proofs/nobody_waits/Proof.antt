@@ -1,6 +1,6 @@
-use Rattle.line.specs.Line.{lineOf}
+-- `line::nobody_waits` meets its contract. Assumes nothing.
 use borrow.Author.Needs.{needs}
-use native.Mathlib.Omega.{arith}
+use Rattle.line.specs.Line.{lineOf}
 use Rattle.line.proofs.nobody_waits.Statement.{statement}
 use Rattle.line.proofs.nobody_waits.Tie as tie
 

@@ -1,7 +1,5 @@
+-- `line::other_at_least` meets its contract. Assumes nothing.
 use borrow.Author.Tests.{eq-eqb, ne-eqb}
-use Rattle.line.specs.Line.{otherAtLeast}
-use borrow.Author.Needs.{needs}
-use native.Mathlib.Omega.{arith}
 use Rattle.line.proofs.other_at_least.Statement.{statement}
 use Rattle.line.proofs.other_at_least.Tie as tie
 

@@ -1,12 +1,12 @@
-use borrow.Author.Tests.{eq-eqb, ne-eqb}
-use borrow.Author.Tests.{eq-eqb, ne-eqb, le-leb, lt-leb}
-use Rattle.line.specs.Line.{waiting, before, leading, isOther}
-use lib.ListN.{length, take, drop, getD}
-use Prim.Native.Nat.{_+_, _-_, _≤_, _<_}
-use mathlib.Core.Path.{_≡_, refl, ap, sym, _∙_}
-use Rattle.line.proofs.Laws.{leading-on, leading-stops, leading-ends}
-use borrow.Author.Needs.{needs}
+-- `line::place_of` meets its contract. The invariant says what is done at the present place, and what is left. Assumes nothing.
+use Prim.Native.Nat.{_+_, _-_, _≤_}
+use mathlib.Core.Path.{_≡_, sym, _∙_}
 use native.Mathlib.Omega.{arith}
+use lib.ListN.{length, drop}
+use borrow.Author.Tests.{eq-eqb, ne-eqb}
+use borrow.Author.Needs.{needs}
+use Rattle.line.specs.Line.{waiting, before, leading, isOther}
+use Rattle.line.proofs.Laws.{leading-on, leading-stops, leading-ends}
 use Rattle.line.proofs.place_of.Statement.{statement}
 use Rattle.line.proofs.place_of.Tie as tie
 
@@ -27,7 +27,9 @@ entry-at-requires : tie.Need-entry-at-requires Inv-loop μ-loop
 entry-at-requires c κs = search needs
 
 returns : tie.Need-returns Inv-loop μ-loop
-returns c = sym (c .before .before .before .before .loop .inv .2 ∙ leading-stops _ _ _ (omega arith) (simp (sym (c .before .before .entry-at .ensures), eq-eqb _ _ (c .if1 .taken))))
+returns c =
+    sym (c .before .before .before .before .loop .inv .2
+    ∙ leading-stops _ _ _ (omega arith) (simp (sym (c .before .before .entry-at .ensures), eq-eqb _ _ (c .if1 .taken))))
 
 add-i : tie.Need-add-i Inv-loop μ-loop
 add-i c = search needs
@@ -36,10 +38,17 @@ loop-less : tie.Need-loop-less Inv-loop μ-loop
 loop-less c = search needs
 
 loop-again : tie.Need-loop-again Inv-loop μ-loop
-loop-again c = (c .before .before .before .before .loop .inv .0, omega arith, c .before .before .before .before .loop .inv .2 ∙ leading-on _ _ _ (omega arith) (simp (sym (c .before .before .entry-at .ensures), ne-eqb _ _ (c .if1 .left))))
+loop-again c = (
+  c .before .before .before .before .loop .inv .0,
+  omega arith,
+  c .before .before .before .before .loop .inv .2
+      ∙ leading-on _ _ _ (omega arith) (simp (sym (c .before .before .entry-at .ensures), ne-eqb _ _ (c .if1 .left))),
+)
 
 returns-2 : tie.Need-returns-2 Inv-loop μ-loop
-returns-2 c = let e : c .before .loop .i ≡ c .before .before .count .result = omega arith in sym (c .before .loop .inv .2 ∙ leading-ends _ _ _ (omega arith) ∙ e)
+returns-2 c =
+    let e : c .before .loop .i ≡ c .before .before .count .result = omega arith in
+    sym (c .before .loop .inv .2 ∙ leading-ends _ _ _ (omega arith) ∙ e)
 
 pub place-of-spec : {M : Type 1} → statement M
 place-of-spec =

@@ -1,25 +1,22 @@
-use mathlib.Core.List.{List}
-use lib.ListN.{set}
-use Prim.Native.Nat.{ℕ}
-use mathlib.Core.Bool.{false}
-use Rattle.line.specs.declared.Entry.{Entry}
-use Rattle.line.specs.Line.{empty}
-use mathlib.Core.List.{_++_, _∷_, []}
-use lib.ListN.{length-append}
-use lib.Seq.{take-all}
-use Rattle.line.proofs.Laws.{line-is, waiting-lineOf}
-use Rattle.line.specs.Line.{waiting, without, lineOf}
-use lib.ListN.{length, take, drop, getD}
+-- `line::struck` meets its contract. The invariant says what is done at the present place, and what is left. Assumes nothing.
 use Prim.Native.Nat.{_+_, _-_, _≤_, _<_}
+use mathlib.Core.Bool.{false}
+use mathlib.Core.List.{_++_, _∷_, []}
 use mathlib.Core.Path.{_≡_, refl, ap, sym, _∙_}
-use Rattle.line.proofs.Laws.{padded, padded-next, without-le, without-struck, without-kept}
-use borrow.Author.Needs.{needs}
 use native.Mathlib.Omega.{arith}
+use lib.ListN.{length-append, length, take, getD}
+use lib.Seq.{take-all}
+use borrow.Author.Needs.{needs}
+use Rattle.line.specs.declared.Entry.{Entry}
+use Rattle.line.specs.Line.{empty, waiting, without, lineOf}
+use Rattle.line.proofs.Laws.{line-is, waiting-lineOf, padded, padded-next, without-struck, without-kept}
 use Rattle.line.proofs.struck.Statement.{statement}
 use Rattle.line.proofs.struck.Tie as tie
 
 abbrev Inv-loop : tie.InvT-loop
-Inv-loop line seats n entries₀ len₀ i₀ entries len i = (n ≡ length (waiting line)) × (i ≤ n) × (n ≤ 15) × (len ≡ length (without seats (take i (waiting line)))) × (len ≤ i) × (entries ≡ padded (without seats (take i (waiting line))))
+Inv-loop line seats n entries₀ len₀ i₀ entries len i =
+    (n ≡ length (waiting line)) × (i ≤ n) × (n ≤ 15) × (len ≡ length (without seats (take i (waiting line)))) × (len ≤ i)
+    × (entries ≡ padded (without seats (take i (waiting line))))
 
 abbrev μ-loop : tie.MeasureT-loop
 μ-loop line seats n entries₀ len₀ i₀ entries len i = n - i
@@ -44,7 +41,20 @@ loop-less : tie.Need-loop-less Inv-loop μ-loop
 loop-less c = search needs
 
 loop-again : tie.Need-loop-again Inv-loop μ-loop
-loop-again c = let l = c .before .before .before .before .before .before .args .line in let h : c .before .before .before .before .loop .i < length (waiting l) = omega (arith, c .before .before .before .before .loop .inv .0) in let q = without-struck (c .before .before .before .before .before .before .args .seats) (waiting l) _ h (sym (ap (λ (x : Entry). getD (c .before .before .before .before .before .before .args .seats) (x .seat) false) (c .before .before .entry-at .ensures)) ∙ sym (c .before .has .ensures) ∙ c .if1 .taken) in (c .before .before .before .before .loop .inv .0, omega arith, c .before .before .before .before .loop .inv .2, c .before .before .before .before .loop .inv .3 ∙ ap length (sym q), omega arith, c .before .before .before .before .loop .inv .5 ∙ ap padded (sym q))
+loop-again c =
+    let l = c .before .before .before .before .before .before .args .line in
+    let h : c .before .before .before .before .loop .i < length (waiting l) = omega (arith, c .before .before .before .before .loop .inv .0) in
+    let q = without-struck (c .before .before .before .before .before .before .args .seats)
+    (waiting l) _ h (sym (ap (λ (x : Entry). getD (c .before .before .before .before .before .before .args .seats) (x .seat) false)
+    (c .before .before .entry-at .ensures)) ∙ sym (c .before .has .ensures) ∙ c .if1 .taken) in (
+      c .before .before .before .before .loop .inv .0,
+      omega arith,
+      c .before .before .before .before .loop .inv .2,
+      c .before .before .before .before .loop .inv .3 ∙ ap length (sym q),
+      omega arith,
+      c .before .before .before .before .loop .inv .5
+          ∙ ap padded (sym q),
+    )
 
 mul-entries : tie.Need-mul-entries Inv-loop μ-loop
 mul-entries c = search needs
@@ -59,12 +69,26 @@ loop-less-2 : tie.Need-loop-less-2 Inv-loop μ-loop
 loop-less-2 c = search needs
 
 loop-again-2 : tie.Need-loop-again-2 Inv-loop μ-loop
-loop-again-2 c = let l = c .before .before .before .before .before .before .args .line in let h : c .before .before .before .before .loop .i < length (waiting l) = omega (arith, c .before .before .before .before .loop .inv .0) in let k = without (c .before .before .before .before .before .before .args .seats) (take (c .before .before .before .before .loop .i) (waiting l)) in
+loop-again-2 c =
+    let l = c .before .before .before .before .before .before .args .line in
+    let h : c .before .before .before .before .loop .i < length (waiting l) = omega (arith, c .before .before .before .before .loop .inv .0) in
+    let k = without (c .before .before .before .before .before .before .args .seats)
+    (take (c .before .before .before .before .loop .i) (waiting l)) in
     let x = getD (waiting l) (c .before .before .before .before .loop .i) empty in
-    let q : without (c .before .before .before .before .before .before .args .seats) (take (c .before .before .before .before .loop .i + 1) (waiting l)) ≡ k ++ (x ∷ []) = without-kept (c .before .before .before .before .before .before .args .seats) (waiting l) _ h (sym (ap (λ (x : Entry). getD (c .before .before .before .before .before .before .args .seats) (x .seat) false) (c .before .before .entry-at .ensures)) ∙ sym (c .before .has .ensures) ∙ c .if1 .left) in
+    let q : without (c .before .before .before .before .before .before .args .seats)
+    (take (c .before .before .before .before .loop .i + 1)
+    (waiting l)) ≡ k ++ (x ∷ []) = without-kept (c .before .before .before .before .before .before .args .seats)
+    (waiting l) _ h (sym (ap (λ (x : Entry). getD (c .before .before .before .before .before .before .args .seats) (x .seat) false)
+    (c .before .before .entry-at .ensures)) ∙ sym (c .before .has .ensures) ∙ c .if1 .left) in
     let m : c .before .before .before .before .loop .len ≡ length k = c .before .before .before .before .loop .inv .3 in
-    let z : length k < 15 = omega (arith, c .before .before .before .before .loop .inv .2) in
-    (c .before .before .before .before .loop .inv .0, omega arith, c .before .before .before .before .loop .inv .2, rw (q, length-append) (omega arith), omega arith, rw q (padded-next _ k _ _ x (c .before .before .before .before .loop .inv .5) m (c .before .before .entry-at .ensures) z))
+    let z : length k < 15 = omega (arith, c .before .before .before .before .loop .inv .2) in (
+      c .before .before .before .before .loop .inv .0,
+      omega arith,
+      c .before .before .before .before .loop .inv .2,
+      rw (q, length-append) (omega arith),
+      omega arith,
+      rw q (padded-next _ k _ _ x (c .before .before .before .before .loop .inv .5) m (c .before .before .entry-at .ensures) z),
+    )
 
 returns : tie.Need-returns Inv-loop μ-loop
 returns c = let l = waiting (c .before .before .before .args .line) in

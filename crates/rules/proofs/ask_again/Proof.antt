@@ -1,9 +1,9 @@
+-- `rules::ask_again` meets its contract. Assumes nothing.
+use mathlib.Core.Path.{sym}
 use borrow.Author.Tests.{eq-eqb, ne-eqb}
-use Rattle.words.specs.Choice.{if_then_else_, if-yes, if-no}
-use Rattle.rules.specs.Request.{asksAgain}
-use mathlib.Core.Path.{_≡_, refl, ap, sym, _∙_}
-use native.Mathlib.Omega.{arith}
 use borrow.Author.Needs.{needs}
+use Rattle.words.specs.Choice.{if_then_else_}
+use Rattle.rules.specs.Request.{asksAgain}
 use Rattle.rules.proofs.ask_again.Statement.{statement}
 use Rattle.rules.proofs.ask_again.Tie as tie
 
@@ -34,7 +34,16 @@ rule-6-requires-2 c κs = search needs
 
 returns-2 : tie.Need-returns-2
 unfolding asksAgain if_then_else_
-returns-2 c = rw (sym (c .before .before .before .before .before .before .priority-in .ensures), ne-eqb _ _ (c .before .before .before .before .before .if1 .left), sym (c .before .before .before .before .only-seat .ensures), sym (c .before .before .before .struck .ensures .1), sym (c .before .before .entered .ensures), sym (c .before .with-line .ensures)) (c .rule-62 .ensures)
+returns-2 c =
+    rw (
+      sym (c .before .before .before .before .before .before .priority-in .ensures),
+      ne-eqb _ _ (c .before .before .before .before .before .if1 .left),
+      sym (c .before .before .before .before .only-seat .ensures),
+      sym (c .before .before .before .struck .ensures .1),
+      sym (c .before .before .entered .ensures),
+      sym (c .before .with-line .ensures),
+    )
+    (c .rule-62 .ensures)
 
 pub ask-again-spec : {M : Type 1} → statement M
 ask-again-spec =

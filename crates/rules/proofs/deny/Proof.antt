@@ -1,7 +1,6 @@
-use Rattle.rules.specs.Request.{denied}
-use mathlib.Core.Path.{_≡_, refl, ap, sym, _∙_}
-use native.Mathlib.Omega.{arith}
+-- `rules::deny` meets its contract. Assumes nothing.
 use borrow.Author.Needs.{needs}
+use Rattle.rules.specs.Request.{denied}
 use Rattle.rules.proofs.deny.Statement.{statement}
 use Rattle.rules.proofs.deny.Tie as tie
 

@@ -1,7 +1,6 @@
-use Rattle.rules.specs.Floor.{floorEnds}
-use mathlib.Core.Path.{_≡_, refl, ap, sym, _∙_}
-use native.Mathlib.Omega.{arith}
+-- `rules::end_floor` meets its contract. Assumes nothing.
 use borrow.Author.Needs.{needs}
+use Rattle.rules.specs.Floor.{floorEnds}
 use Rattle.rules.proofs.end_floor.Statement.{statement}
 use Rattle.rules.proofs.end_floor.Tie as tie
 

@@ -1,7 +1,6 @@
-use Rattle.rules.specs.Floor.{entersIdle}
-use mathlib.Core.Path.{_≡_, refl, ap, sym, _∙_}
-use native.Mathlib.Omega.{arith}
+-- `rules::enter_idle` meets its contract. Assumes nothing.
 use borrow.Author.Needs.{needs}
+use Rattle.rules.specs.Floor.{entersIdle}
 use Rattle.rules.proofs.enter_idle.Statement.{statement}
 use Rattle.rules.proofs.enter_idle.Tie as tie
 

@@ -1,7 +1,6 @@
-use Rattle.rules.specs.Floor.{given}
-use mathlib.Core.Path.{_≡_, refl, ap, sym, _∙_}
-use native.Mathlib.Omega.{arith}
+-- `rules::give` meets its contract. Assumes nothing.
 use borrow.Author.Needs.{needs}
+use Rattle.rules.specs.Floor.{given}
 use Rattle.rules.proofs.give.Statement.{statement}
 use Rattle.rules.proofs.give.Tie as tie
 
@@ -25,7 +24,15 @@ send-requires-2 c κs = search needs
 
 returns : tie.Need-returns
 unfolding given
-returns c = rw (c .send2 .ensures, c .before .all-others .ensures, c .before .before .send .ensures, c .before .before .before .only-seat .ensures, c .before .before .before .before .answer .ensures, c .before .before .before .before .before .before .next-number .ensures)
+returns c =
+    rw (
+      c .send2 .ensures,
+      c .before .all-others .ensures,
+      c .before .before .send .ensures,
+      c .before .before .before .only-seat .ensures,
+      c .before .before .before .before .answer .ensures,
+      c .before .before .before .before .before .before .next-number .ensures,
+    )
 
 pub give-spec : {M : Type 1} → statement M
 give-spec =

@@ -1,7 +1,6 @@
-use Rattle.rules.specs.Floor.{givenAtOnce}
-use mathlib.Core.Path.{_≡_, refl, ap, sym, _∙_}
-use native.Mathlib.Omega.{arith}
+-- `rules::give_at_once` meets its contract. Assumes nothing.
 use borrow.Author.Needs.{needs}
+use Rattle.rules.specs.Floor.{givenAtOnce}
 use Rattle.rules.proofs.give_at_once.Statement.{statement}
 use Rattle.rules.proofs.give_at_once.Tie as tie
 

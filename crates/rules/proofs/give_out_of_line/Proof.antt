@@ -1,7 +1,6 @@
-use Rattle.rules.specs.Floor.{givenOutOfLine}
-use mathlib.Core.Path.{_≡_, refl, ap, sym, _∙_}
-use native.Mathlib.Omega.{arith}
+-- `rules::give_out_of_line` meets its contract. Assumes nothing.
 use borrow.Author.Needs.{needs}
+use Rattle.rules.specs.Floor.{givenOutOfLine}
 use Rattle.rules.proofs.give_out_of_line.Statement.{statement}
 use Rattle.rules.proofs.give_out_of_line.Tie as tie
 

@@ -1,7 +1,7 @@
-use Rattle.rules.specs.Request.{holderAsks}
-use mathlib.Core.Path.{_≡_, refl, ap, sym, _∙_}
-use native.Mathlib.Omega.{arith}
+-- `rules::holder_asks` meets its contract. Assumes nothing.
+use mathlib.Core.Path.{ap, sym, _∙_}
 use borrow.Author.Needs.{needs}
+use Rattle.rules.specs.Request.{holderAsks}
 use Rattle.rules.proofs.holder_asks.Statement.{statement}
 use Rattle.rules.proofs.holder_asks.Tie as tie
 

@@ -1,9 +1,9 @@
+-- `rules::info_of` meets its contract. Assumes nothing.
+use mathlib.Core.Path.{sym}
 use borrow.Author.Tests.{lt-ltb, le-ltb}
-use Rattle.words.specs.Choice.{if_then_else_, if-yes, if-no}
-use Rattle.rules.specs.Request.{infoOf}
-use mathlib.Core.Path.{_≡_, refl, ap, sym, _∙_}
-use native.Mathlib.Omega.{arith}
 use borrow.Author.Needs.{needs}
+use Rattle.words.specs.Choice.{if_then_else_}
+use Rattle.rules.specs.Request.{infoOf}
 use Rattle.rules.proofs.info_of.Statement.{statement}
 use Rattle.rules.proofs.info_of.Tie as tie
 
@@ -24,7 +24,13 @@ add-t9 c = search needs
 
 returns : tie.Need-returns
 unfolding infoOf if_then_else_
-returns c = rw (sym (c .before .before .place-of .ensures), sym (c .before .before .before .count .ensures .0), lt-ltb _ _ (c .before .if1 .taken), c .priority-in .ensures)
+returns c =
+    rw (
+      sym (c .before .before .place-of .ensures),
+      sym (c .before .before .before .count .ensures .0),
+      lt-ltb _ _ (c .before .if1 .taken),
+      c .priority-in .ensures,
+    )
 
 returns-2 : tie.Need-returns-2
 unfolding infoOf if_then_else_

@@ -1,8 +1,8 @@
-use Rattle.words.specs.Choice.{if_then_else_, if-yes, if-no}
-use Rattle.rules.specs.Request.{informed}
-use mathlib.Core.Path.{_≡_, refl, ap, sym, _∙_}
-use native.Mathlib.Omega.{arith}
+-- `rules::inform` meets its contract. Assumes nothing.
+use mathlib.Core.Path.{sym}
 use borrow.Author.Needs.{needs}
+use Rattle.words.specs.Choice.{if_then_else_}
+use Rattle.rules.specs.Request.{informed}
 use Rattle.rules.proofs.inform.Statement.{statement}
 use Rattle.rules.proofs.inform.Tie as tie
 
@@ -23,7 +23,15 @@ send-requires c κs = search needs
 
 returns : tie.Need-returns
 unfolding informed if_then_else_
-returns c = rw (sym (c .before .before .before .before .before .negotiated-queueing .ensures), c .before .before .before .before .if1 .taken, c .send .ensures, c .before .only-seat .ensures, c .before .before .info-of .ensures, c .before .before .before .before .before .before .answer .ensures)
+returns c =
+    rw (
+      sym (c .before .before .before .before .before .negotiated-queueing .ensures),
+      c .before .before .before .before .if1 .taken,
+      c .send .ensures,
+      c .before .only-seat .ensures,
+      c .before .before .info-of .ensures,
+      c .before .before .before .before .before .before .answer .ensures,
+    )
 
 returns-2 : tie.Need-returns-2
 unfolding informed if_then_else_

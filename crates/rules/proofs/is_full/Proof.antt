@@ -1,7 +1,7 @@
-use Rattle.rules.specs.Request.{full}
-use mathlib.Core.Path.{_≡_, refl, ap, sym, _∙_}
-use native.Mathlib.Omega.{arith}
+-- `rules::is_full` meets its contract. Assumes nothing.
+use mathlib.Core.Path.{sym}
 use borrow.Author.Needs.{needs}
+use Rattle.rules.specs.Request.{full}
 use Rattle.rules.proofs.is_full.Statement.{statement}
 use Rattle.rules.proofs.is_full.Tie as tie
 

@@ -1,5 +1,4 @@
-use mathlib.Core.Path.{_≡_, refl, ap, sym, _∙_}
-use native.Mathlib.Omega.{arith}
+-- `rules::is_holder` meets its contract. Assumes nothing.
 use borrow.Author.Needs.{needs}
 use Rattle.rules.proofs.is_holder.Statement.{statement}
 use Rattle.rules.proofs.is_holder.Tie as tie

@@ -1,8 +1,8 @@
+-- `rules::is_press` meets its contract. Assumes nothing.
+use mathlib.Core.Path.{sym}
 use borrow.Author.Tests.{lt-leb, le-leb}
-use Rattle.rules.specs.Request.{presses}
-use mathlib.Core.Path.{_≡_, refl, ap, sym, _∙_}
-use native.Mathlib.Omega.{arith}
 use borrow.Author.Needs.{needs}
+use Rattle.rules.specs.Request.{presses}
 use Rattle.rules.proofs.is_press.Statement.{statement}
 use Rattle.rules.proofs.is_press.Tie as tie
 
@@ -22,7 +22,13 @@ another-at-least-requires c κs = search needs
 
 returns-3 : tie.Need-returns-3
 unfolding presses
-returns-3 c = rw (le-leb _ _ (c .before .before .before .before .if1 .left), sym (c .before .before .before .holder-at-least .ensures), c .before .before .if2 .left, c .another-at-least .ensures)
+returns-3 c =
+    rw (
+      le-leb _ _ (c .before .before .before .before .if1 .left),
+      sym (c .before .before .before .holder-at-least .ensures),
+      c .before .before .if2 .left,
+      c .another-at-least .ensures,
+    )
 
 pub is-press-spec : {M : Type 1} → statement M
 is-press-spec =

@@ -1,7 +1,7 @@
-use Rattle.rules.specs.Request.{waits}
-use mathlib.Core.Path.{_≡_, refl, ap, sym, _∙_}
-use native.Mathlib.Omega.{arith}
+-- `rules::is_waiting` meets its contract. Assumes nothing.
+use mathlib.Core.Path.{sym}
 use borrow.Author.Needs.{needs}
+use Rattle.rules.specs.Request.{waits}
 use Rattle.rules.proofs.is_waiting.Statement.{statement}
 use Rattle.rules.proofs.is_waiting.Tie as tie
 

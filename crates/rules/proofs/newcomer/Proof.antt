@@ -1,8 +1,7 @@
-use Rattle.rules.proofs.Laws.{rule5-press, rule5-queues, rule5-neither}
-use Rattle.words.specs.Choice.{if_then_else_, if-yes, if-no}
-use mathlib.Core.Path.{_≡_, refl, ap, sym, _∙_}
-use native.Mathlib.Omega.{arith}
+-- `rules::newcomer` meets its contract. Assumes nothing.
+use mathlib.Core.Path.{sym, _∙_}
 use borrow.Author.Needs.{needs}
+use Rattle.rules.proofs.Laws.{rule5-press, rule5-queues, rule5-neither}
 use Rattle.rules.proofs.newcomer.Statement.{statement}
 use Rattle.rules.proofs.newcomer.Tie as tie
 
@@ -19,13 +18,17 @@ place-unless-full-requires-2 : tie.Need-place-unless-full-requires-2
 place-unless-full-requires-2 c κs = search needs
 
 returns-2 : tie.Need-returns-2
-returns-2 c = c .place-unless-full2 .ensures ∙ sym (rule5-queues _ _ _ _ _ (sym (c .before .before .negotiated-queueing .ensures) ∙ c .before .if2 .taken))
+returns-2 c =
+    c .place-unless-full2 .ensures ∙ sym (rule5-queues _ _ _ _ _ (sym (c .before .before .negotiated-queueing .ensures) ∙ c .before .if2 .taken))
 
 deny-requires : tie.Need-deny-requires
 deny-requires c κs = search needs
 
 returns-3 : tie.Need-returns-3
-returns-3 c = c .deny .ensures ∙ sym (rule5-neither (c .before .before .before .before .args .core) (c .before .before .before .before .args .hall) _ (c .before .before .before .before .args .priority) _ (c .before .before .before .if1 .left) (sym (c .before .before .negotiated-queueing .ensures) ∙ c .before .if2 .left))
+returns-3 c =
+    c .deny .ensures ∙ sym (rule5-neither (c .before .before .before .before .args .core)
+    (c .before .before .before .before .args .hall) _ (c .before .before .before .before .args .priority) _ (c .before .before .before .if1 .left)
+    (sym (c .before .before .negotiated-queueing .ensures) ∙ c .before .if2 .left))
 
 pub newcomer-spec : {M : Type 1} → statement M
 newcomer-spec =

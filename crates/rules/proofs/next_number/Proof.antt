@@ -1,7 +1,7 @@
-use Rattle.rules.specs.Words.{next}
-use mathlib.Core.Path.{_≡_, refl, ap, sym, _∙_}
+-- `rules::next_number` meets its contract. Assumes nothing.
 use native.Mathlib.Omega.{arith}
 use borrow.Author.Needs.{needs}
+use Rattle.rules.specs.Words.{next}
 use Rattle.rules.proofs.next_number.Statement.{statement}
 use Rattle.rules.proofs.next_number.Tie as tie
 

@@ -1,15 +1,9 @@
-use Rattle.line.specs.declared.Entry.{Entry}
-use Rattle.rules.specs.Floor.{givenOutOfLine}
-use Rattle.rules.specs.Words.{_withLine_}
-use Prim.Native.Nat.{ℕ, _+_, _-_, _≤_, _<_}
-use lib.ListN.{length, take, drop, getD, set}
-use Rattle.hall.specs.Seats.{only}
-use Rattle.line.specs.Line.{waiting, lineOf, without, empty}
-use Rattle.rules.proofs.Laws.{passes-none, passes-head}
-use Rattle.rules.specs.Floor.{passesOn}
-use mathlib.Core.Path.{_≡_, refl, ap, sym, _∙_}
-use native.Mathlib.Omega.{arith}
+-- `rules::pass_on` meets its contract. Assumes nothing.
+use mathlib.Core.Path.{_≡_, sym, _∙_}
+use lib.ListN.{length}
 use borrow.Author.Needs.{needs}
+use Rattle.line.specs.Line.{waiting}
+use Rattle.rules.proofs.Laws.{passes-none, passes-head}
 use Rattle.rules.proofs.pass_on.Statement.{statement}
 use Rattle.rules.proofs.pass_on.Tie as tie
 
@@ -35,12 +29,23 @@ give-out-of-line-requires : tie.Need-give-out-of-line-requires
 give-out-of-line-requires c κs = search needs
 
 returns : tie.Need-returns
-returns c = c .enter-idle .ensures ∙ sym (passes-none _ _ (waiting (c .before .before .before .before .args .core .line)) (sym (c .before .before .count .ensures .0) ∙ c .before .if1 .taken))
+returns c =
+    c .enter-idle .ensures
+    ∙ sym (passes-none _ _ (waiting (c .before .before .before .before .args .core .line))
+    (sym (c .before .before .count .ensures .0) ∙ c .before .if1 .taken))
 
 returns-2 : tie.Need-returns-2
 returns-2 c = let w = waiting (c .before .before .before .before .before .before .before .before .args .core .line) in
     let n : length w ≡ 0 → ⊥ = λ z. c .before .before .before .before .before .if1 .left (c .before .before .before .before .before .before .count .ensures .0 ∙ z) in
-    rw (passes-head (c .before .before .before .before .before .before .before .before .args .core) (c .before .before .before .before .before .before .before .before .args .hall) w n, sym (c .before .before .before .before .entry-at .ensures), sym (c .before .before .before .only-seat .ensures), sym (c .before .before .struck .ensures .0), sym (c .before .with-line .ensures)) (c .give-out-of-line .ensures)
+    rw (
+      passes-head (c .before .before .before .before .before .before .before .before .args .core)
+          (c .before .before .before .before .before .before .before .before .args .hall) w n,
+      sym (c .before .before .before .before .entry-at .ensures),
+      sym (c .before .before .before .only-seat .ensures),
+      sym (c .before .before .struck .ensures .0),
+      sym (c .before .with-line .ensures),
+    )
+    (c .give-out-of-line .ensures)
 
 pub pass-on-spec : {M : Type 1} → statement M
 pass-on-spec =

@@ -1,7 +1,7 @@
-use Rattle.rules.specs.Request.{placed}
-use mathlib.Core.Path.{_≡_, refl, ap, sym, _∙_}
-use native.Mathlib.Omega.{arith}
+-- `rules::place` meets its contract. Assumes nothing.
+use mathlib.Core.Path.{sym}
 use borrow.Author.Needs.{needs}
+use Rattle.rules.specs.Request.{placed}
 use Rattle.rules.proofs.place.Statement.{statement}
 use Rattle.rules.proofs.place.Tie as tie
 
@@ -19,7 +19,9 @@ mark-placed-requires c κs = search needs
 
 returns : tie.Need-returns
 unfolding placed
-returns c = rw (sym (c .before .before .before .entered .ensures), sym (c .before .before .with-line .ensures), sym (c .before .rule-6 .ensures)) (c .mark-placed .ensures)
+returns c =
+    rw (sym (c .before .before .before .entered .ensures), sym (c .before .before .with-line .ensures), sym (c .before .rule-6 .ensures))
+    (c .mark-placed .ensures)
 
 pub place-spec : {M : Type 1} → statement M
 place-spec =

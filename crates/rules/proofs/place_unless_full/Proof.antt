@@ -1,7 +1,7 @@
-use Rattle.words.specs.Choice.{if_then_else_, if-yes, if-no}
-use mathlib.Core.Path.{_≡_, refl, ap, sym, _∙_}
-use native.Mathlib.Omega.{arith}
+-- `rules::place_unless_full` meets its contract. Assumes nothing.
+use mathlib.Core.Path.{sym}
 use borrow.Author.Needs.{needs}
+use Rattle.words.specs.Choice.{if_then_else_}
 use Rattle.rules.proofs.place_unless_full.Statement.{statement}
 use Rattle.rules.proofs.place_unless_full.Tie as tie
 

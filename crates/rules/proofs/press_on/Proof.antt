@@ -1,8 +1,7 @@
-use Rattle.words.specs.Choice.{if_then_else_, if-yes, if-no}
-use Rattle.rules.specs.Request.{pressed}
-use mathlib.Core.Path.{_≡_, refl, ap, sym, _∙_}
-use native.Mathlib.Omega.{arith}
+-- `rules::press_on` meets its contract. Assumes nothing.
 use borrow.Author.Needs.{needs}
+use Rattle.words.specs.Choice.{if_then_else_}
+use Rattle.rules.specs.Request.{pressed}
 use Rattle.rules.proofs.press_on.Statement.{statement}
 use Rattle.rules.proofs.press_on.Tie as tie
 

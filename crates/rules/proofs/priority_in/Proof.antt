@@ -1,7 +1,6 @@
-use Rattle.rules.specs.Request.{priorityIn}
-use mathlib.Core.Path.{_≡_, refl, ap, sym, _∙_}
-use native.Mathlib.Omega.{arith}
+-- `rules::priority_in` meets its contract. Assumes nothing.
 use borrow.Author.Needs.{needs}
+use Rattle.rules.specs.Request.{priorityIn}
 use Rattle.rules.proofs.priority_in.Statement.{statement}
 use Rattle.rules.proofs.priority_in.Tie as tie
 

@@ -1,8 +1,8 @@
-use Rattle.words.specs.Choice.{if_then_else_, if-yes, if-no}
-use Rattle.rules.specs.Request.{request}
-use mathlib.Core.Path.{_≡_, refl, ap, sym, _∙_}
-use native.Mathlib.Omega.{arith}
+-- `rules::request_floor` meets its contract. Assumes nothing.
+use mathlib.Core.Path.{sym}
 use borrow.Author.Needs.{needs}
+use Rattle.words.specs.Choice.{if_then_else_}
+use Rattle.rules.specs.Request.{request}
 use Rattle.rules.proofs.request_floor.Statement.{statement}
 use Rattle.rules.proofs.request_floor.Tie as tie
 
@@ -24,7 +24,13 @@ deny-requires c κs = search needs
 
 returns-2 : tie.Need-returns-2
 unfolding request if_then_else_
-returns-2 c = rw (sym (c .before .before .before .before .is-holder .ensures), c .before .before .before .if1 .left, sym (c .before .before .receives-only .ensures), c .before .if2 .taken) (c .deny .ensures)
+returns-2 c =
+    rw (
+      sym (c .before .before .before .before .is-holder .ensures),
+      c .before .before .before .if1 .left,
+      sym (c .before .before .receives-only .ensures),
+      c .before .if2 .taken,
+    ) (c .deny .ensures)
 
 is-idle-requires : tie.Need-is-idle-requires
 is-idle-requires c κs = search needs
@@ -34,7 +40,15 @@ idle-request-requires c κs = search needs
 
 returns-3 : tie.Need-returns-3
 unfolding request if_then_else_
-returns-3 c = rw (sym (c .before .before .before .before .before .before .is-holder .ensures), c .before .before .before .before .before .if1 .left, sym (c .before .before .before .before .receives-only .ensures), c .before .before .before .if2 .left, sym (c .before .before .is-idle .ensures), c .before .if3 .taken) (c .idle-request .ensures)
+returns-3 c =
+    rw (
+      sym (c .before .before .before .before .before .before .is-holder .ensures),
+      c .before .before .before .before .before .if1 .left,
+      sym (c .before .before .before .before .receives-only .ensures),
+      c .before .before .before .if2 .left,
+      sym (c .before .before .is-idle .ensures),
+      c .before .if3 .taken,
+    ) (c .idle-request .ensures)
 
 is-press-requires : tie.Need-is-press-requires
 is-press-requires c κs = search needs
@@ -50,11 +64,33 @@ newcomer-requires c κs = search needs
 
 returns-4 : tie.Need-returns-4
 unfolding request if_then_else_
-returns-4 c = rw (sym (c .before .before .before .before .before .before .before .before .before .is-holder .ensures), c .before .before .before .before .before .before .before .before .if1 .left, sym (c .before .before .before .before .before .before .before .receives-only .ensures), c .before .before .before .before .before .before .if2 .left, sym (c .before .before .before .before .before .is-idle .ensures), c .before .before .before .before .if3 .left, sym (c .before .before .before .is-press .ensures), sym (c .before .before .is-waiting .ensures), c .before .if4 .taken) (c .ask-again .ensures)
+returns-4 c =
+    rw (
+      sym (c .before .before .before .before .before .before .before .before .before .is-holder .ensures),
+      c .before .before .before .before .before .before .before .before .if1 .left,
+      sym (c .before .before .before .before .before .before .before .receives-only .ensures),
+      c .before .before .before .before .before .before .if2 .left,
+      sym (c .before .before .before .before .before .is-idle .ensures),
+      c .before .before .before .before .if3 .left,
+      sym (c .before .before .before .is-press .ensures),
+      sym (c .before .before .is-waiting .ensures),
+      c .before .if4 .taken,
+    ) (c .ask-again .ensures)
 
 returns-5 : tie.Need-returns-5
 unfolding request if_then_else_
-returns-5 c = rw (sym (c .before .before .before .before .before .before .before .before .before .is-holder .ensures), c .before .before .before .before .before .before .before .before .if1 .left, sym (c .before .before .before .before .before .before .before .receives-only .ensures), c .before .before .before .before .before .before .if2 .left, sym (c .before .before .before .before .before .is-idle .ensures), c .before .before .before .before .if3 .left, sym (c .before .before .before .is-press .ensures), sym (c .before .before .is-waiting .ensures), c .before .if4 .left) (c .newcomer .ensures)
+returns-5 c =
+    rw (
+      sym (c .before .before .before .before .before .before .before .before .before .is-holder .ensures),
+      c .before .before .before .before .before .before .before .before .if1 .left,
+      sym (c .before .before .before .before .before .before .before .receives-only .ensures),
+      c .before .before .before .before .before .before .if2 .left,
+      sym (c .before .before .before .before .before .is-idle .ensures),
+      c .before .before .before .before .if3 .left,
+      sym (c .before .before .before .is-press .ensures),
+      sym (c .before .before .is-waiting .ensures),
+      c .before .if4 .left,
+    ) (c .newcomer .ensures)
 
 pub request-floor-spec : {M : Type 1} → statement M
 request-floor-spec =

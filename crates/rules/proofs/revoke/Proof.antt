@@ -1,7 +1,6 @@
-use Rattle.rules.specs.Floor.{revokes}
-use mathlib.Core.Path.{_≡_, refl, ap, sym, _∙_}
-use native.Mathlib.Omega.{arith}
+-- `rules::revoke` meets its contract. Assumes nothing.
 use borrow.Author.Needs.{needs}
+use Rattle.rules.specs.Floor.{revokes}
 use Rattle.rules.proofs.revoke.Statement.{statement}
 use Rattle.rules.proofs.revoke.Tie as tie
 

@@ -1,7 +1,7 @@
-use Rattle.rules.specs.Request.{rule6}
-use mathlib.Core.Path.{_≡_, refl, ap, sym, _∙_}
-use native.Mathlib.Omega.{arith}
+-- `rules::rule_6` meets its contract. Assumes nothing.
+use mathlib.Core.Path.{sym}
 use borrow.Author.Needs.{needs}
+use Rattle.rules.specs.Request.{rule6}
 use Rattle.rules.proofs.rule_6.Statement.{statement}
 use Rattle.rules.proofs.rule_6.Tie as tie
 
