@@ -1,7 +1,6 @@
 -- The events of document 01, "The desk". Assumes nothing.
 use Prim.Native.Nat.{ℕ}
-use mathlib.Core.Bool.{Bool, true, false}
-use mathlib.Core.List.{List, []}
+use mathlib.Core.List.{[]}
 use lib.Dec.{eqb}
 use Rattle.words.specs.Choice.{if_then_else_}
 use Rattle.line.specs.Line.{waiting, lineOf, without}
@@ -28,18 +27,18 @@ use Rattle.desk.specs.declared.Caller.the-variants.{Sits, Refused}
 use Rattle.desk.specs.declared.Left.{Left}
 use Rattle.desk.specs.Timers.{isStopped, expires, stops}
 
--- "A fresh desk is Stopped, with sequence number 0." The counters count nothing yet.
+-- A fresh desk has a stopped call and has sent nothing; its counters have counted nothing.
 unfoldable pub fresh : Core
 fresh = record { phase = Stopped; line = lineOf []; sequence = 0; c7 = 0; c20 = 0 }
 
--- Start: "Stopped to Idle, else 23; enters Idle as above"
+-- Start: a stopped call becomes idle; any other is already running, 23.
 unfoldable pub starts : Core → Hall → Phase → Step
 starts c h Stopped = entersIdle c h
 starts c h (Idle t7) = refused c NotExpected
 starts c h (Taken e b) = refused c NotExpected
 starts c h (Revoking e n) = refused c NotExpected
 
--- "Seat events test 21, 22, then the rules."
+-- Who speaks, by SSRC: first 21, then 22, and only then a rule.
 abbrev pub sitting : Found → Caller
 sitting (At s) = Sits s
 sitting Nowhere = Refused NoSuchSeat
@@ -55,18 +54,18 @@ heard c (Refused a) rule = refused c a
 unfoldable pub struckOff : Core → ℕ → Step
 struckOff c s = done (c withLine lineOf (without (only s) (waiting (c .line)))) marksStruck only s
 
--- Release: "the holder's ends the floor; a waiting seat is struck off; others 23"
+-- Release: by the holder it ends the floor, by one in line it strikes it off; anybody else has nothing to release, 23.
 unfoldable pub releases : Core → Hall → ℕ → Step
 releases c h s =
     if holds (c .phase) s then floorEnds c h s
     else if waits c s then struckOff c s
     else refused c NotExpected
 
--- Queue Position Request: "Info with place and priority, or 255 and 0 for a seat not in line"
+-- Queue Position Request: the asker is told its place, whatever the phase and whoever it is.
 unfoldable pub asksPlace : Core → ℕ → Step
 asksPlace c s = done c sends infoOf (c .line) s ⇒ only s
 
--- Media: "from the holder in Taken, T1 runs on, T2 runs, T20 stops; from the holder in Revoking, nothing changes; others 23"
+-- Media: the holder talks, so T2 takes the place of whatever ran beside T1; once revoked, its talk changes nothing more; 23 for all else.
 unfoldable pub talks : Core → ℕ → Phase → Step
 talks c s (Taken e b) = if eqb (e .seat) s then done (c inPhase Taken e T2) else refused c NotExpected
 talks c s (Revoking e n) = if eqb (e .seat) s then done c else refused c NotExpected
@@ -86,7 +85,7 @@ placeFrom c who = heard c who (λ s. asksPlace c s)
 abbrev pub mediaFrom : Core → Caller → Step
 mediaFrom c who = heard c who (λ s. talks c s (c .phase))
 
--- "others, Ack included, get 23, after 21 and 22"
+-- A packet of any other type, an Ack too, is refused by 23, but only from a seat of a running call.
 abbrev pub otherFrom : Core → Caller → Step
 otherFrom c who = heard c who (λ s. refused c NotExpected)
 
@@ -101,8 +100,8 @@ step c h (Position x) = placeFrom c (callerOf c h x)
 step c h (Media x) = mediaFrom c (callerOf c h x)
 step c h (Other x) = otherFrom c (callerOf c h x)
 
--- Leave: "(22 only): a holder's ends the floor, a waiting seat is struck off, then the seat is free again. The leaver gets no message." So the
--- floor ends in the hall without the leaver.
+-- Leave asks only for a seat that is taken (22), in every phase. If it held the floor or waited, that ends first; what is then sent goes to those who
+-- stay, so the floor ends in the hall without the leaver.
 unfoldable pub leaves : Core → Hall → ℕ → Step
 leaves c h s =
     if holds (c .phase) s then floorEnds c (vacated h s) s

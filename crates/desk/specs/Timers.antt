@@ -1,5 +1,5 @@
 -- The timers of document 01, "The desk": which run, and what happens when one fires. Assumes nothing.
-use Prim.Native.Nat.{ℕ, _+_}
+use Prim.Native.Nat.{_+_}
 use mathlib.Core.Bool.{Bool, true, false}
 use mathlib.Core.List.{[]}
 use lib.Dec.{ltb}
@@ -40,7 +40,7 @@ runs r timer.T7 = r .t7
 runs r timer.T8 = r .t8
 runs r timer.T20 = r .t20
 
--- Stop: "the holder's floor ends with no one given it, all in line struck off, no messages, all timers stop, seats stay"
+-- Stop: whoever holds the floor has ended, the whole line is struck off, nothing is sent, and no timer runs any more.
 unfoldable pub halted : Core → Step
 halted c = done (c inPhase Stopped withLine lineOf []) marksStruck seatsOf (waiting (c .line))
 
@@ -50,34 +50,34 @@ stops c (Idle t7) = halted c
 stops c (Taken e b) = halted c marksEnded (e .seat)
 stops c (Revoking e n) = halted c marksEnded (e .seat)
 
--- T1, T3: "the floor ends"
+-- T1 and T3 end the holder's floor.
 unfoldable pub endsIn : Core → Hall → Phase → Step
 endsIn c h (Taken e b) = floorEnds c h (e .seat)
 endsIn c h (Revoking e n) = floorEnds c h (e .seat)
 endsIn c h (Idle t7) = refused c NotExpected
 endsIn c h Stopped = refused c NotExpected
 
--- T2: "Revoke #2, Revoking"
+-- T2: the holder talked too long, Revoke #2.
 unfoldable pub revokesIn : Core → Phase → Step
 revokesIn c (Taken e b) = revokes (done c) e 2
 revokesIn c (Revoking e n) = refused c NotExpected
 revokesIn c (Idle t7) = refused c NotExpected
 revokesIn c Stopped = refused c NotExpected
 
--- T7: "below its limit Idle again and C7 + 1; at the limit T7 stops"
+-- T7 sends Idle once more and C7 counts it, until C7 is at its limit: then T7 stops, and T4 runs on alone.
 unfoldable pub idleAgain : Core → Hall → Step
 idleAgain c h =
     if ltb (c .c7) (h .settings .c7) then done (numbered (c countingC7 (c .c7 + 1))) sends say.Idle (next (c .sequence)) ⇒ everybody h
     else done (c inPhase Idle false)
 
--- T8: "Revoke again with the same cause"
+-- T8 repeats the Revoke, with the cause that it had.
 unfoldable pub revokesAgain : Core → Phase → Step
 revokesAgain c (Revoking e n) = done c sends say.Revoke n ⇒ only (e .seat)
 revokesAgain c (Taken e b) = refused c NotExpected
 revokesAgain c (Idle t7) = refused c NotExpected
 revokesAgain c Stopped = refused c NotExpected
 
--- T20: "below its limit Granted again as in rule 1 and C20 + 1; at the limit the floor ends"
+-- T20 sends Granted once more, as rule 1 does, and C20 counts it, until C20 is at its limit: then the floor ends.
 unfoldable pub grantsOrEnds : Core → Hall → Entry → Step
 grantsOrEnds c h e = if ltb (c .c20) (h .settings .c20) then grantedAgain (c countingC20 (c .c20 + 1)) e else floorEnds c h (e .seat)
 
@@ -103,7 +103,7 @@ isStopped (Idle t7) = false
 isStopped (Taken e b) = false
 isStopped (Revoking e n) = false
 
--- 21 in Stopped; "one that isn't running gets 23"
+-- In a stopped call every timer is refused by 21; in a running one, those that do not run by 23.
 unfoldable pub expires : Core → Hall → Timer → Step
 expires c h t =
     if isStopped (c .phase) then refused c CallStopped

@@ -14,11 +14,8 @@ use rules::Phase;
 use rules::Report;
 use rules::Step;
 ghost use mathlib.Core.Path.{_≡_};
-ghost use Rattle.hall.specs.Seats.{effective};
-ghost use Rattle.rules.specs.Words.{refused};
-ghost use Rattle.rules.specs.Request.{request};
 ghost use Rattle.desk.specs.Timers.{running, runs, halted, stops, endsIn, revokesIn, idleAgain, revokesAgain, grantsOrEnds, grantsAgain, fires, isStopped, expires};
-ghost use Rattle.desk.specs.Events.{fresh, starts, callerOf, heard, struckOff, releases, asksPlace, talks, requestFrom, releaseFrom, placeFrom, mediaFrom, otherFrom, step, leaves, leave};
+ghost use Rattle.desk.specs.Events.{fresh, starts, callerOf, struckOff, releases, asksPlace, talks, requestFrom, releaseFrom, placeFrom, mediaFrom, otherFrom, step, leaves, leave};
 
 pub enum Timer {
     T1,

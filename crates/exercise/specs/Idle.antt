@@ -2,13 +2,12 @@
 -- is any function from a desk and an event to a step; it keeps row b of Thursday's exercise if what is seen of its step there is the table's.
 -- Assumes nothing.
 use Prim.Native.Nat.{ℕ}
-use mathlib.Core.Path.{_≡_, refl, ap, sym, _∙_}
+use mathlib.Core.Path.{_≡_, refl, ap, _∙_}
 use mathlib.Core.Bool.{Bool, true, false}
 use native.Mathlib.Omega.{arith}
 use Rattle.hall.specs.declared.Hall.{Hall}
 use Rattle.hall.specs.declared.Asked.the-variants.{Priority}
 use Rattle.hall.specs.declared.Answer.the-variants.{Done}
-use Rattle.hall.specs.Seats.{emptyHall}
 use Rattle.rules.specs.declared.Core.{Core}
 use Rattle.rules.specs.declared.Kind.{Kind}
 use Rattle.rules.specs.declared.Kind.the-variants as say

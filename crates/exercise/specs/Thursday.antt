@@ -17,7 +17,7 @@ use Rattle.hall.specs.declared.Answer.the-variants.{Done}
 use Rattle.hall.specs.Seats.{emptyHall, alone, effective, seatOf, freeSeat, withSeat}
 use Rattle.hall.specs.Identity.{octetsOf, nameOf, noNames, withName, same, seatNamed, lengthAllowed}
 use Rattle.hall.specs.Join.{ssrcTaken, seated, join}
-use Rattle.rules.specs.declared.Beside.the-variants.{NoMore, T2, T20}
+use Rattle.rules.specs.declared.Beside.the-variants.{NoMore, T20}
 use Rattle.rules.specs.declared.Phase.{Phase}
 use Rattle.rules.specs.declared.Phase.the-variants.{Idle, Taken, Revoking}
 use Rattle.rules.specs.declared.Kind.the-variants as say
@@ -35,9 +35,9 @@ use Rattle.desk.specs.declared.Timer.the-variants as timer
 use Rattle.desk.specs.declared.Left.{Left}
 use Rattle.desk.specs.Timers.{halted, stops, endsIn, revokesIn, idleAgain, revokesAgain, grantsOrEnds, grantsAgain, fires, expires}
 use Rattle.desk.specs.Events.{fresh, starts, callerOf, struckOff, releases, asksPlace, talks, step, leaves, leave}
-use Rattle.history.specs.Doing.{Desk, Doing, event, leaves as leaves-now, joins, made, does, after, afterAll, stepsOf}
+use Rattle.history.specs.Doing.{Desk, Doing, event, leaves as leaves-now, joins, made, does, afterAll, stepsOf}
 
--- "Level 200, line limit 2, C7 and C20 limits 2. Seats 0 to 3, highest priority 255; all but seat 3 queue."
+-- The paper's settings; four seats of highest priority 255, of which the last did not negotiate queueing.
 abbrev pub settings : Settings
 settings = record { ssrc = 1; level = 200; limit = 2; c7 = 2; c20 = 2; duration = 30 }
 

@@ -1,16 +1,16 @@
 -- Laws of the hall's definitions that the proofs of its functions cite. Assumes nothing.
 use Prim.Native.Nat.{ℕ, zero, suc, _+_, _-_, _≤_, _<_}
-use mathlib.Core.Path.{_≡_, refl, ap, sym, _∙_}
-use mathlib.Core.Bool.{Bool, true, false, not}
+use mathlib.Core.Path.{_≡_, refl, ap}
+use mathlib.Core.Bool.{Bool, true, false}
 use mathlib.Core.List.{List, [], _∷_}
 use native.Mathlib.Numerals.{add-one}
 use native.Mathlib.Omega.{arith}
 use lib.Dec.{eqb}
 use lib.ListN.{length, drop, getD, drop-of-length-le}
 use lib.Seq.{drop-cons}
-use Rattle.words.specs.Choice.{if_then_else_, if-yes, if-no, by-test}
+use Rattle.words.specs.Choice.{if-yes, if-no, by-test}
 use Rattle.hall.specs.declared.Found.the-variants.{At, Nowhere}
-use Rattle.hall.specs.Seats.{firstFrom, lowest, someone}
+use Rattle.hall.specs.Seats.{firstFrom, someone}
 use Rattle.hall.specs.Identity.{same}
 
 -- within a list the value past its end does not matter

@@ -17,6 +17,6 @@ number IdentityPresent = 26
 number SsrcPresent = 27
 number OutsideRange = 28
 
--- 28: "a setting outside its range"
+-- 28 for settings that no desk may have
 unfoldable pub settingsAnswer : Settings → Answer
 settingsAnswer s = if inRange s then Done else OutsideRange

@@ -1,7 +1,7 @@
 -- Identities: 1 to 62 octets, kept in an array of 62 with zeros behind them. Assumes nothing.
 use Prim.Native.Nat.{ℕ}
 use mathlib.Core.Bool.{Bool, true, false, _&&_}
-use mathlib.Core.List.{List, [], _∷_, _++_}
+use mathlib.Core.List.{List, [], _∷_}
 use lib.Dec.{leb, eqb}
 use lib.ListN.{length, take, getD, set, replicate}
 use Rattle.words.specs.Choice.{if_then_else_}

@@ -1,6 +1,6 @@
 -- Join, by document 01, "The desk": tests 25, 26, 27, 24 and takes the lowest free seat. Assumes nothing.
 use Prim.Native.Nat.{ℕ}
-use mathlib.Core.Bool.{Bool, true, false, not, _||_}
+use mathlib.Core.Bool.{Bool, true, false, not}
 use mathlib.Core.List.{List}
 use lib.Dec.{eqb}
 use Rattle.words.specs.Choice.{if_then_else_}

@@ -51,7 +51,7 @@ someone (b ∷ bs) = if b then true else someone bs
 unfoldable pub alone : Hall → ℕ → Bool
 alone h s = not (someone (others h s))
 
--- "The effective priority is the lower of the one asked and the seat's highest. No Floor Priority field counts as 0."
+-- The effective priority: what was asked, but at most the seat's highest. Who sends no Floor Priority field asks 0.
 abbrev pub asked : Asked → ℕ
 asked (Priority p) = p
 asked NoField = 0

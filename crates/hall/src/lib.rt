@@ -2,11 +2,10 @@
 // apart from the seats: no step of a running call reads one.
 ghost use mathlib.Core.Path.{_≡_};
 ghost use Prim.Native.Nat.{_≤_};
-ghost use mathlib.Core.Bool.{Bool, true, false, not, _&&_};
-ghost use lib.Dec.{eqb};
-ghost use lib.ListN.{length, getD, set, replicate};
-ghost use Rattle.hall.specs.Seats.{inRange, emptyHall, isPresent, queues, receivesOnly, only, others, alone, effective, hasSsrc, seatOf, freeSeat, withSeat, vacated, lower, asked};
-ghost use Rattle.hall.specs.Identity.{octetsOf, nameOf, noName, noNames, nameAt, withName, same, hasName, seatNamed, lengthAllowed};
+ghost use mathlib.Core.Bool.{true, false};
+ghost use lib.ListN.{length, getD, set};
+ghost use Rattle.hall.specs.Seats.{inRange, emptyHall, isPresent, queues, receivesOnly, only, others, alone, effective, hasSsrc, seatOf, freeSeat, withSeat, vacated};
+ghost use Rattle.hall.specs.Identity.{octetsOf, nameOf, noNames, nameAt, withName, same, hasName, seatNamed, lengthAllowed};
 ghost use Rattle.hall.specs.Answers.{number, settingsAnswer};
 ghost use Rattle.hall.specs.Join.{join, seated, notJoined, ssrcTaken};
 

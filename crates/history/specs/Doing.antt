@@ -10,8 +10,6 @@ use Rattle.hall.specs.Seats.{emptyHall}
 use Rattle.hall.specs.Identity.{noNames}
 use Rattle.hall.specs.Join.{join}
 use Rattle.rules.specs.declared.Core.{Core}
-use Rattle.rules.specs.declared.Step.{Step}
-use Rattle.rules.specs.declared.Report.{Report}
 use Rattle.rules.specs.Words.{answered}
 use Rattle.desk.specs.declared.Event.{Event}
 use Rattle.desk.specs.declared.Left.{Left}

@@ -2,13 +2,11 @@
 use Prim.Native.Nat.{ℕ, zero, suc, _+_, _≤_, _<_, _-_, min}
 use mathlib.Core.Path.{_≡_, refl, ap, sym, _∙_}
 use mathlib.Core.Bool.{Bool, true, false}
-use mathlib.Core.List.{List, [], _∷_, _++_, append-assoc, append-nil}
+use mathlib.Core.List.{List, [], _∷_, _++_, append-nil}
 use native.Mathlib.Numerals.{add-one}
 use native.Mathlib.Omega.{arith}
-use lib.ListN.{length, take, drop, getD, set, replicate, length-take, length-append, length-replicate, length-set, length-drop, drop-of-length-le, List·getD-append, List·getD-eq-default}
-use lib.Dec.{eqb}
-use borrow.Author.Tests.{eqb-true, eqb-false}
-use lib.Seq.{drop-cons, take-suc, take-all, take-take, take-append-seam, take-set-lt, set-at, getD-append-add, getD-take, getD-drop, getD-at, ext-getD, getD-set-same, getD-set-other}
+use lib.ListN.{length, take, drop, getD, set, replicate, length-take, length-append, length-drop, drop-of-length-le, List·getD-append}
+use lib.Seq.{drop-cons, take-suc, take-all, take-take, take-append-seam, take-set-lt, getD-append-add, getD-take, getD-drop, getD-at}
 use Rattle.words.specs.Choice.{if_then_else_, if-yes, if-no, by-test}
 use Rattle.words.specs.Table as table
 use Rattle.line.specs.declared.Entry.{Entry}

@@ -1,15 +1,14 @@
 -- The floor's account: in every step of every desk, whoever held the floor or was given it holds it now or has the ended mark. Assumes nothing.
 use Prim.Native.Nat.{ℕ, _+_}
-use mathlib.Core.Path.{_≡_, refl, ap, sym, _∙_}
+use mathlib.Core.Path.{_≡_, refl, ap}
 use mathlib.Core.Bool.{Bool, true, false, not, _&&_}
 use mathlib.Core.List.{List, [], _∷_}
 use native.Mathlib.Omega.{arith}
 use lib.Dec.{eqb}
 use borrow.Author.Tests.{eqb-true}
-use Rattle.words.specs.Choice.{if_then_else_, by-test}
+use Rattle.words.specs.Choice.{by-test}
 use Rattle.history.specs.Cases.{by-if}
 use Rattle.line.specs.declared.Entry.{Entry}
-use Rattle.line.specs.declared.Line.{Line}
 use Rattle.line.specs.Line.{waiting}
 use Rattle.hall.specs.declared.Hall.{Hall}
 use Rattle.hall.specs.declared.Answer.{Answer}
@@ -21,9 +20,9 @@ use Rattle.rules.specs.declared.Core.{Core}
 use Rattle.rules.specs.declared.Step.{Step}
 use Rattle.rules.specs.declared.Beside.{Beside}
 use Rattle.rules.specs.declared.Beside.the-variants.{NoMore, T2, T20}
-use Rattle.rules.specs.declared.Mark.the-variants.{NoSeat, Seat}
+use Rattle.rules.specs.declared.Mark.the-variants.{NoSeat}
 use Rattle.rules.specs.declared.Given.the-variants.{NotGiven}
-use Rattle.rules.specs.Words.{answered, isNothing, _inPhase_, _withLine_, _countingC20_}
+use Rattle.rules.specs.Words.{answered, isNothing, _inPhase_, _countingC20_}
 use Rattle.rules.specs.Floor.{holds, given, givenAtOnce, givenOutOfLine, entersIdle, passesOn, floorEnds, revokes}
 use Rattle.rules.specs.Request.{isIdle, entry, waits, full, presses, denied, holderAsks, informed, pressed, rule6, asksAgain, placed, grantedAgain, request}
 use Rattle.desk.specs.declared.Event.{Event}
@@ -35,8 +34,8 @@ use Rattle.desk.specs.declared.Timer.{Timer}
 use Rattle.desk.specs.declared.Timer.the-variants as timer
 use Rattle.desk.specs.Timers.{halted, stops, endsIn, revokesIn, idleAgain, revokesAgain, grantsOrEnds, grantsAgain, fires, isStopped, runs, running, expires}
 use Rattle.desk.specs.Events.{starts, callerOf, heard, struckOff, releases, asksPlace, talks, step, leaves, leave}
-use Rattle.history.specs.Doing.{Desk, Doing, event, leaves as leaves-now, joins, does, after}
-use Rattle.marks.specs.Marks.{one, isSeat, isGiven, FloorCounts}
+use Rattle.history.specs.Doing.{Desk, Doing, event, leaves as leaves-now, joins, does}
+use Rattle.marks.specs.Marks.{one, isGiven, FloorCounts}
 
 -- a step's account of one seat, from the core it began with
 unfoldable pub Counts : Core → ℕ → Step → Type 0

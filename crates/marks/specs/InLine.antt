@@ -1,16 +1,16 @@
 -- Who is in line after an entry, after striking off, and who is in the set of those in line. Assumes nothing.
-use Prim.Native.Nat.{ℕ, zero, suc, _+_, _≤_, _<_}
+use Prim.Native.Nat.{ℕ, zero, suc, _≤_, _<_}
 use mathlib.Core.Path.{_≡_, refl, ap, sym, _∙_}
 use mathlib.Core.Bool.{Bool, true, false, not, _&&_, _||_}
 use mathlib.Core.List.{List, [], _∷_, _++_}
 use native.Mathlib.Omega.{arith}
-use lib.Dec.{eqb, ltb, leb·suc-suc}
-use lib.ListN.{length, take, drop, getD, set, replicate, length-append, length-set, length-replicate, take-append-drop, List·getD-eq-default}
+use lib.Dec.{eqb, leb·suc-suc}
+use lib.ListN.{length, take, drop, getD, set, replicate, length-set, length-replicate, take-append-drop}
 use lib.Seq.{getD-set-same, getD-set-other}
-use borrow.Author.Tests.{eqb-true, eqb-false, eq-eqb, ne-eqb, lt-ltb}
+use borrow.Author.Tests.{eqb-true, eqb-false, eq-eqb, lt-ltb}
 use Rattle.words.specs.Choice.{if_then_else_, by-test}
 use Rattle.line.specs.declared.Entry.{Entry}
-use Rattle.line.specs.Line.{before, leading, isOther, isIn, enter, ahead, without, added, seatsOf, nobody}
+use Rattle.line.specs.Line.{before, leading, isOther, isIn, enter, ahead, without, added}
 use Rattle.hall.specs.Seats.{only}
 
 pub in-nil : (s : ℕ) → isIn s [] ≡ false

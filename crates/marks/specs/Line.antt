@@ -3,12 +3,12 @@
 use Prim.Native.Nat.{ℕ, zero, suc, _+_, _≤_, _<_}
 use mathlib.Core.Path.{_≡_, refl, ap, sym, _∙_}
 use mathlib.Core.Bool.{Bool, true, false, not, _&&_, _||_}
-use mathlib.Core.List.{List, [], _∷_, _++_}
+use mathlib.Core.List.{List, [], _∷_}
 use native.Mathlib.Omega.{arith}
-use lib.Dec.{eqb, leb}
+use lib.Dec.{eqb}
 use lib.ListN.{length, getD, replicate}
-use borrow.Author.Tests.{eqb-true, eqb-false, eq-eqb, leb-false}
-use Rattle.words.specs.Choice.{if_then_else_, by-test}
+use borrow.Author.Tests.{eqb-true, eq-eqb, leb-false}
+use Rattle.words.specs.Choice.{by-test}
 use Rattle.history.specs.Cases.{by-if}
 use Rattle.line.specs.declared.Entry.{Entry}
 use Rattle.line.specs.declared.Line.{Line}
@@ -16,20 +16,19 @@ use Rattle.line.specs.Line.{waiting, lineOf, isIn, enter, ahead, without, seats
 use Rattle.line.proofs.Laws.{waiting-lineOf, without-le, put-length, ahead-le}
 use Rattle.hall.specs.declared.Hall.{Hall}
 use Rattle.hall.specs.declared.Answer.{Answer}
-use Rattle.hall.specs.declared.Answer.the-variants.{Done, NoSuchSeat, CallStopped, NotExpected}
+use Rattle.hall.specs.declared.Answer.the-variants.{NoSuchSeat}
 use Rattle.hall.specs.Seats.{only, alone, queues, receivesOnly, effective, isPresent, vacated}
 use Rattle.hall.specs.Join.{join}
-use Rattle.rules.specs.declared.Beside.the-variants.{NoMore, T2, T20}
+use Rattle.rules.specs.declared.Beside.the-variants.{T2, T20}
 use Rattle.rules.specs.declared.Mark.the-variants.{NoSeat, Seat}
-use Rattle.rules.specs.declared.Given.the-variants.{NotGiven}
 use Rattle.rules.specs.declared.Marks.{Marks}
 use Rattle.rules.specs.declared.Phase.{Phase}
 use Rattle.rules.specs.declared.Phase.the-variants.{Stopped, Idle, Taken, Revoking}
 use Rattle.rules.specs.declared.Core.{Core}
 use Rattle.rules.specs.declared.Step.{Step}
-use Rattle.rules.specs.Words.{answered, isNothing, noMarks, _inPhase_, _withLine_, _countingC20_}
+use Rattle.rules.specs.Words.{answered, isNothing, noMarks, _withLine_}
 use Rattle.rules.specs.Floor.{holds, given, givenAtOnce, givenOutOfLine, entersIdle, passesOn, floorEnds, revokes}
-use Rattle.rules.specs.Request.{isIdle, entry, waits, full, presses, denied, holderAsks, informed, pressed, rule6, moved, asksAgain, placed, grantedAgain, request}
+use Rattle.rules.specs.Request.{isIdle, entry, waits, full, presses, denied, holderAsks, informed, pressed, rule6, moved, asksAgain, placed, request}
 use Rattle.desk.specs.declared.Event.{Event}
 use Rattle.desk.specs.declared.Event.the-variants.{Start, Stop, Expiry, Request, Release, Position, Media, Other}
 use Rattle.desk.specs.declared.Left.{Left}
@@ -40,7 +39,7 @@ use Rattle.desk.specs.declared.Timer.the-variants as timer
 use Rattle.desk.specs.Timers.{halted, stops, endsIn, revokesIn, idleAgain, revokesAgain, grantsOrEnds, grantsAgain, fires, isStopped, runs, running, expires}
 use Rattle.desk.specs.Events.{starts, callerOf, heard, struckOff, releases, asksPlace, talks, step, leaves, leave}
 use Rattle.history.specs.Doing.{Desk, Doing, event, leaves as leaves-now, joins, does}
-use Rattle.marks.specs.Marks.{one, isSeat, isOut, LineCounts}
+use Rattle.marks.specs.Marks.{one, isOut, LineCounts}
 use Rattle.marks.specs.InLine.{in-nil, in-cons, in-enter, in-without, only-at, without-less, in-added}
 
 -- what the account asks of a desk: fifteen places, a limit that they hold, and seats that there are

@@ -1,24 +1,22 @@
 -- The seats stay different from each other, and a free seat stays empty, when somebody joins or leaves. Assumes nothing.
 use Prim.Native.Nat.{ℕ, zero, suc, _+_, _≤_, _<_}
 use mathlib.Core.Path.{_≡_, refl, ap, sym, _∙_}
-use mathlib.Core.Bool.{Bool, true, false, not, _&&_, _||_}
-use mathlib.Core.List.{List, [], _∷_}
+use mathlib.Core.Bool.{Bool, true, false, _&&_}
+use mathlib.Core.List.{List}
 use native.Mathlib.Omega.{arith}
 use lib.Dec.{eqb, leb}
-use lib.ListN.{length, getD, set, length-set, replicate}
+use lib.ListN.{length, getD, set, length-set}
 use lib.Seq.{getD-set-same, getD-set-other}
-use borrow.Author.Tests.{eqb-true, eqb-false, eq-eqb, ne-eqb, leb-true, leb-false, not-true}
+use borrow.Author.Tests.{eqb-true, eqb-false, leb-true}
 use Rattle.words.specs.Choice.{if_then_else_, if-yes, if-no, by-test}
-use Rattle.history.specs.Cases.{by-if}
 use Rattle.hall.specs.declared.Hall.{Hall}
 use Rattle.hall.specs.declared.Settings.{Settings}
 use Rattle.hall.specs.declared.Name.{Name}
 use Rattle.hall.specs.declared.Names.{Names}
 use Rattle.hall.specs.declared.Newcomer.{Newcomer}
-use Rattle.hall.specs.declared.Found.{Found}
 use Rattle.hall.specs.declared.Found.the-variants.{At, Nowhere}
-use Rattle.hall.specs.Seats.{isPresent, hasSsrc, seatOf, freeSeat, firstFrom, withSeat, vacated}
-use Rattle.hall.specs.Identity.{octetsOf, nameOf, noName, nameAt, withName, same, hasName, seatNamed, lengthAllowed}
+use Rattle.hall.specs.Seats.{isPresent, firstFrom, withSeat}
+use Rattle.hall.specs.Identity.{octetsOf, nameOf, noName, nameAt, withName, same, lengthAllowed}
 use Rattle.hall.specs.Seats.{noOne, inRange}
 use Rattle.reach.specs.InLine.{clash}
 use Rattle.reach.specs.Sound.{HallOk, SeatsOk}

@@ -1,21 +1,20 @@
 -- A line stays highest first, with nobody twice, when an entry goes in and when seats are struck off. Assumes nothing.
-use Prim.Native.Nat.{ℕ, zero, suc, _+_, _≤_, _<_}
+use Prim.Native.Nat.{ℕ, _+_, _≤_, _<_}
 use mathlib.Core.Path.{_≡_, refl, ap, sym, _∙_}
-use mathlib.Core.Bool.{Bool, true, false, not, _&&_, _||_}
-use mathlib.Core.List.{List, [], _∷_, _++_}
+use mathlib.Core.Bool.{Bool, true, false, _&&_, _||_}
+use mathlib.Core.List.{List, [], _∷_}
 use native.Mathlib.Omega.{arith}
 use lib.Dec.{eqb, leb}
-use lib.ListN.{length, take, drop, getD, List·getD-eq-default}
-use borrow.Author.Tests.{eqb-true, eqb-false, eq-eqb, leb-true, leb-false}
+use lib.ListN.{length, getD, List·getD-eq-default}
+use borrow.Author.Tests.{eqb-true, eq-eqb, leb-true, leb-false}
 use Rattle.words.specs.Choice.{if_then_else_, by-test}
 use Rattle.history.specs.Cases.{by-if}
 use Rattle.line.specs.declared.Entry.{Entry}
-use Rattle.line.specs.declared.Line.{Line}
-use Rattle.line.specs.Line.{waiting, lineOf, isIn, enter, ahead, atLeast, leading, without}
+use Rattle.line.specs.Line.{waiting, lineOf, isIn, enter, ahead, without}
 use Rattle.line.proofs.Laws.{waiting-lineOf, without-le, put-length, ahead-le}
 use Rattle.hall.specs.declared.Hall.{Hall}
-use Rattle.hall.specs.Seats.{isPresent, only}
-use Rattle.marks.specs.InLine.{in-nil, in-cons, in-enter, in-without, only-at, without-less}
+use Rattle.hall.specs.Seats.{isPresent}
+use Rattle.marks.specs.InLine.{in-nil, in-cons, in-enter, in-without}
 use Rattle.reach.specs.Sound.{AtMost, Sorted, Once, ListOk, LineOk, HallOk}
 
 pub clash {ℓ} : {A : Type ℓ} {b : Bool} → b ≡ true → b ≡ false → A

@@ -1,48 +1,43 @@
 -- A fresh desk is sound, and whatever happens keeps it so. Assumes nothing.
-use Prim.Native.Nat.{ℕ, zero, suc, _+_, _≤_, _<_}
+use Prim.Native.Nat.{ℕ, zero, suc, _≤_, _<_}
 use mathlib.Core.Path.{_≡_, refl, ap, sym, _∙_}
-use mathlib.Core.Bool.{Bool, true, false, not, _&&_, _||_}
+use mathlib.Core.Bool.{Bool, true, false, not, _&&_}
 use mathlib.Core.List.{List, [], _∷_, _++_}
 use native.Mathlib.Omega.{arith}
-use lib.Dec.{eqb, leb, ltb}
-use lib.ListN.{length, take, getD, replicate}
+use lib.Dec.{eqb, leb}
+use lib.ListN.{length, getD, replicate}
 use lib.Seq.{take-take, take-append-seam}
-use borrow.Author.Tests.{eqb-true, eqb-false, eq-eqb, ne-eqb, leb-true, ltb-true, not-true, not-false}
+use borrow.Author.Tests.{eqb-true, eqb-false, eq-eqb, ne-eqb, leb-true, not-false}
 use Rattle.words.specs.Choice.{if_then_else_, if-yes, if-no, by-test}
 use Rattle.history.specs.Cases.{by-if}
 use Rattle.line.specs.Line.{waiting, lineOf, isIn, without}
 use Rattle.line.proofs.Laws.{waiting-lineOf}
 use Rattle.hall.specs.declared.Settings.{Settings}
 use Rattle.hall.specs.declared.Hall.{Hall}
-use Rattle.hall.specs.declared.Name.{Name}
 use Rattle.hall.specs.declared.Names.{Names}
 use Rattle.hall.specs.declared.Newcomer.{Newcomer}
 use Rattle.hall.specs.declared.Joined.{Joined}
 use Rattle.hall.specs.declared.Found.{Found}
 use Rattle.hall.specs.declared.Found.the-variants.{At, Nowhere}
-use Rattle.hall.specs.declared.Answer.{Answer}
-use Rattle.hall.specs.declared.Answer.the-variants.{Done, NoSuchSeat, IdentityLength, IdentityPresent, SsrcPresent, AllSeatsTaken}
-use Rattle.hall.specs.Seats.{inRange, emptyHall, isPresent, only, hasSsrc, seatOf, freeSeat, firstFrom, withSeat, vacated, noOne}
+use Rattle.hall.specs.Seats.{inRange, emptyHall, isPresent, only, hasSsrc, seatOf, freeSeat, withSeat, vacated, noOne}
 use Rattle.hall.specs.Identity.{octetsOf, nameOf, noName, noNames, nameAt, withName, same, hasName, seatNamed, lengthAllowed}
-use Rattle.hall.specs.Join.{isAt, ssrcTaken, notJoined, seated, join}
+use Rattle.hall.specs.Join.{isAt, ssrcTaken, seated, join}
 use Rattle.rules.specs.declared.Phase.{Phase}
-use Rattle.rules.specs.declared.Phase.the-variants.{Stopped}
 use Rattle.rules.specs.declared.Core.{Core}
 use Rattle.rules.specs.declared.Step.{Step}
-use Rattle.rules.specs.Words.{answered}
-use Rattle.rules.specs.Floor.{holds, floorEnds}
+use Rattle.rules.specs.Floor.{holds}
 use Rattle.rules.specs.Request.{waits}
 use Rattle.desk.specs.declared.Left.{Left}
-use Rattle.desk.specs.Events.{fresh, struckOff, step, left, leaves, leave}
+use Rattle.desk.specs.Events.{fresh, struckOff, leaves, leave}
 use Rattle.marks.specs.Marks.{FloorCounts, LineCounts}
 use Rattle.marks.specs.Floor.{floor-counts}
 use Rattle.marks.specs.Line.{Fit, line-counts}
-use Rattle.marks.specs.InLine.{in-nil, in-without, only-at}
-use Rattle.history.specs.Doing.{Desk, Doing, event, leaves as leaves-now, joins, made, does, deskOf, after, afterAll, joined}
-use Rattle.reach.specs.Sound.{ListOk, LineOk, FloorOk, NumbersOk, HallOk, CoreOk, SeatsOk, Sound}
+use Rattle.marks.specs.InLine.{in-without, only-at}
+use Rattle.history.specs.Doing.{Desk, Doing, event, leaves as leaves-now, joins, made, does, deskOf, after, afterAll}
+use Rattle.reach.specs.Sound.{ListOk, LineOk, NumbersOk, HallOk, CoreOk, SeatsOk, Sound}
 use Rattle.reach.specs.InLine.{clash, none-ok, line-ok, without-ok, present-below}
 use Rattle.reach.specs.Steps.{Ok, ends, strikes, steps}
-use Rattle.reach.specs.Hall.{found-holds, none-holds, hall-ok, NewOk, seats-kept, present-there, present-else}
+use Rattle.reach.specs.Hall.{found-holds, none-holds, hall-ok, seats-kept, present-there, present-else}
 
 -- a column that is one value throughout
 all {ℓ} : {A : Type ℓ} (a : A) (n i : ℕ) → getD (replicate n a) i a ≡ a

@@ -1,20 +1,18 @@
 -- Every step keeps a core right. Assumes nothing.
-use Prim.Native.Nat.{ℕ, zero, suc, _+_, _≤_, _<_}
+use Prim.Native.Nat.{ℕ, zero, suc, _+_, _<_}
 use mathlib.Core.Path.{_≡_, refl, ap, sym, _∙_}
 use mathlib.Core.Bool.{Bool, true, false, not, _&&_, _||_}
 use mathlib.Core.List.{List, [], _∷_}
 use native.Mathlib.Omega.{arith}
-use lib.Dec.{eqb, leb, ltb}
+use lib.Dec.{eqb, ltb}
 use lib.ListN.{length, getD}
 use borrow.Author.Tests.{eqb-true, eq-eqb, leb-false, ltb-true}
-use Rattle.words.specs.Choice.{if_then_else_, if-yes, if-no, by-test}
+use Rattle.words.specs.Choice.{if-yes, if-no, by-test}
 use Rattle.history.specs.Cases.{by-if}
 use Rattle.line.specs.declared.Entry.{Entry}
-use Rattle.line.specs.declared.Line.{Line}
 use Rattle.line.specs.Line.{waiting, lineOf, isIn, enter, without}
 use Rattle.line.proofs.Laws.{waiting-lineOf}
 use Rattle.hall.specs.declared.Hall.{Hall}
-use Rattle.hall.specs.declared.Asked.{Asked}
 use Rattle.hall.specs.declared.Answer.{Answer}
 use Rattle.hall.specs.declared.Answer.the-variants.{Done, CallStopped}
 use Rattle.hall.specs.declared.Found.{Found}
@@ -28,7 +26,7 @@ use Rattle.rules.specs.declared.Core.{Core}
 use Rattle.rules.specs.declared.Step.{Step}
 use Rattle.rules.specs.Words.{next, answered, _inPhase_, _withLine_, _countingC20_}
 use Rattle.rules.specs.Floor.{holds, given, givenAtOnce, givenOutOfLine, entersIdle, passesOn, floorEnds, revokes}
-use Rattle.rules.specs.Request.{isIdle, entry, waits, full, presses, denied, holderAsks, informed, pressed, rule6, moved, asksAgain, placed, grantedAgain, request}
+use Rattle.rules.specs.Request.{isIdle, entry, waits, full, presses, denied, holderAsks, informed, pressed, rule6, asksAgain, placed, grantedAgain, request}
 use Rattle.desk.specs.declared.Event.{Event}
 use Rattle.desk.specs.declared.Event.the-variants.{Start, Stop, Expiry, Request, Release, Position, Media, Other}
 use Rattle.desk.specs.declared.Caller.{Caller}

@@ -8,7 +8,7 @@ use Rattle.line.specs.Line.{waiting, lineOf, without}
 use Rattle.hall.specs.declared.Hall.{Hall}
 use Rattle.hall.specs.Seats.{only, everybody, others}
 use Rattle.rules.specs.declared.Beside.{Beside}
-use Rattle.rules.specs.declared.Beside.the-variants.{NoMore, T2, T20}
+use Rattle.rules.specs.declared.Beside.the-variants.{NoMore, T20}
 use Rattle.rules.specs.declared.Phase.{Phase}
 use Rattle.rules.specs.declared.Phase.the-variants.{Stopped, Idle, Taken, Revoking}
 use Rattle.rules.specs.declared.Core.{Core}
@@ -24,8 +24,8 @@ holds (Idle t7) s = false
 holds (Taken e b) s = eqb (e .seat) s
 holds (Revoking e n) s = eqb (e .seat) s
 
--- "Given: Granted (Duration, effective priority) to it, Taken (its identity, permission 1, sequence number) to all others; phase Taken, T1
--- runs; T20 too with C20 at 1 if out of the line."
+-- Given: Granted goes to the new holder and Taken to everybody else; it has the phase Taken, where T1 runs. Out of the line T20 runs beside it, and
+-- C20 begins to count.
 unfoldable pub given : Core → Hall → Entry → Beside → Step
 given c h e b =
     done (numbered (c inPhase Taken e b))
@@ -38,11 +38,12 @@ givenAtOnce c h e = given c h e NoMore marksGiven AtOnce (e .seat)
 unfoldable pub givenOutOfLine : Core → Hall → Entry → Step
 givenOutOfLine c h e = given (c countingC20 1) h e T20 marksGiven OutOfLine (e .seat)
 
--- "Idle goes to all, T4 and T7 run, C7 is 1"
+-- Entering Idle: Idle goes to everybody, both of its timers run, and C7 begins to count.
 unfoldable pub entersIdle : Core → Hall → Step
 entersIdle c h = done (numbered (c inPhase Idle true countingC7 1)) sends say.Idle (next (c .sequence)) ⇒ everybody h
 
--- "The floor ends: ended mark; the head of the line leaves it and is given the floor, even if alone; with no line, Idle .."
+-- The floor ends: the holder has the ended mark. Who stands at the head of the line leaves it and is next, be there company or not; if nobody
+-- waits, the call is idle.
 unfoldable pub passesOn : Core → Hall → List Entry → Step
 passesOn c h [] = entersIdle c h
 passesOn c h (e ∷ es) = givenOutOfLine (c withLine lineOf (without (only (e .seat)) (e ∷ es))) h e
@@ -50,6 +51,6 @@ passesOn c h (e ∷ es) = givenOutOfLine (c withLine lineOf (without (only (e .s
 unfoldable pub floorEnds : Core → Hall → ℕ → Step
 floorEnds c h s = passesOn c h (waiting (c .line)) marksEnded s
 
--- a Revoke to the holder: "On entering Revoking T3 and T8 start, T2 and T20 stop, T1 runs on."
+-- Entering Revoking: a Revoke to the holder. The phase says the rest: of the timers of Taken only T1 is left, and T3 and T8 run with it.
 unfoldable pub revokes : Step → Entry → ℕ → Step
 revokes r e cause = r turns Revoking e cause sends say.Revoke cause ⇒ only (e .seat)

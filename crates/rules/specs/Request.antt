@@ -1,8 +1,7 @@
 -- Request, rules 1 to 6 of document 01, "The desk". The call is running and the seat is known; `p` is the effective priority. Assumes nothing.
 use Prim.Native.Nat.{ℕ, _+_}
 use mathlib.Core.Bool.{Bool, true, false, not, _&&_}
-use mathlib.Core.List.{List}
-use lib.Dec.{leb, ltb, eqb}
+use lib.Dec.{leb, eqb}
 use lib.ListN.{length, getD}
 use Rattle.words.specs.Choice.{if_then_else_}
 use Rattle.line.specs.declared.Entry.{Entry}
@@ -39,7 +38,7 @@ priorityIn l s = getD (waiting l) (before s (waiting l)) empty .priority
 unfoldable pub full : Core → Hall → Bool
 full c h = leb (h .settings .limit) (length (waiting (c .line)))
 
--- a request presses "if it is at or above the pre-emptive level and neither the holder nor another in line is"
+-- A request presses if it reaches the pre-emptive level, and no one else does: not the holder, and no other seat in line.
 abbrev pub holderAtLeast : ℕ → Phase → Bool
 holderAtLeast level Stopped = false
 holderAtLeast level (Idle t7) = false
@@ -58,7 +57,7 @@ denied c s cause = done c sends say.Deny cause ⇒ only s
 unfoldable pub infoOf : Line → ℕ → Kind
 infoOf l s = if isIn s (waiting l) then say.Info (before s (waiting l) + 1) (priorityIn l s) else say.Info 255 0
 
--- 1. "Holder in Taken: Granted again, with the priority it was given at, which stays; no given mark. Holder in Revoking: 23."
+-- 1. A holder that asks again is granted what it has, at the priority it has it at, and nothing is given anew; in Revoking it is refused, 23.
 abbrev pub grantedAgain : Core → Entry → Step
 grantedAgain c e = done c sends say.Granted (e .priority) ⇒ only (e .seat)
 
@@ -68,7 +67,7 @@ holderAsks c (Revoking e n) = refused c NotExpected
 holderAsks c (Idle t7) = refused c NotExpected
 holderAsks c Stopped = refused c NotExpected
 
--- 6. "a seat that negotiated queueing gets Queue Position Info .. Then, if it presses and the phase is Taken: Revoke #4 to the holder, Revoking."
+-- 6. Info tells the asker its place, if it negotiated queueing. A press then takes the floor from a holder in Taken, by Revoke #4.
 unfoldable pub informed : Core → Hall → ℕ → Step
 informed c h s = if queues h s then done c sends infoOf (c .line) s ⇒ only s else done c
 
@@ -81,7 +80,7 @@ pressed r Stopped press = r
 unfoldable pub rule6 : Core → Hall → ℕ → Bool → Step
 rule6 c h s press = pressed (informed c h s) (c .phase) press
 
--- 4. "a changed priority moves it behind all of at least the new priority; the same priority keeps its place. No placed mark."
+-- 4. Who waits and asks at another priority is taken out and goes in again, behind its new equals; at the same priority it stays where it is.
 abbrev pub moved : Line → Entry → Line
 moved l e = lineOf (enter e (without (only (e .seat)) (waiting l)))
 
@@ -89,7 +88,7 @@ unfoldable pub asksAgain : Core → Hall → ℕ → ℕ → Bool → Step
 asksAgain c h s p press =
     if eqb (priorityIn (c .line) s) p then rule6 c h s press else rule6 (c withLine moved (c .line) (entry s p)) h s press
 
--- 5. "then it is placed"
+-- 5. A newcomer goes into the line and has the placed mark.
 unfoldable pub placed : Core → Hall → ℕ → ℕ → Bool → Step
 placed c h s p press = rule6 (c withLine lineOf (enter (entry s p) (waiting (c .line)))) h s press marksPlaced s
 

@@ -4,8 +4,6 @@ use Prim.Native.Nat.{ℕ, _+_, _%_}
 use mathlib.Core.Bool.{Bool, true, false}
 use mathlib.Core.List.{List}
 use lib.ListN.{replicate}
-use Rattle.words.specs.Choice.{if_then_else_}
-use Rattle.line.specs.declared.Entry.{Entry}
 use Rattle.line.specs.declared.Line.{Line}
 use Rattle.hall.specs.declared.Answer.{Answer}
 use Rattle.hall.specs.declared.Answer.the-variants.{Done}
@@ -14,7 +12,6 @@ use Rattle.rules.specs.declared.Core.{Core}
 use Rattle.rules.specs.declared.Kind.{Kind}
 use Rattle.rules.specs.declared.Kind.the-variants as say
 use Rattle.rules.specs.declared.Message.{Message}
-use Rattle.rules.specs.declared.Mark.{Mark}
 use Rattle.rules.specs.declared.Mark.the-variants.{NoSeat, Seat}
 use Rattle.rules.specs.declared.Given.{Given}
 use Rattle.rules.specs.declared.Given.the-variants.{NotGiven}
@@ -38,7 +35,7 @@ c countingC7 n = record { phase = c .phase; line = c .line; sequence = c .sequen
 abbrev pub _countingC20_ : Core → ℕ → Core
 c countingC20 n = record { phase = c .phase; line = c .line; sequence = c .sequence; c7 = c .c7; c20 = n }
 
--- "adds 1 to the sequence number modulo 65,536"
+-- the sequence number after one more message, of 16 bits
 unfoldable pub next : ℕ → ℕ
 next n = (n + 1) % 65536
 

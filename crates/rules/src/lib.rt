@@ -5,12 +5,11 @@ use hall::Hall;
 use line::Entry;
 use line::Line;
 ghost use mathlib.Core.Path.{_≡_};
-ghost use mathlib.Core.Bool.{Bool, true, false};
+ghost use mathlib.Core.Bool.{true, false};
 ghost use Rattle.line.specs.Line.{waiting};
-ghost use Rattle.hall.specs.Seats.{only};
-ghost use Rattle.rules.specs.Words.{_inPhase_, _withLine_, next, numbered, _⇒_, silence, isNothing, answered, done, refused, _turns_, _sends_, _marksPlaced_, _marksStruck_, _marksEnded_, _marksGiven_, marked};
+ghost use Rattle.rules.specs.Words.{_inPhase_, _withLine_, next, _⇒_, isNothing, answered, _sends_, _marksPlaced_, _marksStruck_, _marksEnded_, _marksGiven_, marked};
 ghost use Rattle.rules.specs.Floor.{holds, given, givenAtOnce, givenOutOfLine, entersIdle, passesOn, floorEnds, revokes};
-ghost use Rattle.rules.specs.Request.{isIdle, waits, priorityIn, full, holderAtLeast, presses, denied, infoOf, grantedAgain, holderAsks, informed, pressed, rule6, moved, asksAgain, placed, idleRequest, placedUnlessFull, rule5, request};
+ghost use Rattle.rules.specs.Request.{isIdle, waits, priorityIn, full, holderAtLeast, presses, denied, infoOf, grantedAgain, holderAsks, informed, pressed, rule6, asksAgain, placed, idleRequest, placedUnlessFull, rule5, request};
 
 // What runs in Taken beside T1.
 pub enum Beside {
