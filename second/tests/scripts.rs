@@ -43,21 +43,21 @@ fn refusals(order: Order) -> BTreeMap<u8, usize> {
 
 #[test]
 fn every_refusal_is_reached_within_5000_lines() {
-    // What was read can be written, so no command of issue 7 gets 12; `write` does.
-    let by_issue_7 = (1..=11).chain([13]).chain(21..=28).chain(41..=45);
-    let by_issue_7: Vec<u8> = by_issue_7.collect();
+    // What was read can be written, so no command but `write` gets 12.
+    let without_write = (1..=11).chain([13]).chain(21..=28).chain(41..=45);
+    let without_write: Vec<u8> = without_write.collect();
     for seed in 0..12 {
         let counts = refusals(order(seed, 5_000));
         assert_eq!(
             counts.keys().copied().collect::<Vec<_>>(),
-            by_issue_7,
+            without_write,
             "seed {seed}"
         );
         let counts = refusals(Order {
             write: true,
             ..order(seed, 5_000)
         });
-        assert_eq!(counts.len(), by_issue_7.len() + 1, "seed {seed}");
+        assert_eq!(counts.len(), without_write.len() + 1, "seed {seed}");
         assert!(counts.contains_key(&12), "seed {seed}");
     }
 }

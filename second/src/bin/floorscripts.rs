@@ -9,7 +9,7 @@ const USAGE: &str = "usage: floorscripts SEED COUNT [wrap] [write]
   SEED   a number that the whole script depends on
   COUNT  how many lines are to be answered, or a few more
   wrap   take the sequence number past 65,535 (done anyway from 100,000 lines on)
-  write  use the write command too, which is not among those of issue 7";
+  write  use the write command too, the one way to refusal 12";
 
 fn main() -> ExitCode {
     let words: Vec<String> = std::env::args().skip(1).collect();
