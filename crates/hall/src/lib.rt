@@ -100,7 +100,7 @@ fn word(column: [u32; 16], seat: u8) -> u32
     if s < 16 { column[s] } else { 0 }
 }
 
-pub fn with_flag(column: [bool; 16], seat: u8, value: bool) -> [bool; 16]
+fn with_flag(column: [bool; 16], seat: u8, value: bool) -> [bool; 16]
     ensures { λ r. ⌜ r ≡ set column seat value ⌝ }
 {
     let s = seat as usize;

@@ -3,3 +3,4 @@ pub mod InLine
 pub mod Steps
 pub mod Hall
 pub mod Reach
+pub mod Count
