@@ -22,6 +22,9 @@ pub enum Answer {
     OutsideRange,
 }
 
+// A set of seats.
+pub type Seats = [bool; 16];
+
 // The desk's SSRC, the pre-emptive level, how long the line may be, how far C7 and C20 count, the duration of a grant in seconds.
 pub struct Settings {
     pub ssrc: u32,
@@ -242,14 +245,14 @@ pub fn effective_priority(hall: Hall, seat: u8, wish: Asked) -> u8
 
 // Sets of seats.
 
-pub fn only_seat(seat: u8) -> [bool; 16]
+pub fn only_seat(seat: u8) -> Seats
     ensures { λ r. ⌜ r ≡ only seat ⌝ }
 {
     let nobody = [false; 16];
     with_flag(nobody, seat, true)
 }
 
-pub fn all_others(hall: Hall, seat: u8) -> [bool; 16]
+pub fn all_others(hall: Hall, seat: u8) -> Seats
     ensures { λ r. ⌜ r ≡ others hall seat ⌝ }
 {
     let present = hall.present;

@@ -13,6 +13,9 @@ pub struct Entry {
     pub priority: u8,
 }
 
+// A set of seats.
+pub type Seats = [bool; 16];
+
 // Those who wait are the first `len` entries.
 pub struct Line {
     pub entries: [Entry; 15],
@@ -200,7 +203,7 @@ pub fn add(seats: &mut [bool], seat: u8)
 }
 
 // The seats in line, as a set.
-pub fn seats_of(line: Line) -> [bool; 16]
+pub fn seats_of(line: Line) -> Seats
     ensures { λ r. ⌜ r ≡ seatsOf (waiting line) ⌝ }
 {
     let n = count(line);

@@ -1,15 +1,263 @@
 // Plays Thursday's exercise (document 01) and prints it: each event, the messages with who gets them and their packets, the marks, and
 // the wall with the floor, the line and the timers. Then the sequence number from 65,535 to 0.
-mod say;
-mod wall;
-
 use desk::Event;
+use desk::Running;
 use desk::Timer;
 use hall::Hall;
 use hall::Names;
 use hall::Newcomer;
 use hall::Settings;
+use libc::STDOUT_FILENO;
+use line::Entry;
+use line::Line;
 use rules::Core;
+use rules::Given;
+use rules::Kind;
+use rules::Mark;
+use rules::Marks;
+use rules::Message;
+use rules::Phase;
+use writing::Writing;
+
+// What the screen is printed with.
+
+fn say(s: &[u8]) {
+    io::write_all(STDOUT_FILENO, s);
+}
+
+fn say_number(n: u64) {
+    io::print_decimal(STDOUT_FILENO, n);
+}
+
+// Octets in hexadecimal.
+fn say_octets(s: &[u8]) {
+    let mut i = 0;
+    while i < s.len() {
+        say(b" ");
+        io::print_hex(STDOUT_FILENO, s[i] as u64, 2);
+        i += 1;
+    }
+}
+
+// The seats of a set, or nobody.
+fn say_seats(set: [bool; 16]) {
+    let mut none = true;
+    let mut i = 0;
+    while i < 16 {
+        if set[i] {
+            say(b" ");
+            say_number(i as u64);
+            none = false;
+        }
+        i += 1;
+    }
+    if none {
+        say(b" nobody");
+    }
+}
+
+// The log of a step and the wall screen.
+
+fn show_answer(number: u8) {
+    if number == 0 {
+        return;
+    }
+    say(b"     answer ");
+    say_number(number as u64);
+    say(b"\n");
+}
+
+// The kind of a message with its particulars.
+fn show_kind(k: Kind) {
+    match k {
+        Kind::Nothing => {}
+        Kind::Granted(priority) => {
+            say(b"Granted, priority ");
+            say_number(priority as u64);
+        }
+        Kind::Taken(seat, sequence) => {
+            say(b"Taken by seat ");
+            say_number(seat as u64);
+            say(b", sequence ");
+            say_number(sequence as u64);
+        }
+        Kind::Deny(cause) => {
+            say(b"Deny #");
+            say_number(cause as u64);
+        }
+        Kind::Idle(sequence) => {
+            say(b"Idle, sequence ");
+            say_number(sequence as u64);
+        }
+        Kind::Revoke(cause) => {
+            say(b"Revoke #");
+            say_number(cause as u64);
+        }
+        Kind::Info(place, priority) => {
+            say(b"Queue Position Info, place ");
+            say_number(place as u64);
+            say(b", priority ");
+            say_number(priority as u64);
+        }
+    }
+}
+
+// The seat whose identity a message names.
+fn named(k: Kind) -> u8 {
+    if let Kind::Taken(seat, _) = k {
+        seat
+    } else {
+        0
+    }
+}
+
+fn is_message(k: Kind) -> bool {
+    if let Kind::Nothing = k { false } else { true }
+}
+
+// A message, who gets it, and the octets that it is sent as.
+fn show_message(hall: Hall, names: Names, m: Message) {
+    let k = m.kind;
+    let to = m.to;
+    if !is_message(k) {
+        return;
+    }
+    say(b"     ");
+    show_kind(k);
+    say(b" ->");
+    say_seats(to);
+    say(b"\n        ");
+    let name = hall::name_at(names, named(k));
+    let n = hall::name_length(name);
+    let octets = name.octets;
+    let mut room = [0u8; 96];
+    show_packet_by(hall, k, &octets, n, &mut room);
+    say(b"\n");
+}
+
+fn show_packet_by(hall: Hall, k: Kind, octets: &[u8; 62], n: usize, room: &mut [u8]) {
+    let all: &[u8] = octets;
+    if n <= all.len() {
+        show_packet(hall, k, &all[..n], room);
+    }
+}
+
+fn show_packet(hall: Hall, k: Kind, identity: &[u8], room: &mut [u8]) {
+    let settings = hall.settings;
+    match outgoing::send(settings, k, identity, room) {
+        Writing::Written(n) => {
+            if n <= room.len() {
+                say_octets(&room[..n]);
+            }
+        }
+        Writing::Refused(_) => say(b" no packet"),
+    }
+}
+
+fn show_mark(title: &[u8], m: Mark) {
+    if let Mark::Seat(seat) = m {
+        say(title);
+        say_number(seat as u64);
+        say(b"\n");
+    }
+}
+
+fn show_marks(m: Marks) {
+    let placed = m.placed;
+    let struck = m.struck;
+    let ended = m.ended;
+    let given = m.given;
+    show_mark(b"     placed ", placed);
+    if struck_any(struck) {
+        say(b"     struck off");
+        say_seats(struck);
+        say(b"\n");
+    }
+    show_mark(b"     ended ", ended);
+    match given {
+        Given::NotGiven => {}
+        Given::AtOnce(seat) => show_mark(b"     given at once ", Mark::Seat(seat)),
+        Given::OutOfLine(seat) => show_mark(b"     given out of the line ", Mark::Seat(seat)),
+    }
+}
+
+fn struck_any(set: [bool; 16]) -> bool {
+    let mut i = 0;
+    while i < 16 {
+        if set[i] {
+            return true;
+        }
+        i += 1;
+    }
+    false
+}
+
+fn show_holder(title: &[u8], e: Entry) {
+    say(title);
+    say_number(e.seat as u64);
+    say(b" at ");
+    say_number(e.priority as u64);
+}
+
+fn show_phase(p: Phase) {
+    match p {
+        Phase::Stopped => say(b"Stopped"),
+        Phase::Idle(_) => say(b"Idle"),
+        Phase::Taken(e, _) => show_holder(b"Taken, floor with seat ", e),
+        Phase::Revoking(e, cause) => {
+            show_holder(b"Revoking, floor with seat ", e);
+            say(b", cause ");
+            say_number(cause as u64);
+        }
+    }
+}
+
+fn show_waiting(l: Line) {
+    let n = line::count(l);
+    if n == 0 {
+        say(b" empty");
+    }
+    let mut i = 0;
+    while i < n {
+        let e = line::entry_at(l, i);
+        show_holder(b" seat ", e);
+        i += 1;
+    }
+}
+
+fn show_timer(name: &[u8], runs: bool) {
+    if runs {
+        say(name);
+    }
+}
+
+fn show_timers(r: Running) {
+    show_timer(b" T1", r.t1);
+    show_timer(b" T2", r.t2);
+    show_timer(b" T3", r.t3);
+    show_timer(b" T4", r.t4);
+    show_timer(b" T7", r.t7);
+    show_timer(b" T8", r.t8);
+    show_timer(b" T20", r.t20);
+}
+
+// The wall: the floor, the line, the timers that run, the sequence number.
+fn show_wall(core: Core, hall: Hall) {
+    let p = core.phase;
+    let l = core.line;
+    let present = hall.present;
+    say(b"     | ");
+    show_phase(p);
+    say(b" | line");
+    show_waiting(l);
+    say(b" | timers");
+    show_timers(desk::running_timers(p));
+    say(b" | sequence ");
+    say_number(core.sequence as u64);
+    say(b" | seats");
+    say_seats(present);
+    say(b"\n\n");
+}
 
 // The desk on the bench.
 pub struct Bench {
@@ -85,17 +333,17 @@ fn hears(title: &[u8], b: Bench, packet: &[u8]) -> Bench {
     let core = b.core;
     let hall = b.hall;
     let names = b.names;
-    say::text(title);
+    say(title);
     let called = call::hear(core, hall, packet);
     let first = called.first;
     let second = called.second;
     let marks = called.marks;
     let core = called.core;
-    wall::answer(called.answer);
-    wall::message(hall, names, first);
-    wall::message(hall, names, second);
-    wall::marks(marks);
-    wall::show(core, hall);
+    show_answer(called.answer);
+    show_message(hall, names, first);
+    show_message(hall, names, second);
+    show_marks(marks);
+    show_wall(core, hall);
     Bench { core, hall, names }
 }
 
@@ -103,7 +351,7 @@ fn steps(title: &[u8], b: Bench, event: Event) -> Bench {
     let core = b.core;
     let hall = b.hall;
     let names = b.names;
-    say::text(title);
+    say(title);
     let step = desk::make_step(core, hall, event);
     let core = step.core;
     let report = step.report;
@@ -111,11 +359,11 @@ fn steps(title: &[u8], b: Bench, event: Event) -> Bench {
     let first = report.first;
     let second = report.second;
     let marks = report.marks;
-    wall::answer(call::answer_number(answer));
-    wall::message(hall, names, first);
-    wall::message(hall, names, second);
-    wall::marks(marks);
-    wall::show(core, hall);
+    show_answer(call::answer_number(answer));
+    show_message(hall, names, first);
+    show_message(hall, names, second);
+    show_marks(marks);
+    show_wall(core, hall);
     Bench { core, hall, names }
 }
 
@@ -123,7 +371,7 @@ fn leaves(title: &[u8], b: Bench, seat: u8) -> Bench {
     let core = b.core;
     let hall = b.hall;
     let names = b.names;
-    say::text(title);
+    say(title);
     let left = desk::leave_call(core, hall, names, seat);
     let core = left.core;
     let hall = left.hall;
@@ -133,11 +381,11 @@ fn leaves(title: &[u8], b: Bench, seat: u8) -> Bench {
     let first = report.first;
     let second = report.second;
     let marks = report.marks;
-    wall::answer(call::answer_number(answer));
-    wall::message(hall, names, first);
-    wall::message(hall, names, second);
-    wall::marks(marks);
-    wall::show(core, hall);
+    show_answer(call::answer_number(answer));
+    show_message(hall, names, first);
+    show_message(hall, names, second);
+    show_marks(marks);
+    show_wall(core, hall);
     Bench { core, hall, names }
 }
 
@@ -190,8 +438,8 @@ fn around(b: Bench) {
 }
 
 fn main() {
-    say::text(b"Thursday's exercise: level 200, line limit 2, C7 and C20 limits 2\n");
-    say::text(b"seats 0 test1, 1 test10, 2 test2, 3 test3; all but seat 3 queue\n\n");
+    say(b"Thursday's exercise: level 200, line limit 2, C7 and C20 limits 2\n");
+    say(b"seats 0 test1, 1 test10, 2 test2, 3 test3; all but seat 3 queue\n\n");
     let b = second_half(first_half(class()));
     around(b);
 }

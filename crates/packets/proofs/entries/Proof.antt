@@ -8,7 +8,7 @@ use Rattle.packets.proofs.entries.Tie as tie
 use Rattle.packets.proofs.entries.Reads as reads
 use Rattle.packets.proofs.entries.Lts as lts
 use Rattle.packets.proofs.entry.Reads as entry-reads
-use Rattle.packets.proofs.line.find.Reads as find-reads
+use Rattle.packets.proofs.find.Reads as find-reads
 
 abbrev Inv-loop : tie.InvT-loop
 Inv-loop all room₀ from₀ count₀ room from count =

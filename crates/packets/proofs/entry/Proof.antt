@@ -5,47 +5,47 @@ use Rattle.packets.proofs.entry.Statement.{statement}
 use Rattle.packets.proofs.entry.Tie as tie
 use Rattle.packets.proofs.entry.Reads as reads
 use Rattle.packets.proofs.entry.Lts as lts
-use Rattle.packets.proofs.line.find.Reads as find-reads
-use Rattle.packets.proofs.line.octets.Reads as octets-reads
-use Rattle.packets.proofs.say.number.Reads as number-reads
-use Rattle.packets.proofs.say.text.Reads as text-reads
-use Rattle.packets.proofs.show.packet.Reads as packet-reads
+use Rattle.packets.proofs.find.Reads as find-reads
+use Rattle.packets.proofs.octets_in.Reads as octets-in-reads
+use Rattle.packets.proofs.say_number.Reads as say-number-reads
+use Rattle.packets.proofs.say.Reads as say-reads
+use Rattle.packets.proofs.show_packet.Reads as show-packet-reads
 
 find-requires : tie.Need-find-requires
 find-requires c κs = search needs
 
-number-requires : tie.Need-number-requires
-number-requires c κs = search needs
+say-number-requires : tie.Need-say-number-requires
+say-number-requires c κs = search needs
 
-slice-aggregate-text : tie.Need-slice-aggregate-text
-slice-aggregate-text c = search needs
+slice-aggregate-say : tie.Need-slice-aggregate-say
+slice-aggregate-say c = search needs
 
-text-requires : tie.Need-text-requires
-text-requires c κs = search needs
+say-requires : tie.Need-say-requires
+say-requires c κs = search needs
 
-slice-aggregate-text-2 : tie.Need-slice-aggregate-text-2
-slice-aggregate-text-2 c = simp length-take (omega arith)
+slice-aggregate-say-2 : tie.Need-slice-aggregate-say-2
+slice-aggregate-say-2 c = simp length-take (omega arith)
 
-text-requires-2 : tie.Need-text-requires-2
-text-requires-2 c κs = search needs
+say-requires-2 : tie.Need-say-requires-2
+say-requires-2 c κs = search needs
 
-slice-aggregate-text-3 : tie.Need-slice-aggregate-text-3
-slice-aggregate-text-3 c = search needs
+slice-aggregate-say-3 : tie.Need-slice-aggregate-say-3
+slice-aggregate-say-3 c = search needs
 
-text-requires-3 : tie.Need-text-requires-3
-text-requires-3 c κs = search needs
+say-requires-3 : tie.Need-say-requires-3
+say-requires-3 c κs = search needs
 
-octets-requires : tie.Need-octets-requires
-octets-requires c κs = search needs
+octets-in-requires : tie.Need-octets-in-requires
+octets-in-requires c κs = search needs
 
-slice-reshare-prefix-packet : tie.Need-slice-reshare-prefix-packet
-slice-reshare-prefix-packet c = search needs
+slice-reshare-prefix-show-packet : tie.Need-slice-reshare-prefix-show-packet
+slice-reshare-prefix-show-packet c = search needs
 
-slice-aggregate-packet : tie.Need-slice-aggregate-packet
-slice-aggregate-packet c = simp length-take (omega arith)
+slice-aggregate-show-packet : tie.Need-slice-aggregate-show-packet
+slice-aggregate-show-packet c = simp length-take (omega arith)
 
-packet-requires : tie.Need-packet-requires
-packet-requires c κs = search needs
+show-packet-requires : tie.Need-show-packet-requires
+show-packet-requires c κs = search needs
 
 same-length : tie.Need-same-length
 same-length c = search needs
@@ -58,16 +58,16 @@ entry-spec =
     tie.close
     (tie.spec
     find-requires
-    number-requires
-    slice-aggregate-text
-    text-requires
-    slice-aggregate-text-2
-    text-requires-2
-    slice-aggregate-text-3
-    text-requires-3
-    octets-requires
-    slice-reshare-prefix-packet
-    slice-aggregate-packet
-    packet-requires
+    say-number-requires
+    slice-aggregate-say
+    say-requires
+    slice-aggregate-say-2
+    say-requires-2
+    slice-aggregate-say-3
+    say-requires-3
+    octets-in-requires
+    slice-reshare-prefix-show-packet
+    slice-aggregate-show-packet
+    show-packet-requires
     same-length
     returns)

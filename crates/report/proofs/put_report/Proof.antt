@@ -1,0 +1,44 @@
+use Prim.Native.Nat.{ℕ, _+_, _≤_}
+use mathlib.Core.List.{List, [], _∷_, _++_}
+use mathlib.Core.Path.{_≡_, refl, _∙_, ap}
+use lib.ListN.{length}
+use Rattle.octets.specs.Octets.{over, octets16}
+use Rattle.report.proofs.Runs.{run}
+use Prim.Native.Nat.{zero-le}
+use Rattle.report.specs.Report.{marksOctets, messageOctets, reportOctets}
+use native.Mathlib.Omega.{arith}
+use borrow.Author.Needs.{needs}
+use Rattle.report.proofs.put_report.Statement.{statement}
+use Rattle.report.proofs.put_report.Tie as tie
+use Rattle.report.proofs.put_report.Reads as reads
+use Rattle.report.proofs.put_report.Lts as lts
+use Rattle.report.proofs.put_marks.Reads as put-marks-reads
+use Rattle.report.proofs.put_message.Reads as put-message-reads
+
+put-marks-requires : tie.Need-put-marks-requires
+put-marks-requires c κs = search needs
+
+put-message-requires : tie.Need-put-message-requires
+put-message-requires c κs = search needs
+
+put-message-requires-2 : tie.Need-put-message-requires-2
+put-message-requires-2 c κs = search needs
+
+same-length : tie.Need-same-length
+same-length c = search needs
+
+returns : tie.Need-returns
+unfolding reportOctets messageOctets marksOctets octets16
+returns c =
+    let a = c .before .before .before .before .before .before .before .before .before .before .before .before .before .args in
+    let r = a .room .now in
+    let one = c .before .before .before .before .before .before .before .before .before .before .put-marks in
+    let two = c .before .before .before .before .before .before .put-message in
+    let three = c .before .before .put-message2 in
+    run r (two .last .0) (three .last .0) 0 16 (marksOctets (a .marks) ++ messageOctets (a .first)) (messageOctets (a .second)) zero-le refl
+    (run r (one .last .0) (two .last .0) 0 8 (marksOctets (a .marks)) (messageOctets (a .first)) zero-le refl (one .ensures) (two .ensures)) (three .ensures)
+
+pub put-report-spec : {M : Type 1} → statement M
+put-report-spec =
+    tie.close
+    (tie.spec put-marks-requires put-message-requires put-message-requires-2 same-length returns)

@@ -1,0 +1,130 @@
+// A report as octets (docs/FORMS.md).
+use rules::Given;
+use rules::Kind;
+use rules::Mark;
+use rules::Marks;
+use rules::Message;
+ghost use mathlib.Core.Path.{_≡_};
+ghost use mathlib.Core.List.{List, [], _∷_, _++_};
+ghost use Prim.Native.Nat.{_+_, _<_, _≤_, _^_};
+ghost use lib.ListN.{length};
+ghost use Rattle.octets.specs.Octets.{octets16, over};
+ghost use Rattle.report.specs.Report.{maskOf, seatOctet, givenOctet, howOctet, with, particulars, octetsWith, messageOctets, marksOctets, reportOctets};
+
+// What a message has beside its receivers: its kind's number, a seat, a number, a priority; zeros for what it has not.
+pub struct Particulars {
+    pub kind: u8,
+    pub seat: u8,
+    pub number: u16,
+    pub priority: u8,
+}
+
+// A set of seats as a number, seat 0 the lowest bit.
+pub fn mask_of(set: [bool; 16]) -> u16
+    ensures { λ r. ⌜ r ≡ maskOf set ⌝ }
+{
+    let mut mask = 0u16;
+    let mut i = 16;
+    while 0 < i {
+        i -= 1;
+        mask = mask * 2;
+        if set[i] {
+            mask = mask + 1;
+        }
+    }
+    mask
+}
+
+fn seat_octet(mark: Mark) -> u8
+    ensures { λ r. ⌜ r ≡ seatOctet mark ⌝ }
+{
+    match mark {
+        Mark::NoSeat => 255,
+        Mark::Seat(s) => s,
+    }
+}
+
+fn given_octet(given: Given) -> u8
+    ensures { λ r. ⌜ r ≡ givenOctet given ⌝ }
+{
+    match given {
+        Given::NotGiven => 255,
+        Given::AtOnce(s) => s,
+        Given::OutOfLine(s) => s,
+    }
+}
+
+fn how_octet(given: Given) -> u8
+    ensures { λ r. ⌜ r ≡ howOctet given ⌝ }
+{
+    match given {
+        Given::NotGiven => 0,
+        Given::AtOnce(_) => 1,
+        Given::OutOfLine(_) => 2,
+    }
+}
+
+fn having(kind: u8, seat: u8, number: u16, priority: u8) -> Particulars
+    ensures { λ r. ⌜ r ≡ with kind seat number priority ⌝ }
+{
+    Particulars {
+        kind,
+        seat,
+        number,
+        priority,
+    }
+}
+
+pub fn particulars_of(kind: Kind) -> Particulars
+    ensures { λ r. ⌜ r ≡ particulars kind ⌝ }
+{
+    match kind {
+        Kind::Nothing => having(255, 0, 0, 0),
+        Kind::Granted(p) => having(1, 0, 0, p),
+        Kind::Taken(s, n) => having(2, s, n, 0),
+        Kind::Deny(n) => having(3, 0, n, 0),
+        Kind::Idle(n) => having(5, 0, n, 0),
+        Kind::Revoke(n) => having(6, 0, n, 0),
+        Kind::Info(k, p) => having(9, 0, k as u16, p),
+    }
+}
+
+// Writes a message of a report at a place.
+pub fn put_message(room: &mut [u8], at: usize, m: Message)
+    requires { ⌜ at + 8 ≤ length (now room) ⌝ }
+    ensures { λ _. ⌜ now (room .exit) ≡ over (now (room .entry)) at (messageOctets m) ⌝ }
+{
+    let kind = m.kind;
+    let to = m.to;
+    let q = particulars_of(kind);
+    let mask = mask_of(to);
+    octets::put_pair(room, at, q.kind, q.seat);
+    octets::put16(room, at + 2, q.number);
+    octets::put_pair(room, at + 4, q.priority, 0);
+    octets::put16(room, at + 6, mask);
+}
+
+fn put_marks(room: &mut [u8], m: Marks)
+    requires { ⌜ 8 ≤ length (now room) ⌝ }
+    ensures { λ _. ⌜ now (room .exit) ≡ over (now (room .entry)) 0 (marksOctets m) ⌝ }
+{
+    let struck = m.struck;
+    let placed = m.placed;
+    let ended = m.ended;
+    let given = m.given;
+    let mask = mask_of(struck);
+    octets::put16(room, 0, mask);
+    octets::put_pair(room, 2, 0, seat_octet(placed));
+    octets::put_pair(room, 4, seat_octet(ended), given_octet(given));
+    octets::put_pair(room, 6, how_octet(given), 0);
+}
+
+// Writes a report into the first 24 octets of a room.
+pub fn put_report(room: &mut [u8], first: Message, second: Message, marks: Marks)
+    requires { ⌜ 24 ≤ length (now room) ⌝ }
+    ensures { λ _. ⌜ now (room .exit) ≡ over (now (room .entry)) 0 (reportOctets first second marks) ⌝ }
+{
+    put_marks(room, marks);
+    put_message(room, 8, first);
+    put_message(room, 16, second);
+}
