@@ -1,13 +1,12 @@
 -- What loading answers by each of its checks, where those before it passed, and what a seat more does. Assumes nothing.
 use Prim.Native.Nat.{ℕ, suc, _+_, _-_, _≤_, _<_}
 use native.Mathlib.Omega.{arith}
-use mathlib.Core.Bool.{Bool, true, false, not, _||_}
-use mathlib.Core.List.{List, [], _∷_}
+use mathlib.Core.Bool.{true, false}
+use mathlib.Core.List.{List}
 use mathlib.Core.Path.{_≡_, refl, sym, ap, _∙_}
-use lib.Dec.{eqb, ltb, leb}
 use lib.ListN.{length}
 use borrow.Author.Tests.{leb-true, lt-ltb, le-ltb, eq-eqb, ne-eqb}
-use Rattle.words.specs.Choice.{if_then_else_, if-yes, if-no, by-test}
+use Rattle.words.specs.Choice.{if_then_else_, by-test}
 use Rattle.words.specs.Below.{and-left}
 use Rattle.octets.specs.Octets.{part}
 use Rattle.hall.specs.declared.Hall.{Hall}
@@ -21,7 +20,7 @@ use Rattle.hall.specs.Identity.{noNames}
 use Rattle.hall.specs.Join.{join}
 use Rattle.sheet.specs.declared.Turn.{Turn}
 use Rattle.sheet.specs.Layout.{form, letters, Seat}
-use Rattle.sheet.specs.Loading.{Load, loaded, refused, settingsPlace, settingsAt, zeros, settingsOffset, seatsOffset, seatCount, formOf, lettersOf, identityLength, whoIs, readSeat, afterSeat, laidOut, Seats, whole, fault, infront, readSeats, ifSeated, joinAll, seatAll, settled, loading}
+use Rattle.sheet.specs.Loading.{loaded, refused, settingsPlace, settingsAt, zeros, settingsOffset, seatsOffset, seatCount, formOf, lettersOf, identityLength, whoIs, readSeat, afterSeat, laidOut, Seats, whole, fault, infront, readSeats, ifSeated, joinAll, seatAll, settled, loading}
 use Rattle.sheet.specs.Walk.{turnAt}
 
 module _ (s : List ℕ) where

@@ -1,7 +1,7 @@
 -- What saving answers, and the room once it has, where the room is too short and where it is not. Assumes nothing.
 use Prim.Native.Nat.{ℕ, _≤_, _<_}
 use mathlib.Core.List.{List}
-use mathlib.Core.Path.{_≡_, sym}
+use mathlib.Core.Path.{_≡_}
 use lib.ListN.{length}
 use borrow.Author.Tests.{lt-ltb, le-ltb}
 use Rattle.words.specs.Choice.{if_then_else_}
@@ -9,7 +9,7 @@ use Rattle.octets.specs.Octets.{over}
 use Rattle.hall.specs.declared.Hall.{Hall}
 use Rattle.hall.specs.declared.Names.{Names}
 use Rattle.sheet.specs.Layout.{sheetOf}
-use Rattle.sheet.specs.Saving.{Save, saving, roomAfter}
+use Rattle.sheet.specs.Saving.{saving, roomAfter}
 
 module _ (h : Hall) (ns : Names) (room : List ℕ) where
   module _ (short : length room < length (sheetOf h ns)) where

@@ -3,11 +3,10 @@ use Prim.Native.Nat.{ℕ, zero, suc, _+_, _-_, _≤_, _<_}
 use native.Mathlib.Omega.{arith}
 use native.Mathlib.Nat.{zero-add}
 use native.Mathlib.Numerals.{add-one}
-use mathlib.Core.Bool.{Bool, true, false}
+use mathlib.Core.Bool.{true, false}
 use mathlib.Core.List.{List, [], _∷_, _++_, append-assoc, append-nil}
 use mathlib.Core.Path.{_≡_, refl, sym, ap, _∙_}
-use lib.ListN.{length, take, drop, length-append, length-take}
-use lib.Seq.{take-take, take-length, take-all}
+use lib.ListN.{length, take, length-append}
 use Rattle.words.specs.Choice.{if_then_else_, if-yes, if-no, by-test}
 use Rattle.octets.specs.Octets.{octets16, octets32, over, part}
 use Rattle.octets.proofs.Over.{over-none, over-two}

@@ -12,7 +12,6 @@ use Rattle.hall.specs.declared.Found.{Found}
 use Rattle.hall.specs.declared.Found.the-variants.{At, Nowhere}
 use Rattle.hall.specs.declared.Hall.{Hall}
 use Rattle.hall.specs.declared.Names.{Names}
-use Rattle.hall.specs.declared.Joined.{Joined}
 use Rattle.hall.specs.Seats.{inRange, emptyHall}
 use Rattle.hall.specs.Identity.{noNames}
 use Rattle.hall.specs.Join.{join}

@@ -1,5 +1,5 @@
 -- How the code goes through a sheet, seat by seat. What a sheet is stands in Layout, Saving and Loading. Assumes nothing.
-use Prim.Native.Nat.{ℕ, _≤_, _+_}
+use Prim.Native.Nat.{ℕ, _≤_}
 use mathlib.Core.List.{List, []}
 use mathlib.Core.Path.{_≡_}
 use lib.ListN.{length}
@@ -14,7 +14,7 @@ use Rattle.sheet.specs.declared.Turn.{Turn}
 use Rattle.sheet.specs.declared.Verdict.{Verdict}
 use Rattle.sheet.specs.declared.Verdict.the-variants.{Accepted, NotASheet, OtherForm, WrongPlaces, OutsideRange, SeatAtFault}
 use Rattle.sheet.specs.Layout.{seatOctets, seatAt, seatsOctets, seatsOf}
-use Rattle.sheet.specs.Loading.{Load, loading, refused, settled, seatCount, laidOut, afterSeat, readSeat, number}
+use Rattle.sheet.specs.Loading.{loading, refused, settled, seatCount, laidOut, afterSeat, readSeat}
 
 -- what a seat of a hall, taken or free, puts on the sheet
 unfoldable pub octetsAt : Hall → Names → ℕ → List ℕ

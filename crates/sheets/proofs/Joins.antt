@@ -1,16 +1,16 @@
 -- Seats that join one after the other: what is known of a join that took a seat, and when every one of them takes one.
 -- Assumes nothing.
-use Prim.Native.Nat.{ℕ, zero, suc, _+_, _-_, _≤_, _<_}
+use Prim.Native.Nat.{ℕ, zero, suc, _+_, _≤_, _<_}
 use native.Mathlib.Omega.{arith}
 use native.Mathlib.Numerals.{add-one}
-use mathlib.Core.Bool.{Bool, true, false, not, _&&_}
+use mathlib.Core.Bool.{true, false}
 use mathlib.Core.List.{List, [], _∷_}
 use mathlib.Core.Path.{_≡_, refl, sym, ap, subst, _∙_}
-use lib.Dec.{leb, ltb, eqb}
+use lib.Dec.{ltb, eqb}
 use lib.ListN.{length, getD, drop, drop-of-length-le}
 use lib.Seq.{drop-cons}
-use borrow.Author.Tests.{ltb-true, ltb-false}
-use Rattle.words.specs.Choice.{if_then_else_, if-yes, if-no, by-test}
+use borrow.Author.Tests.{ltb-true}
+use Rattle.words.specs.Choice.{if_then_else_, by-test}
 use Rattle.hall.specs.declared.Settings.{Settings}
 use Rattle.hall.specs.declared.Newcomer.{Newcomer}
 use Rattle.hall.specs.declared.Names.{Names}
@@ -18,8 +18,8 @@ use Rattle.hall.specs.declared.Hall.{Hall}
 use Rattle.hall.specs.declared.Joined.{Joined}
 use Rattle.hall.specs.declared.Found.{Found}
 use Rattle.hall.specs.declared.Found.the-variants.{At, Nowhere}
-use Rattle.hall.specs.Seats.{isPresent, hasSsrc, seatOf, freeSeat, withSeat}
-use Rattle.hall.specs.Identity.{octetsOf, nameOf, nameAt, withName, same, hasName, seatNamed, lengthAllowed}
+use Rattle.hall.specs.Seats.{hasSsrc, seatOf, freeSeat, withSeat}
+use Rattle.hall.specs.Identity.{same, hasName, seatNamed, lengthAllowed}
 use Rattle.hall.specs.Join.{isAt, ssrcTaken, join, seated}
 use Rattle.sheet.specs.Layout.{Seat, seatAt}
 use Rattle.sheet.specs.Loading.{Load, loaded, refused, ifSeated, joinAll}
@@ -43,10 +43,10 @@ module _ (h : Hall) (ns : Names) (o : List ℕ) (n : Newcomer) where
   join-seats p = rw (p .long, p .unnamed, p .unheard)
 
   -- a join either passes them, or changes nothing and gives no seat
-  pub join-cases {ℓ} : {P : Joined → Type ℓ} → (Passes → P (seated h ns o n (freeSeat h)))
+  pub join-cases {ℓ} : (P : Joined → Type ℓ) → (Passes → P (seated h ns o n (freeSeat h)))
       → ((j : Joined) → j .seat ≡ Nowhere → j .hall ≡ h → j .names ≡ ns → P j) → P (join h ns o n)
   unfolding join if_then_else_
-  join-cases f g =
+  join-cases P f g =
       by-test (lengthAllowed o)
       (λ a.
       by-test (isAt (seatNamed h ns o)) (λ b. rw (a, b) (g _ refl refl refl))
@@ -57,7 +57,7 @@ module _ (h : Hall) (ns : Names) (o : List ℕ) (n : Newcomer) where
 
   pub join-passed : (s : ℕ) → join h ns o n .seat ≡ At s → Passes
   join-passed s e =
-      join-cases {P = λ j. j .seat ≡ At s → Passes} (λ p _. p) (λ j q _ _ r. absurd (no-seat s (sym q ∙ r))) e
+      join-cases (λ j. j .seat ≡ At s → Passes) (λ p _. p) (λ j q _ _ r. absurd (no-seat s (sym q ∙ r))) e
 
 -- what the row becomes when the next of the list joins
 module _ (h : Hall) (ns : Names) (zs : List Seat) (k : ℕ) (row : Row h ns zs k) (w : k < 16) where
@@ -153,9 +153,9 @@ refused-45 : refused 45 .number ≡ 0 → ⊥
 unfolding refused
 refused-45 e = omega arith
 
-by-seat {ℓ} : {P : Load → Type ℓ} (f : Found) (m : Load) → ifSeated f m .number ≡ 0 → ((s : ℕ) → f ≡ At s → m .number ≡ 0 → P m) → P (ifSeated f m)
-by-seat (At s) m a g = g s refl a
-by-seat Nowhere m a g = absurd (refused-45 a)
+by-seat {ℓ} : (P : Load → Type ℓ) (f : Found) (m : Load) → ifSeated f m .number ≡ 0 → ((s : ℕ) → f ≡ At s → m .number ≡ 0 → P m) → P (ifSeated f m)
+by-seat P (At s) m a g = g s refl a
+by-seat P Nowhere m a g = absurd (refused-45 a)
 
 module _ (st : Settings) (zs : List Seat) (few : length zs ≤ 16) where
   ended : (k : ℕ) → length zs ≤ k → drop k zs ≡ []
@@ -174,7 +174,7 @@ module _ (st : Settings) (zs : List Seat) (few : length zs ≤ 16) where
       let c : drop k zs ≡ getD zs k nobody ∷ drop (suc k) zs = drop-cons zs k nobody l in
       let j = next h ns zs k row w in
       rw c
-      (by-seat {P = Filled st zs} (j .seat) (joinAll (j .hall) (j .names) (drop (suc k) zs)) (rw c at a)
+      (by-seat (Filled st zs) (j .seat) (joinAll (j .hall) (j .names) (drop (suc k) zs)) (rw c at a)
       (λ t q b.
       let p = join-passed h ns (getD zs k nobody .identity) (getD zs k nobody .who) t q in
       filled n (suc k) (j .hall) (j .names) (omega arith) (next-row h ns zs k row w p) (next-settings h ns zs k row w p ∙ s) b))

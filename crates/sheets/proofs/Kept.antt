@@ -2,11 +2,11 @@
 -- on a sheet, and any two of them both. Assumes nothing.
 use Prim.Native.Nat.{ℕ, zero, suc, _+_, _≤_, _<_}
 use native.Mathlib.Omega.{arith}
-use mathlib.Core.Bool.{Bool, true, false, not, _&&_}
+use mathlib.Core.Bool.{Bool, true, false}
 use mathlib.Core.List.{List, [], _∷_}
 use mathlib.Core.Path.{_≡_, refl, sym, ap, subst, _∙_}
 use lib.Dec.{eqb}
-use lib.ListN.{length, getD, getD-replicate}
+use lib.ListN.{getD-replicate}
 use borrow.Author.Tests.{eqb-true, eqb-false, eq-eqb, ne-eqb}
 use Rattle.words.specs.Choice.{if_then_else_, by-test}
 use Rattle.hall.specs.declared.Settings.{Settings}
@@ -14,11 +14,10 @@ use Rattle.hall.specs.declared.Newcomer.{Newcomer}
 use Rattle.hall.specs.declared.Name.{Name}
 use Rattle.hall.specs.declared.Names.{Names}
 use Rattle.hall.specs.declared.Hall.{Hall}
-use Rattle.hall.specs.declared.Joined.{Joined}
 use Rattle.hall.specs.declared.Found.{Found}
 use Rattle.hall.specs.declared.Found.the-variants.{At, Nowhere}
-use Rattle.hall.specs.Seats.{inRange, emptyHall, isPresent, firstFrom, hasSsrc, seatOf, freeSeat, withSeat, noOne, vacated}
-use Rattle.hall.specs.Identity.{octetsOf, nameOf, noName, noNames, nameAt, withName, same, hasName, seatNamed}
+use Rattle.hall.specs.Seats.{inRange, emptyHall, isPresent, firstFrom, hasSsrc, seatOf, freeSeat, withSeat, noOne}
+use Rattle.hall.specs.Identity.{octetsOf, nameOf, noName, noNames, withName, same, hasName, seatNamed}
 use Rattle.hall.specs.Join.{isAt, ssrcTaken, join, seated}
 use Rattle.sheet.specs.Layout.{Seat, seatAt, seatsFrom, seatsOf}
 use Rattle.sheets.specs.Reached.{Reached, made, joins, leaves}
@@ -49,7 +48,7 @@ same-turned (x ∷ a) (y ∷ b) =
 
 apart-turned : (x y : Seat) → Apart x y → Apart y x
 apart-turned x y a =
-    record { ssrcs = eqb-turned _ _ (a .ssrcs); identities = same-turned (y .identity) (x .identity) ∙ a .identities }
+    record { ssrcs = eqb-turned (x .who .ssrc) (y .who .ssrc) (a .ssrcs); identities = same-turned (y .identity) (x .identity) ∙ a .identities }
 
 -- a search that finds a place, and one that finds none
 found-below : (test : ℕ → Bool) (n s k : ℕ) → firstFrom test n s ≡ At k → k < s + n
@@ -181,7 +180,7 @@ kept-seated h ns o n (At s) p k =
 
 kept-joins : (h : Hall) (ns : Names) (o : List ℕ) (n : Newcomer) → Kept h ns → Kept (join h ns o n .hall) (join h ns o n .names)
 kept-joins h ns o n k =
-    join-cases h ns o n {P = λ j. Kept (j .hall) (j .names)} (λ p. kept-seated h ns o n (freeSeat h) p k)
+    join-cases h ns o n (λ j. Kept (j .hall) (j .names)) (λ p. kept-seated h ns o n (freeSeat h) p k)
     (λ j e f g. rw (f, g) k)
 
 untaken : {P : Type 0} → false ≡ true → P

@@ -4,3 +4,8 @@ pub mod Lossless
 pub mod Rows
 pub mod Joins
 pub mod Kept
+pub mod Back
+pub mod Coincide
+pub mod Lengths
+pub mod Printed
+pub mod Again

@@ -4,7 +4,7 @@ use mathlib.Core.List.{List}
 use mathlib.Core.Path.{_≡_, sym, ap, _∙_}
 use Rattle.hall.specs.declared.Settings.{Settings}
 use Rattle.sheet.specs.Layout.{Seat, seatsOf, sheet, sheetOf}
-use Rattle.sheet.specs.Loading.{settingsPlace, settingsAt, seatCount, Seats, whole, readSeats}
+use Rattle.sheet.specs.Loading.{settingsPlace, settingsAt, seatCount, whole, readSeats}
 use Rattle.sheets.specs.Sheets.{SameSheet, Lossless}
 use Rattle.sheets.proofs.Read.{seats-again, settings-read}
 

@@ -1,11 +1,11 @@
 -- Numbers as octets and back, and what is read where other octets stand in front. Assumes nothing.
-use Prim.Native.Nat.{ℕ, zero, suc, _+_, _-_, _*_, _/_, _%_, _≤_, _<_}
-use native.Mathlib.Nat.{div-add-mod', add-assoc, div-div-eq-div-mul}
+use Prim.Native.Nat.{ℕ, _+_, _*_, _/_, _%_, _<_}
+use native.Mathlib.Nat.{div-add-mod', add-assoc}
 use native.Mathlib.Omega.{arith}
 use mathlib.Core.List.{List, [], _∷_, _++_}
-use mathlib.Core.Path.{_≡_, refl, sym, ap, _∙_}
-use lib.ListN.{length, getD, take, drop}
-use lib.Seq.{getD-append-add, drop-append-add, getD-drop, take-suc, drop-cons}
+use mathlib.Core.Path.{_≡_}
+use lib.ListN.{length, getD}
+use lib.Seq.{getD-append-add, drop-append-add}
 use Rattle.octets.specs.Octets.{be16, be32, octets16, octets32, part}
 
 -- a number, put together again from its two octets, and from its four

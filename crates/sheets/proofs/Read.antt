@@ -1,21 +1,20 @@
 -- A sheet read again: its trailer, its settings and its seats are those that were written. Assumes nothing.
-use Prim.Native.Nat.{ℕ, zero, suc, _+_, _-_, _*_, _/_, _%_, _≤_, _<_}
-use native.Mathlib.Nat.{add-zero, add-assoc}
+use Prim.Native.Nat.{ℕ, _+_, _-_, _%_, _≤_, _<_}
 use native.Mathlib.Omega.{arith}
-use mathlib.Core.Bool.{Bool, true, false, _&&_}
+use mathlib.Core.Bool.{true}
 use mathlib.Core.List.{List, [], _∷_, _++_, append-assoc}
 use mathlib.Core.Path.{_≡_, refl, sym, ap, _∙_}
-use lib.Dec.{leb, ltb, eqb}
-use lib.ListN.{length, getD, take, drop, length-append}
+use lib.Dec.{leb, eqb}
+use lib.ListN.{length, getD, length-append}
 use lib.Seq.{take-append-seam}
 use borrow.Author.Tests.{le-leb, lt-ltb, eq-eqb}
-use Rattle.words.specs.Choice.{if_then_else_, if-yes, by-test}
+use Rattle.words.specs.Choice.{if_then_else_, by-test}
 use Rattle.octets.specs.Octets.{be16, be32, octets16, octets32, part}
 use Rattle.hall.specs.declared.Newcomer.{Newcomer}
 use Rattle.hall.specs.declared.Settings.{Settings}
 use Rattle.sheet.specs.Layout.{Seat, form, letters, flags, seatOctets, seatsOctets, settingsOctets, trailer, sheet}
-use Rattle.sheet.specs.Loading.{settingsPlace, settingsAt, zeros, settingsOffset, seatsOffset, seatCount, formOf, lettersOf, identityLength, afterSeat, whoIs, readSeat, laidOut, Seats, whole, infront, readSeats}
-use Rattle.sheet.proofs.Walks.{length-seat, length-settings, length-trailer}
+use Rattle.sheet.specs.Loading.{settingsPlace, settingsAt, zeros, settingsOffset, seatsOffset, seatCount, formOf, lettersOf, identityLength, afterSeat, whoIs, readSeat, laidOut, whole, readSeats}
+use Rattle.sheet.proofs.Walks.{length-seat}
 use Rattle.sheets.proofs.Numbers.{number-again, long-again, octet-behind, be16-behind, be32-behind, part-behind}
 
 -- what is read at a place of s, where s has q behind p
@@ -40,7 +39,7 @@ length-ending : (st : Settings) (at count : ℕ) → length (ending st at count)
 unfolding ending settingsOctets trailer octets32 octets16
 length-ending st at count = refl
 
-sheet-ends : (xs : List Seat) (st : Settings)
+pub sheet-ends : (xs : List Seat) (st : Settings)
     → sheet xs st ≡ seatsOctets xs ++ ending st (length (seatsOctets xs)) (length xs)
 unfolding sheet ending
 sheet-ends xs st = append-assoc (seatsOctets xs) (settingsOctets st) (trailer (length (seatsOctets xs)) (length xs))
@@ -243,8 +242,8 @@ all-read (x ∷ xs) s p r at is here l =
     let is′ : s ≡ p ++ (seatOctets x ++ rest) = is ∙ ap (λ (t : List ℕ). p ++ t) (append-assoc (seatOctets x) (seatsOctets xs) r) in
     let k : 20 ≤ length rest = omega (arith, length-append (seatsOctets xs) r) in
     let on : readSeats (length xs) s (afterSeat s at) ≡ whole xs =
-        all-read xs s (p ++ seatOctets x) r (afterSeat s at) (is′ ∙ sym (append-assoc p (seatOctets x) rest))
-        (after-read x rest s p at is′ here ∙ sym (length-append p (seatOctets x))) l in
+    all-read xs s (p ++ seatOctets x) r (afterSeat s at) (is′ ∙ sym (append-assoc p (seatOctets x) rest))
+    (after-read x rest s p at is′ here ∙ sym (length-append p (seatOctets x))) l in
     rw (seat-laid-out x rest s p at is′ here k, seat-read x rest s p at is′ here, on)
 
 -- the seats of a sheet

@@ -1,30 +1,25 @@
 -- Seats that join one after the other into an empty hall sit in a row: the first k seats are taken, in order, and the others are free.
 -- Assumes nothing.
-use Prim.Native.Nat.{ℕ, zero, suc, _+_, _-_, _≤_, _<_}
+use Prim.Native.Nat.{ℕ, zero, suc, _+_, _≤_, _<_}
 use native.Mathlib.Omega.{arith}
-use native.Mathlib.Numerals.{add-one}
-use mathlib.Core.Bool.{Bool, true, false, not, _&&_}
-use mathlib.Core.List.{List, [], _∷_, _++_}
-use mathlib.Core.Path.{_≡_, refl, sym, ap, subst, _∙_}
+use mathlib.Core.Bool.{Bool, true, false, not}
+use mathlib.Core.List.{List, [], _++_}
+use mathlib.Core.Path.{_≡_, refl, sym, ap, _∙_}
 use lib.Dec.{leb, ltb, eqb}
-use lib.ListN.{length, getD, take, drop, set, replicate, length-set, length-replicate, getD-replicate, drop-of-length-le, length-append}
+use lib.ListN.{length, getD, take, drop, replicate, length-set, getD-replicate, drop-of-length-le}
 use lib.Seq.{getD-set-same, getD-set-other, drop-cons, take-take, take-append-seam}
-use borrow.Author.Tests.{eqb-true, eqb-false, lt-ltb, le-ltb, ltb-true, ltb-false, leb-true, leb-false, le-leb}
-use Rattle.words.specs.Choice.{if_then_else_, if-yes, if-no, by-test}
-use Rattle.words.specs.Below.{and-left, and-right}
-use Rattle.words.specs.Table.{padded}
+use borrow.Author.Tests.{eqb-true, eqb-false, lt-ltb, le-ltb, ltb-true, ltb-false, leb-true}
+use Rattle.words.specs.Choice.{if_then_else_, by-test}
+use Rattle.words.specs.Below.{and-right}
 use Rattle.hall.specs.declared.Settings.{Settings}
 use Rattle.hall.specs.declared.Newcomer.{Newcomer}
 use Rattle.hall.specs.declared.Name.{Name}
 use Rattle.hall.specs.declared.Names.{Names}
 use Rattle.hall.specs.declared.Hall.{Hall}
-use Rattle.hall.specs.declared.Joined.{Joined}
-use Rattle.hall.specs.declared.Found.{Found}
 use Rattle.hall.specs.declared.Found.the-variants.{At, Nowhere}
-use Rattle.hall.specs.Seats.{emptyHall, isPresent, queues, receivesOnly, firstFrom, lowest, freeSeat, withSeat}
-use Rattle.hall.specs.Identity.{octetsOf, nameOf, noName, noNames, nameAt, withName, lengthAllowed}
-use Rattle.hall.specs.Join.{join, seated}
-use Rattle.sheet.specs.Layout.{Seat, whoSits, seatAt, seatsFrom, seatsOf}
+use Rattle.hall.specs.Seats.{emptyHall, isPresent, firstFrom, freeSeat, withSeat}
+use Rattle.hall.specs.Identity.{octetsOf, nameOf, noName, noNames, withName, lengthAllowed}
+use Rattle.sheet.specs.Layout.{Seat, seatAt, seatsFrom, seatsOf}
 
 -- an identity comes out of its name as it went in
 prefix-length : (o z : List ℕ) (n : ℕ) → length o ≤ n → take (length o) (take n (o ++ z)) ≡ o

@@ -1,7 +1,6 @@
 -- What a sheet keeps (document 01, "The sheet"): what is saved loads, what loads is written back octet for octet, and nothing is lost. Each
 -- statement here is proved in proofs/, in the file named beside it. Assumes nothing.
-use Prim.Native.Nat.{ℕ, _+_, _≤_, _<_}
-use mathlib.Core.Bool.{Bool, true}
+use Prim.Native.Nat.{ℕ, _≤_, _<_}
 use mathlib.Core.List.{List}
 use mathlib.Core.Path.{_≡_}
 use lib.Dec.{ltb}
@@ -9,11 +8,11 @@ use lib.ListN.{length, getD}
 use Rattle.hall.specs.declared.Settings.{Settings}
 use Rattle.hall.specs.declared.Hall.{Hall}
 use Rattle.hall.specs.declared.Names.{Names}
-use Rattle.hall.specs.Seats.{inRange, isPresent}
+use Rattle.hall.specs.Seats.{isPresent}
 use Rattle.desk.specs.Events.{fresh}
 use Rattle.sheet.specs.declared.Loading.{Loading}
 use Rattle.sheet.specs.declared.Saving.{Saving}
-use Rattle.sheet.specs.Layout.{Seat, seatsOf, sheet, sheetOf}
+use Rattle.sheet.specs.Layout.{Seat, seatsOf, sheetOf}
 use Rattle.sheet.specs.Loading.{Load, loading, told as toldByLoad}
 use Rattle.sheet.specs.Saving.{told as toldBySave}
 use Rattle.sheets.specs.Reached.{Reached}
@@ -46,8 +45,8 @@ abbrev pub Lossless : Type 0
 Lossless =
     (g h : Hall) (ms ns : Names) → sheetOf g ms ≡ sheetOf h ns → SameSheet (seatsOf g ms) (seatsOf h ns) (g .settings) (h .settings)
 
--- The shortest sheet has 20 octets, and the longest 1,124 (proofs/Lengths); both lengths occur.
-pub record Lengths : Type 1 where
+-- The shortest sheet has 20 octets, and the longest 1,124 (proofs/Lengths).
+pub record Lengths : Type 0 where
   pub shortest : (h : Hall) (ns : Names) → 20 ≤ length (sheetOf h ns)
   pub longest : (h : Hall) (ns : Names) → Reached h ns → length (sheetOf h ns) ≤ 1124
 
