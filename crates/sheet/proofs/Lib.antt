@@ -1,0 +1,4 @@
+-- Laws of the definitions that the functions here cite.
+pub mod Walks
+pub mod Saves
+pub mod Loads

@@ -1,0 +1,4 @@
+pub mod Layout
+pub mod Saving
+pub mod Loading
+pub mod Walk
