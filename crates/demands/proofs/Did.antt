@@ -216,7 +216,7 @@ module _ (h : Hall) (k : HallOk h) (c : Core) (o : CoreOk h c) (deaf : (s : ℕ)
         (λ q. shifted press w q)
 
     comes : (press : Bool) → isIn t line ≡ false → receivesOnly h t ≡ false → full c h ≡ false → Does (asks t p) why (placed c h t p press)
-    unfolding placed full  Plain
+    unfolding placed full Plain
     comes press w v f =
         let l : length line < h .settings .limit = leb-false _ _ f in
         let m : length (enter (entry t p) line) ≤ 15 = rw (entered-length (entry t p) line) (omega (arith, k .limit)) in
