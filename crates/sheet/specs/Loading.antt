@@ -1,5 +1,5 @@
 -- Loading (document 01, "The sheet", 41 to 45), for any octets whatever. Assumes nothing.
-use Prim.Native.Nat.{ℕ, zero, suc, _+_, _-_, _%_}
+use Prim.Native.Nat.{ℕ, zero, suc, _+_, _-_, _/_, _%_}
 use mathlib.Core.Bool.{Bool, not, _&&_, _||_}
 use mathlib.Core.List.{List, [], _∷_}
 use lib.Dec.{ltb, leb, eqb}
@@ -86,7 +86,7 @@ whoIs s at =
       ssrc = be32 s (at + 2);
       highest = getD s (at + 1) 0;
       queueing = eqb (getD s at 0 % 2) 1;
-      listener = leb 2 (getD s at 0);
+      listener = eqb (getD s at 0 / 2 % 2) 1;
     }
 
 unfoldable pub readSeat : List ℕ → ℕ → Seat

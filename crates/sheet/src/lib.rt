@@ -288,7 +288,7 @@ fn who_is(s: &[u8], at: usize) -> Newcomer
         ssrc: octets::number32(s, at + 2),
         highest: s[at + 1],
         queueing: flags % 2 == 1,
-        listener: 2 <= flags,
+        listener: flags / 2 % 2 == 1,
     }
 }
 

@@ -1,5 +1,5 @@
 -- What was read from a sheet, written again, is what stood there: a seat, all seats, and the 20 octets behind them. Assumes nothing.
-use Prim.Native.Nat.{ℕ, zero, suc, _+_, _%_, _≤_, _<_}
+use Prim.Native.Nat.{ℕ, zero, suc, _+_, _/_, _%_, _≤_, _<_}
 use native.Mathlib.Nat.{add-zero, add-assoc}
 use native.Mathlib.Omega.{arith}
 use mathlib.Core.Bool.{Bool, true, false}
@@ -8,7 +8,7 @@ use mathlib.Core.Path.{_≡_, refl, sym, ap, _∙_}
 use lib.Dec.{leb, ltb, eqb}
 use lib.ListN.{length, getD, take, drop, length-drop}
 use lib.Seq.{drop-cons, drop-drop, take-add, take-all}
-use borrow.Author.Tests.{ltb-true, leb-true, leb-false, eqb-true, eqb-false}
+use borrow.Author.Tests.{ltb-true, eqb-true, eqb-false}
 use Rattle.words.specs.Choice.{if_then_else_, by-test}
 use Rattle.words.specs.Below.{and-right}
 use Rattle.octets.specs.Octets.{be16, be32, octets16, octets32, part}
@@ -60,11 +60,11 @@ module _ (s : List ℕ) (octets : Octets s) where
       let f = getD s at 0 in
       by-test (eqb (f % 2) 1)
       (λ q.
-      by-test (leb 2 f) (λ l. rw (q, l) (omega (arith, eqb-true (f % 2) 1 q, leb-true 2 f l)))
-      (λ l. rw (q, l) (omega (arith, eqb-true (f % 2) 1 q, leb-false 2 f l))))
+      by-test (eqb (f / 2 % 2) 1) (λ l. rw (q, l) (omega (arith, eqb-true (f % 2) 1 q, eqb-true (f / 2 % 2) 1 l)))
+      (λ l. rw (q, l) (omega (arith, eqb-true (f % 2) 1 q, eqb-false (f / 2 % 2) 1 l))))
       (λ q.
-      by-test (leb 2 f) (λ l. rw (q, l) (omega (arith, eqb-false (f % 2) 1 q, leb-true 2 f l)))
-      (λ l. rw (q, l) (omega (arith, eqb-false (f % 2) 1 q, leb-false 2 f l))))
+      by-test (eqb (f / 2 % 2) 1) (λ l. rw (q, l) (omega (arith, eqb-false (f % 2) 1 q, eqb-true (f / 2 % 2) 1 l)))
+      (λ l. rw (q, l) (omega (arith, eqb-false (f % 2) 1 q, eqb-false (f / 2 % 2) 1 l))))
 
   laid-flags : (at : ℕ) → laidOut s at ≡ true → getD s at 0 < 4
   unfolding laidOut

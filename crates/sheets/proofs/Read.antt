@@ -1,10 +1,10 @@
 -- A sheet read again: its trailer, its settings and its seats are those that were written. Assumes nothing.
-use Prim.Native.Nat.{ℕ, _+_, _-_, _%_, _≤_, _<_}
+use Prim.Native.Nat.{ℕ, _+_, _-_, _/_, _%_, _≤_, _<_}
 use native.Mathlib.Omega.{arith}
 use mathlib.Core.Bool.{true}
 use mathlib.Core.List.{List, [], _∷_, _++_, append-assoc}
 use mathlib.Core.Path.{_≡_, refl, sym, ap, _∙_}
-use lib.Dec.{leb, eqb}
+use lib.Dec.{eqb}
 use lib.ListN.{length, getD, length-append}
 use lib.Seq.{take-append-seam}
 use borrow.Author.Tests.{le-leb, lt-ltb, eq-eqb}
@@ -170,7 +170,7 @@ module _ (n : Newcomer) where
       by-test (n .queueing) (λ q. by-test (n .listener) (λ l. rw (q, l)) (λ l. rw (q, l)))
       (λ q. by-test (n .listener) (λ l. rw (q, l)) (λ l. rw (q, l)))
 
-  listener-again : leb 2 (flags n) ≡ n .listener
+  listener-again : eqb (flags n / 2 % 2) 1 ≡ n .listener
   unfolding flags if_then_else_
   listener-again =
       by-test (n .queueing) (λ q. by-test (n .listener) (λ l. rw (q, l)) (λ l. rw (q, l)))

@@ -1,2 +1,3 @@
 pub mod Reached
 pub mod Sheets
+pub mod Byhand

@@ -1,0 +1,49 @@
+use Prim.Native.Nat.{_-_, _≤_}
+use borrow.Author.Needs.{needs}
+use Rattle.sheet_dump.proofs.dump.identity.Statement.{statement}
+use Rattle.sheet_dump.proofs.dump.identity.Tie as tie
+
+abbrev Inv-loop : tie.InvT-loop
+Inv-loop s at count done₀ done = done ≤ count
+
+abbrev μ-loop : tie.MeasureT-loop
+μ-loop s at count done₀ done = count - done
+
+loop-holds : tie.Need-loop-holds Inv-loop μ-loop
+loop-holds c = search needs
+
+sub-next-line : tie.Need-sub-next-line Inv-loop μ-loop
+sub-next-line c = search needs
+
+next-line-requires : tie.Need-next-line-requires Inv-loop μ-loop
+next-line-requires c κs = search needs
+
+letters-requires : tie.Need-letters-requires Inv-loop μ-loop
+letters-requires c κs = search needs
+
+add-done : tie.Need-add-done Inv-loop μ-loop
+add-done c = search needs
+
+loop-less : tie.Need-loop-less Inv-loop μ-loop
+loop-less c = search needs
+
+loop-again : tie.Need-loop-again Inv-loop μ-loop
+loop-again c = search needs
+
+returns : tie.Need-returns Inv-loop μ-loop
+returns c = search needs
+
+pub identity-spec : {M : Type 1} → statement M
+identity-spec =
+    tie.close
+    (tie.spec
+    Inv-loop
+    μ-loop
+    loop-holds
+    sub-next-line
+    next-line-requires
+    letters-requires
+    add-done
+    loop-less
+    loop-again
+    returns)
