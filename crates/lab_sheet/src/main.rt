@@ -1,14 +1,304 @@
 // Saves the class's sheet, prints it octet by octet, damages it in each way that loading looks for, and prints the answer to each.
-mod damages;
-
 use desk::Left;
 use hall::Hall;
 use hall::Joined;
 use hall::Names;
 use hall::Newcomer;
 use hall::Settings;
+use libc::STDOUT_FILENO;
 use sheet::Saving;
 use sheet::Verdict;
+ghost use Prim.Native.Nat.{_<_, _≤_};
+ghost use mathlib.Core.Path.{_≡_};
+
+// What the lab prints with.
+
+fn say(s: &[u8]) {
+    io::write_all(STDOUT_FILENO, s);
+}
+
+fn say_number(n: usize) {
+    io::print_decimal(STDOUT_FILENO, n as u64);
+}
+
+// An offset, in four columns.
+fn say_offset(n: usize) {
+    if n < 10 {
+        say(b" ");
+    }
+    if n < 100 {
+        say(b" ");
+    }
+    if n < 1000 {
+        say(b" ");
+    }
+    say_number(n);
+    say(b"  ");
+}
+
+// An octet as a number.
+fn wide(x: u8) -> usize
+    ensures { λ r. ⌜ r ≡ x ⌝ }
+{
+    x as usize
+}
+
+// Octets in hexadecimal.
+fn say_octets(s: &[u8]) {
+    let mut i = 0;
+    while i < s.len() {
+        let octet = wide(s[i]);
+        io::print_hex(STDOUT_FILENO, octet as u64, 2);
+        say(b" ");
+        i += 1;
+    }
+}
+
+// Spaces in the place of octets, up to eight.
+fn say_pad(n: usize) {
+    let mut i = n;
+    while i < 8 {
+        say(b"   ");
+        i += 1;
+    }
+    say(b" ");
+}
+
+// A sheet as a person would want to see it: the offset, the octets, and what they are.
+
+// One line of the dump, if its octets lie in the sheet; what they are is printed behind it.
+fn dump_line(s: &[u8], at: usize, count: usize) {
+    if at <= s.len() {
+        if count <= s.len() - at {
+            let end = at + count;
+            say_offset(at);
+            say_octets(&s[at..end]);
+            say_pad(count);
+        }
+    }
+}
+
+// An octet of the sheet as a number; 0 past its end.
+fn dump_octet(s: &[u8], at: usize) -> usize {
+    if at < s.len() { wide(s[at]) } else { 0 }
+}
+
+fn labelled(s: &[u8], at: usize, count: usize, what: &[u8]) {
+    dump_line(s, at, count);
+    say(what);
+    say(b"\n");
+}
+
+fn numbered(s: &[u8], at: usize, what: &[u8]) {
+    dump_line(s, at, 1);
+    say(what);
+    say(b" ");
+    say_number(dump_octet(s, at));
+    say(b"\n");
+}
+
+fn dump_flags(s: &[u8], at: usize) {
+    dump_line(s, at, 1);
+    match dump_octet(s, at) {
+        0 => say(b"flags: none\n"),
+        1 => say(b"flags: queueing\n"),
+        2 => say(b"flags: receive only\n"),
+        3 => say(b"flags: queueing, receive only\n"),
+        _ => say(b"flags: at fault\n"),
+    }
+}
+
+// How many octets the next line has.
+fn next_line(left: usize) -> usize
+    requires { ⌜ 0 < left ⌝ }
+    ensures { λ r. ⌜ (0 < r) × (r ≤ left) ⌝ }
+{
+    if left < 8 { left } else { 8 }
+}
+
+// An identity, eight octets to a line, with its letters.
+fn dump_identity(s: &[u8], at: usize, count: usize) {
+    let mut done = 0;
+    while done < count {
+        let n = next_line(count - done);
+        dump_letters(s, at, done, n);
+        done += n;
+    }
+}
+
+fn dump_letters(s: &[u8], at: usize, done: usize, n: usize) {
+    if at <= s.len() {
+        if done <= s.len() - at {
+            if n <= s.len() - at - done {
+                let from = at + done;
+                let end = from + n;
+                dump_line(s, from, n);
+                say(b"  ");
+                say(&s[from..end]);
+                say(b"\n");
+            }
+        }
+    }
+}
+
+// One seat; where the next begins.
+fn dump_seat(s: &[u8], at: usize, end: usize) -> usize {
+    if end <= at {
+        return at;
+    }
+    if end - at < 7 {
+        return end;
+    }
+    let count = dump_octet(s, at + 6);
+    say(b"seat\n");
+    dump_flags(s, at);
+    numbered(s, at + 1, b"highest priority");
+    labelled(s, at + 2, 4, b"SSRC");
+    numbered(s, at + 6, b"identity length");
+    dump_identity(s, at + 7, count);
+    if end - at - 7 < count {
+        return end;
+    }
+    at + 7 + count
+}
+
+fn dump_settings(s: &[u8]) {
+    if s.len() < 20 {
+        return;
+    }
+    let at = s.len() - 20;
+    say(b"settings\n");
+    labelled(s, at, 4, b"SSRC of the desk");
+    numbered(s, at + 4, b"pre-emptive level");
+    numbered(s, at + 5, b"line limit");
+    numbered(s, at + 6, b"C7 limit");
+    numbered(s, at + 7, b"C20 limit");
+    labelled(s, at + 8, 2, b"duration");
+    labelled(s, at + 10, 2, b"zeros");
+}
+
+fn dump_trailer(s: &[u8]) {
+    if s.len() < 8 {
+        return;
+    }
+    let at = s.len() - 8;
+    say(b"trailer\n");
+    labelled(s, at, 2, b"offset of settings");
+    labelled(s, at + 2, 2, b"offset of seats");
+    numbered(s, at + 4, b"seat count");
+    numbered(s, at + 5, b"form");
+    labelled(s, at + 6, 2, b"letters FS");
+}
+
+// The whole sheet.
+fn dump_sheet(s: &[u8]) {
+    if s.len() < 20 {
+        return;
+    }
+    let end = s.len() - 20;
+    let mut at = 0;
+    let mut number: u8 = 0;
+    while number < 16 {
+        at = dump_seat(s, at, end);
+        number += 1;
+    }
+    dump_settings(s);
+    dump_trailer(s);
+}
+
+// The ways in which the class's sheet is damaged: a title, the place of one octet, and what is put there. The sheet has 224 octets: five
+// seats, the second from 22 on; settings from 204 on; the trailer from 216 on.
+
+const PLACES: [usize; 24] = [
+    222,
+    223,
+    221,
+    221,
+    220,
+    217,
+    219,
+    208,
+    209,
+    210,
+    211,
+    213,
+    214,
+    215,
+    0,
+    0,
+    6,
+    6,
+    6,
+    37,
+    27,
+    5,
+    220,
+    220,
+];
+
+const VALUES: [u8; 24] = [
+    b'f',
+    b'T',
+    2,
+    0,
+    17,
+    205,
+    1,
+    0,
+    16,
+    0,
+    0,
+    0,
+    1,
+    1,
+    5,
+    129,
+    0,
+    63,
+    255,
+    b'1',
+    10,
+    1,
+    4,
+    6,
+];
+
+fn damage_place(i: usize) -> usize {
+    if i < 24 { PLACES[i] } else { 0 }
+}
+
+fn damage_value(i: usize) -> u8 {
+    if i < 24 { VALUES[i] } else { 0 }
+}
+
+fn damage_title(i: usize) {
+    match i {
+        0 => say(b"no F: "),
+        1 => say(b"no S: "),
+        2 => say(b"form 2: "),
+        3 => say(b"form 0: "),
+        4 => say(b"count 17: "),
+        5 => say(b"settings one further: "),
+        6 => say(b"seats not at the front: "),
+        7 => say(b"level 0: "),
+        8 => say(b"line limit 16: "),
+        9 => say(b"C7 limit 0: "),
+        10 => say(b"C20 limit 0: "),
+        11 => say(b"duration 0: "),
+        12 => say(b"first zero is 1: "),
+        13 => say(b"second zero is 1: "),
+        14 => say(b"flag bit 2: "),
+        15 => say(b"flag bit 7: "),
+        16 => say(b"identity length 0: "),
+        17 => say(b"identity length 63: "),
+        18 => say(b"identity runs into the settings: "),
+        19 => say(b"identity present already: "),
+        20 => say(b"SSRC present already: "),
+        21 => say(b"SSRC of the desk: "),
+        22 => say(b"one seat fewer: "),
+        _ => say(b"one seat more: "),
+    }
+}
 
 // The desk's SSRC is 1, the level 200, the line limit 2, C7 and C20 limits 2, a grant 30 seconds.
 fn empty_class() -> Hall {
@@ -69,12 +359,12 @@ fn full_class() -> Joined {
 
 fn verdict(v: Verdict) {
     match v {
-        Verdict::Accepted => sheet_dump::text(b"accepted\n"),
-        Verdict::NotASheet => sheet_dump::text(b"refused 41: under 20 octets or no FS\n"),
-        Verdict::OtherForm => sheet_dump::text(b"refused 42: form\n"),
-        Verdict::WrongPlaces => sheet_dump::text(b"refused 43: count, or an offset\n"),
-        Verdict::OutsideRange => sheet_dump::text(b"refused 44: a setting\n"),
-        Verdict::SeatAtFault => sheet_dump::text(b"refused 45: a seat\n"),
+        Verdict::Accepted => say(b"accepted\n"),
+        Verdict::NotASheet => say(b"refused 41: under 20 octets or no FS\n"),
+        Verdict::OtherForm => say(b"refused 42: form\n"),
+        Verdict::WrongPlaces => say(b"refused 43: count, or an offset\n"),
+        Verdict::OutsideRange => say(b"refused 44: a setting\n"),
+        Verdict::SeatAtFault => say(b"refused 45: a seat\n"),
     }
 }
 
@@ -90,13 +380,13 @@ fn save(hall: Hall, names: Names, room: &mut [u8]) -> usize {
     let saving = sheet::save(hall, names, room);
     match saving {
         Saving::Saved(n) => {
-            sheet_dump::text(b"saved, ");
-            sheet_dump::number(n);
-            sheet_dump::text(b" octets\n");
+            say(b"saved, ");
+            say_number(n);
+            say(b" octets\n");
             n
         }
         Saving::NoRoom => {
-            sheet_dump::text(b"refused 13: the room is too short\n");
+            say(b"refused 13: the room is too short\n");
             0
         }
     }
@@ -115,7 +405,7 @@ fn damage(i: usize, room: &mut [u8], n: usize, at: usize, value: u8) {
     if at < room.len() {
         let old = room[at];
         room[at] = value;
-        damages::title(i);
+        damage_title(i);
         tell(first(room, n));
         room[at] = old;
     }
@@ -124,7 +414,7 @@ fn damage(i: usize, room: &mut [u8], n: usize, at: usize, value: u8) {
 fn all_damages(room: &mut [u8], n: usize) {
     let mut i = 0;
     while i < 24 {
-        damage(i, room, n, damages::place(i), damages::value(i));
+        damage(i, room, n, damage_place(i), damage_value(i));
         i += 1;
     }
 }
@@ -134,13 +424,13 @@ fn cut(s: &[u8]) {
     if s.len() < 20 {
         return;
     }
-    sheet_dump::text(b"no octets: ");
+    say(b"no octets: ");
     tell(&s[0..0]);
-    sheet_dump::text(b"19 octets: ");
+    say(b"19 octets: ");
     tell(&s[0..19]);
-    sheet_dump::text(b"first octet missing: ");
+    say(b"first octet missing: ");
     tell(&s[1..]);
-    sheet_dump::text(b"whole: ");
+    say(b"whole: ");
     tell(s);
 }
 
@@ -165,14 +455,14 @@ fn back(s: &[u8], room: &mut [u8]) {
     let v = l.verdict;
     let hall = l.hall;
     let names = l.names;
-    sheet_dump::text(b"loaded: ");
+    say(b"loaded: ");
     verdict(v);
-    sheet_dump::text(b"saved again: ");
+    say(b"saved again: ");
     let n = save(hall, names, room);
     if is_same(s, first(room, n)) {
-        sheet_dump::text(b"the same octets\n");
+        say(b"the same octets\n");
     } else {
-        sheet_dump::text(b"other octets\n");
+        say(b"other octets\n");
     }
 }
 
@@ -183,9 +473,9 @@ fn again(s: &[u8]) {
 
 fn behind(room: &[u8], n: usize) {
     if n < room.len() {
-        sheet_dump::text(b"the octet behind it: ");
-        sheet_dump::number(sheet_dump::wide(room[n]));
-        sheet_dump::text(b"\n");
+        say(b"the octet behind it: ");
+        say_number(wide(room[n]));
+        say(b"\n");
     }
 }
 
@@ -196,9 +486,9 @@ fn one_less(n: usize) -> usize {
 // Saves into so many octets.
 fn save_into(hall: Hall, names: Names, room: &mut [u8], n: usize) {
     if n <= room.len() {
-        sheet_dump::text(b"in ");
-        sheet_dump::number(n);
-        sheet_dump::text(b" octets: ");
+        say(b"in ");
+        say_number(n);
+        say(b" octets: ");
         save(hall, names, &mut room[..n]);
     }
 }
@@ -220,8 +510,8 @@ fn rooms(hall: Hall, names: Names) {
 // The class's sheet, printed, damaged and cut.
 fn lesson(hall: Hall, names: Names, room: &mut [u8]) {
     let n = save(hall, names, room);
-    sheet_dump::sheet(first(room, n));
-    sheet_dump::text(b"\nDamaged:\n");
+    dump_sheet(first(room, n));
+    say(b"\nDamaged:\n");
     all_damages(room, n);
     cut(first(room, n));
 }
@@ -231,13 +521,13 @@ fn main() {
     let left = class();
     let hall = left.hall;
     let names = left.names;
-    sheet_dump::text(b"The class: ");
+    say(b"The class: ");
     lesson(hall, names, &mut room);
-    sheet_dump::text(b"\nRooms, and back again: ");
+    say(b"\nRooms, and back again: ");
     rooms(hall, names);
-    sheet_dump::text(b"\nNobody: ");
+    say(b"\nNobody: ");
     rooms(empty_class(), hall::no_names());
-    sheet_dump::text(b"\nEverybody: ");
+    say(b"\nEverybody: ");
     let full = full_class();
     let everyone = full.hall;
     let all_names = full.names;

@@ -14,11 +14,11 @@ abbrev μ-loop : tie.MeasureT-loop
 loop-holds : tie.Need-loop-holds Inv-loop μ-loop
 loop-holds c = search needs
 
-place-requires : tie.Need-place-requires Inv-loop μ-loop
-place-requires c κs = search needs
+damage-place-requires : tie.Need-damage-place-requires Inv-loop μ-loop
+damage-place-requires c κs = search needs
 
-value-requires : tie.Need-value-requires Inv-loop μ-loop
-value-requires c κs = search needs
+damage-value-requires : tie.Need-damage-value-requires Inv-loop μ-loop
+damage-value-requires c κs = search needs
 
 damage-requires : tie.Need-damage-requires Inv-loop μ-loop
 damage-requires c κs = search needs
@@ -45,8 +45,8 @@ all-damages-spec =
     Inv-loop
     μ-loop
     loop-holds
-    place-requires
-    value-requires
+    damage-place-requires
+    damage-value-requires
     damage-requires
     add-i
     loop-less

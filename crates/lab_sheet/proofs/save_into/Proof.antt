@@ -4,20 +4,20 @@ use borrow.Author.Needs.{needs}
 use Rattle.lab_sheet.proofs.save_into.Statement.{statement}
 use Rattle.lab_sheet.proofs.save_into.Tie as tie
 
-slice-aggregate-text : tie.Need-slice-aggregate-text
-slice-aggregate-text c = search needs
+slice-aggregate-say : tie.Need-slice-aggregate-say
+slice-aggregate-say c = search needs
 
-text-requires : tie.Need-text-requires
-text-requires c κs = search needs
+say-requires : tie.Need-say-requires
+say-requires c κs = search needs
 
-number-requires : tie.Need-number-requires
-number-requires c κs = search needs
+say-number-requires : tie.Need-say-number-requires
+say-number-requires c κs = search needs
 
-slice-aggregate-text-2 : tie.Need-slice-aggregate-text-2
-slice-aggregate-text-2 c = search needs
+slice-aggregate-say-2 : tie.Need-slice-aggregate-say-2
+slice-aggregate-say-2 c = search needs
 
-text-requires-2 : tie.Need-text-requires-2
-text-requires-2 c κs = search needs
+say-requires-2 : tie.Need-say-requires-2
+say-requires-2 c κs = search needs
 
 slice-relend-prefix-save : tie.Need-slice-relend-prefix-save
 slice-relend-prefix-save c = search needs
@@ -41,11 +41,11 @@ pub save-into-spec : {M : Type 1} → statement M
 save-into-spec =
     tie.close
     (tie.spec
-    slice-aggregate-text
-    text-requires
-    number-requires
-    slice-aggregate-text-2
-    text-requires-2
+    slice-aggregate-say
+    say-requires
+    say-number-requires
+    slice-aggregate-say-2
+    say-requires-2
     slice-relend-prefix-save
     slice-aggregate-save
     save-requires

@@ -2,8 +2,8 @@ use mathlib.Core.Path.{_≡_}
 use Prim.Native.Nat.{_-_, _≤_}
 use lib.ListN.{length}
 use borrow.Author.Needs.{needs}
-use Rattle.sheet_dump.proofs.say.octets.Statement.{statement}
-use Rattle.sheet_dump.proofs.say.octets.Tie as tie
+use Rattle.lab_sheet.proofs.say_octets.Statement.{statement}
+use Rattle.lab_sheet.proofs.say_octets.Tie as tie
 
 abbrev Inv-loop : tie.InvT-loop
 Inv-loop s i₀ t4 i = (i ≤ length s) × (length t4 ≡ 1)
@@ -23,11 +23,11 @@ wide-requires c κs = search needs
 print-hex-requires : tie.Need-print-hex-requires Inv-loop μ-loop
 print-hex-requires c κs = search needs
 
-slice-aggregate-text : tie.Need-slice-aggregate-text Inv-loop μ-loop
-slice-aggregate-text c = search needs
+slice-aggregate-say : tie.Need-slice-aggregate-say Inv-loop μ-loop
+slice-aggregate-say c = search needs
 
-text-requires : tie.Need-text-requires Inv-loop μ-loop
-text-requires c κs = search needs
+say-requires : tie.Need-say-requires Inv-loop μ-loop
+say-requires c κs = search needs
 
 add-i : tie.Need-add-i Inv-loop μ-loop
 add-i c = search needs
@@ -41,8 +41,8 @@ loop-again c = search needs
 returns : tie.Need-returns Inv-loop μ-loop
 returns c = search needs
 
-pub octets-spec : {M : Type 1} → statement M
-octets-spec =
+pub say-octets-spec : {M : Type 1} → statement M
+say-octets-spec =
     tie.close
     (tie.spec
     Inv-loop
@@ -51,8 +51,8 @@ octets-spec =
     shared-slice-read-wide
     wide-requires
     print-hex-requires
-    slice-aggregate-text
-    text-requires
+    slice-aggregate-say
+    say-requires
     add-i
     loop-less
     loop-again

@@ -1,7 +1,7 @@
 use Prim.Native.Nat.{_-_, _≤_}
 use borrow.Author.Needs.{needs}
-use Rattle.sheet_dump.proofs.dump.identity.Statement.{statement}
-use Rattle.sheet_dump.proofs.dump.identity.Tie as tie
+use Rattle.lab_sheet.proofs.dump_identity.Statement.{statement}
+use Rattle.lab_sheet.proofs.dump_identity.Tie as tie
 
 abbrev Inv-loop : tie.InvT-loop
 Inv-loop s at count done₀ done = done ≤ count
@@ -18,8 +18,8 @@ sub-next-line c = search needs
 next-line-requires : tie.Need-next-line-requires Inv-loop μ-loop
 next-line-requires c κs = search needs
 
-letters-requires : tie.Need-letters-requires Inv-loop μ-loop
-letters-requires c κs = search needs
+dump-letters-requires : tie.Need-dump-letters-requires Inv-loop μ-loop
+dump-letters-requires c κs = search needs
 
 add-done : tie.Need-add-done Inv-loop μ-loop
 add-done c = search needs
@@ -33,8 +33,8 @@ loop-again c = search needs
 returns : tie.Need-returns Inv-loop μ-loop
 returns c = search needs
 
-pub identity-spec : {M : Type 1} → statement M
-identity-spec =
+pub dump-identity-spec : {M : Type 1} → statement M
+dump-identity-spec =
     tie.close
     (tie.spec
     Inv-loop
@@ -42,7 +42,7 @@ identity-spec =
     loop-holds
     sub-next-line
     next-line-requires
-    letters-requires
+    dump-letters-requires
     add-done
     loop-less
     loop-again
