@@ -1,17 +1,13 @@
 -- Proof of specs/ThroughCode: a function that keeps its promise makes the rules' outcome. Assumes nothing.
-use Prim.Native.Nat.{ℕ}
-use mathlib.Core.Path.{_≡_, refl, ap, sym, _∙_}
+use mathlib.Core.Path.{_≡_, refl, ap, _∙_}
 use mathlib.Core.List.{List, [], _∷_}
 use Rattle.message.specs.Answers.{Answer, refused, result}
 use Rattle.message.specs.declared.Message as read
 use Rattle.reading.specs.Reading.{reading}
-use Rattle.call.specs.declared.Called.{Called}
 use Rattle.call.specs.Call.{hears, byReading}
 use Rattle.hall.specs.declared.Settings.{Settings}
 use Rattle.hall.specs.declared.Joined.{Joined}
-use Rattle.hall.specs.Seats.{emptyHall}
 use Rattle.rules.specs.declared.Step.{Step}
-use Rattle.desk.specs.declared.Left.{Left}
 use Rattle.desk.specs.Events.{left}
 use Rattle.history.specs.Doing.{Desk, event, leaves, joins, joined, made, does}
 use Rattle.demands.specs.Demands.{Happening, packet, other, heard, byReading as heardBy, Outcome, outcome, ofDoing, happens, History, deskAfter, Row, rowOf, sheet}

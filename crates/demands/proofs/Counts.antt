@@ -1,33 +1,30 @@
 -- Statements 1, 4 and the first half of 5. Assumes nothing.
-use Prim.Native.Nat.{ℕ, zero, suc, _+_, _≤_, _<_}
+use Prim.Native.Nat.{ℕ, zero, suc, _+_}
 use mathlib.Core.Path.{_≡_, refl, ap, sym, _∙_}
-use mathlib.Core.Bool.{Bool, true, false, not, _&&_, _||_}
+use mathlib.Core.Bool.{Bool, true, false, _||_}
 use mathlib.Core.List.{List, [], _∷_}
 use native.Mathlib.Omega.{arith}
 use lib.Dec.{eqb}
-use lib.ListN.{length, getD, replicate}
+use lib.ListN.{getD, replicate}
 use borrow.Author.Tests.{eqb-true}
-use Rattle.words.specs.Choice.{if_then_else_, by-test}
+use Rattle.words.specs.Choice.{by-test}
 use Rattle.line.specs.declared.Entry.{Entry}
-use Rattle.line.specs.Line.{waiting, isIn}
+use Rattle.line.specs.Line.{isIn}
 use Rattle.hall.specs.declared.Settings.{Settings}
 use Rattle.hall.specs.Seats.{inRange}
-use Rattle.rules.specs.declared.Core.{Core}
-use Rattle.rules.specs.declared.Marks.{Marks}
 use Rattle.rules.specs.declared.Phase.{Phase}
 use Rattle.rules.specs.declared.Phase.the-variants.{Stopped, Idle, Taken, Revoking}
-use Rattle.rules.specs.Words.{noMarks}
 use Rattle.rules.specs.Floor.{holds}
 use Rattle.rules.specs.Request.{waits}
 use Rattle.desk.specs.Events.{fresh}
-use Rattle.history.specs.Doing.{Desk, Doing, made, does, after}
+use Rattle.history.specs.Doing.{Desk}
 use Rattle.marks.specs.Marks.{one, LineCounts, FloorCounts}
 use Rattle.marks.specs.InLine.{in-nil, in-cons}
 use Rattle.reach.specs.Sound.{Sound, Once}
 use Rattle.reach.specs.InLine.{clash}
 use Rattle.reach.specs.Reach.{sound-made, sound-kept, marks-counted}
 use Rattle.line.proofs.Laws.{waiting-lineOf}
-use Rattle.demands.specs.Demands.{Happening, Heard, unread, doing, heard, happens, outcome, History, deskAfter, sheet, rowOf, times, standing, isPlaced, isStruck, isGivenOut, isGivenAny, isEnded, Marked, NobodyDropsOut, GivenAndEnded, NothingUnseen}
+use Rattle.demands.specs.Demands.{Happening, Heard, unread, doing, heard, happens, outcome, History, deskAfter, sheet, times, standing, isPlaced, isStruck, isGivenOut, isGivenAny, isEnded, NobodyDropsOut, GivenAndEnded, NothingUnseen}
 
 -- every desk that a history leads to is sound
 pub sound-after : (g : Settings) → inRange g ≡ true → (past : History) → Sound (deskAfter happens g past)
@@ -40,7 +37,7 @@ sound-after g r (x ∷ past) = go (deskAfter happens g past) (heard x) (sound-af
     go d (doing x) k = sound-kept d x k
 
 -- in each step the marks are what the line and the holder did; a packet that was not read has no mark, and did nothing
-none : (n i : ℕ) → getD (replicate n false) i false ≡ false
+pub none : (n i : ℕ) → getD (replicate n false) i false ≡ false
 none zero i = refl
 none (suc n) zero = refl
 none (suc n) (suc i) = none n i

@@ -1,26 +1,23 @@
 -- What a step can do to the line and the floor is one of nine things, each with its marks. Statements 2, 3 and 5 are read off it. Assumes nothing.
-use Prim.Native.Nat.{ℕ, zero, suc, _+_, _≤_, _<_}
+use Prim.Native.Nat.{ℕ, _+_, _≤_, _<_}
 use mathlib.Core.Path.{_≡_, refl, ap, sym, _∙_}
-use mathlib.Core.Bool.{Bool, true, false, not, _&&_, _||_}
+use mathlib.Core.Bool.{Bool, true, false, not, _&&_}
 use mathlib.Core.List.{List, [], _∷_}
 use native.Mathlib.Omega.{arith}
-use lib.Dec.{eqb, leb, ltb}
-use lib.ListN.{length, getD, replicate}
-use borrow.Author.Tests.{eqb-true, eq-eqb, leb-false}
-use Rattle.words.specs.Choice.{if_then_else_, by-test}
+use lib.Dec.{eqb, ltb}
+use lib.ListN.{length}
+use borrow.Author.Tests.{eq-eqb, leb-false}
+use Rattle.words.specs.Choice.{by-test}
 use Rattle.history.specs.Cases.{by-if}
 use Rattle.line.specs.declared.Entry.{Entry}
-use Rattle.line.specs.declared.Line.{Line}
-use Rattle.line.specs.Line.{waiting, lineOf, isIn, before, empty, enter, ahead, without, seatsOf, nobody as no-one}
+use Rattle.line.specs.Line.{waiting, lineOf, isIn, enter, ahead, without, seatsOf, nobody as no-one}
 use Rattle.line.proofs.Laws.{waiting-lineOf, without-le, put-length, ahead-le}
 use Rattle.hall.specs.declared.Hall.{Hall}
 use Rattle.hall.specs.declared.Asked.{Asked}
 use Rattle.hall.specs.declared.Found.{Found}
 use Rattle.hall.specs.declared.Found.the-variants.{At, Nowhere}
-use Rattle.hall.specs.declared.Answer.{Answer}
 use Rattle.hall.specs.declared.Answer.the-variants.{Done, NotExpected}
 use Rattle.hall.specs.Seats.{only, alone, queues, receivesOnly, effective, isPresent, seatOf, vacated}
-use Rattle.hall.specs.Join.{join}
 use Rattle.rules.specs.declared.Beside.{Beside}
 use Rattle.rules.specs.declared.Beside.the-variants.{NoMore, T2, T20}
 use Rattle.rules.specs.declared.Phase.{Phase}
@@ -45,7 +42,7 @@ use Rattle.desk.specs.declared.Timer.the-variants as timer
 use Rattle.desk.specs.Timers.{halted, stops, endsIn, revokesIn, idleAgain, revokesAgain, grantsOrEnds, grantsAgain, fires, isStopped, runs, running, expires}
 use Rattle.desk.specs.Events.{starts, sitting, callerOf, heard, struckOff, releases, asksPlace, talks, step, leaves, leave}
 use Rattle.history.specs.Doing.{Desk, Doing, event, leaves as leaves-now, joins, does}
-use Rattle.marks.specs.InLine.{in-nil, in-cons, only-at, without-less}
+use Rattle.marks.specs.InLine.{in-nil, only-at, without-less}
 use Rattle.reach.specs.Sound.{HallOk, CoreOk, Sound, isBusy}
 use Rattle.reach.specs.InLine.{clash, present-below}
 use Rattle.reach.specs.Hall.{hall-ok}
@@ -76,7 +73,7 @@ pub data Did (a : Asking) (why : ℕ → Bool) (h : Hall) (c d : Core) (m : Mark
   closes : a ≡ nobody → ((s : ℕ) → why s ≡ true) → ((s : ℕ) → isIn s (waiting (c .line)) ≡ true → s < 16) → ((s : ℕ) → holds (c .phase) s ≡ false) → waiting (d .line) ≡ [] → d .phase ≡ Stopped →
       m ≡ marksOf NoSeat (seatsOf (waiting (c .line))) NoSeat NotGiven → Did a why h c d m
 
-and-no : (b c : Bool) → c ≡ false → (b && c) ≡ false
+pub and-no : (b c : Bool) → c ≡ false → (b && c) ≡ false
 and-no true c q = q
 and-no false c q = refl
 

@@ -1,39 +1,31 @@
 -- What the nine things that a step can do say of one seat, of the line and of the holder. Assumes nothing.
-use Prim.Native.Nat.{ℕ, zero, suc, _+_, _≤_, _<_}
+use Prim.Native.Nat.{ℕ, _<_}
 use mathlib.Core.Path.{_≡_, refl, ap, sym, _∙_}
-use mathlib.Core.Bool.{Bool, true, false, not, _&&_, _||_}
+use mathlib.Core.Bool.{Bool, true, false, _||_}
 use mathlib.Core.List.{List, [], _∷_}
-use native.Mathlib.Omega.{arith}
 use lib.Dec.{eqb}
-use lib.ListN.{length, getD, replicate}
+use lib.ListN.{getD}
 use borrow.Author.Tests.{eqb-true, eq-eqb}
-use Rattle.words.specs.Choice.{if_then_else_, if-yes, if-no, by-test}
+use Rattle.words.specs.Choice.{if-yes, if-no}
 use Rattle.line.specs.declared.Entry.{Entry}
-use Rattle.line.specs.Line.{waiting, isIn, enter, without, seatsOf, nobody as no-one}
+use Rattle.line.specs.Line.{waiting, isIn, without, seatsOf, nobody as no-one}
 use Rattle.hall.specs.declared.Hall.{Hall}
-use Rattle.hall.specs.Seats.{only, receivesOnly}
-use Rattle.rules.specs.declared.Phase.{Phase}
+use Rattle.hall.specs.Seats.{receivesOnly}
 use Rattle.rules.specs.declared.Core.{Core}
 use Rattle.rules.specs.declared.Mark.{Mark}
-use Rattle.rules.specs.declared.Mark.the-variants.{NoSeat, Seat}
-use Rattle.rules.specs.declared.Given.{Given}
-use Rattle.rules.specs.declared.Given.the-variants.{NotGiven, AtOnce, OutOfLine}
+use Rattle.rules.specs.declared.Mark.the-variants.{NoSeat}
+use Rattle.rules.specs.declared.Given.the-variants.{OutOfLine}
 use Rattle.rules.specs.declared.Marks.{Marks}
 use Rattle.rules.specs.Floor.{holds}
-use Rattle.rules.specs.Request.{entry}
 use Rattle.desk.specs.Timers.{isStopped}
 use Rattle.marks.specs.Marks.{isSeat}
 use Rattle.marks.specs.InLine.{in-nil, in-cons, only-at, in-added}
 use Rattle.reach.specs.InLine.{clash}
-use Rattle.demands.specs.Demands.{Asking, nobody, asks, moves, isMoved, comesIn, goesOut, heldAfter, isPlaced, isStruck, isEnded}
+use Rattle.demands.specs.Demands.{Asking, nobody, asks, moves, comesIn, goesOut, heldAfter, isPlaced, isStruck, isEnded}
+use Rattle.demands.proofs.Counts.{none}
 use Rattle.demands.proofs.Did.{Did, rests, gives, places, shifts, strikes, passes, frees, halts, closes, Still}
 
-pub none : (n i : ℕ) → getD (replicate n false) i false ≡ false
-none zero i = refl
-none (suc n) zero = refl
-none (suc n) (suc i) = none n i
-
-or-true : (b : Bool) → (b || true) ≡ true
+pub or-true : (b : Bool) → (b || true) ≡ true
 or-true true = refl
 or-true false = refl
 

@@ -1,12 +1,12 @@
 -- Statement 3: of two who wait at one priority, the one in front was placed or moved before the other. Assumes nothing.
-use Prim.Native.Nat.{ℕ, zero, suc, _+_, _≤_, _<_}
+use Prim.Native.Nat.{ℕ, suc, _≤_, _<_}
 use mathlib.Core.Path.{_≡_, refl, ap, sym, subst, _∙_}
 use mathlib.Core.Bool.{Bool, true, false, not, _&&_, _||_}
 use mathlib.Core.List.{List, [], _∷_}
 use native.Mathlib.Omega.{arith}
 use lib.Dec.{eqb, leb}
 use lib.ListN.{length, getD}
-use borrow.Author.Tests.{eqb-true, eq-eqb, ne-eqb, leb-true, leb-false}
+use borrow.Author.Tests.{eqb-true, eq-eqb, ne-eqb, leb-false}
 use Rattle.words.specs.Choice.{if_then_else_, if-yes, if-no, by-test}
 use Rattle.history.specs.Cases.{by-if}
 use Rattle.line.specs.declared.Entry.{Entry}
@@ -18,12 +18,12 @@ use Rattle.rules.specs.declared.Core.{Core}
 use Rattle.rules.specs.declared.Marks.{Marks}
 use Rattle.rules.specs.Request.{entry, waits}
 use Rattle.marks.specs.InLine.{in-nil, in-cons, in-without, only-at}
-use Rattle.reach.specs.Sound.{AtMost, Sorted, Once, ListOk}
+use Rattle.reach.specs.Sound.{AtMost, Sorted, ListOk}
 use Rattle.reach.specs.InLine.{clash, without-ok}
-use Rattle.demands.specs.Demands.{Asking, nobody, asks, Row, happens, History, deskAfter, sheet, rowOf, isPlaced, priorityOf, moves, isMoved, lineFrom, latest, ComesFirst, GoesToTheFirst}
+use Rattle.demands.specs.Demands.{Asking, nobody, Row, happens, History, deskAfter, sheet, rowOf, isPlaced, priorityOf, moves, isMoved, lineFrom, latest, ComesFirst, GoesToTheFirst}
 use Rattle.demands.proofs.Counts.{sound-after}
-use Rattle.demands.proofs.Did.{Did, rests, gives, places, shifts, strikes, passes, frees, halts, closes}
-use Rattle.demands.proofs.OfEach.{goes-to-head}
+use Rattle.demands.proofs.Did.{Did, rests, gives, places, shifts, strikes, passes, frees, halts, closes, and-no}
+use Rattle.demands.proofs.OfEach.{or-true, goes-to-head}
 use Rattle.demands.proofs.Steps.{step-did, line-worked-out}
 
 -- all that stand behind an entry at its priority have a later time
@@ -43,10 +43,6 @@ enter-cons e x xs = by-test (leb (e .priority) (x .priority)) (λ q. rw q) (λ q
 enter-nil : (e : Entry) → enter e [] ≡ e ∷ []
 unfolding enter ahead
 enter-nil e = refl
-
-or-true : (b : Bool) → (b || true) ≡ true
-or-true true = refl
-or-true false = refl
 
 first-in : (x : Entry) (xs : List Entry) → isIn (x .seat) (x ∷ xs) ≡ true
 first-in x xs = in-cons (x .seat) x xs ∙ rw (eq-eqb (x .seat) (x .seat) refl)
@@ -145,10 +141,6 @@ module _ (a : Asking) (why : ℕ → Bool) (h : Hall) (c d : Core) (m : Marks) (
       (λ s z. kept s (ap (isPlaced s) e) (ap (λ (x : Asking). isMoved s x line) q ∙ ap (λ (x : Bool). x && moves t p line) z))
       (without-ok h (only t) line ok .sorted) (order-without at (only t) line k))
     where
-      and-no : (x y : Bool) → y ≡ false → (x && y) ≡ false
-      and-no true y z = z
-      and-no false y z = refl
-
       or-right : (x y : Bool) → y ≡ true → (x || y) ≡ true
       or-right true y z = refl
       or-right false y z = z

@@ -1,16 +1,16 @@
 -- Each step of a history is one of the nine things; with it statements 2 and 5. Assumes nothing.
-use Prim.Native.Nat.{ℕ, zero, suc, _+_, _≤_, _<_}
+use Prim.Native.Nat.{ℕ, _<_}
 use mathlib.Core.Path.{_≡_, refl, ap, sym, _∙_}
-use mathlib.Core.Bool.{Bool, true, false, not, _&&_, _||_}
+use mathlib.Core.Bool.{Bool, true, false, not}
 use mathlib.Core.List.{List, [], _∷_}
 use native.Mathlib.Omega.{arith}
 use lib.Dec.{eqb}
-use lib.ListN.{length, getD, set}
+use lib.ListN.{length}
 use lib.Seq.{getD-set-other}
-use borrow.Author.Tests.{eqb-true, eqb-false, not-true}
-use Rattle.words.specs.Choice.{if_then_else_, by-test}
+use borrow.Author.Tests.{not-true}
+use Rattle.words.specs.Choice.{by-test}
 use Rattle.history.specs.Cases.{by-if}
-use Rattle.line.specs.Line.{waiting, lineOf, isIn}
+use Rattle.line.specs.Line.{waiting, isIn}
 use Rattle.line.proofs.Laws.{waiting-lineOf}
 use Rattle.hall.specs.declared.Settings.{Settings}
 use Rattle.hall.specs.declared.Hall.{Hall}
@@ -22,7 +22,6 @@ use Rattle.hall.specs.declared.Found.the-variants.{At, Nowhere}
 use Rattle.hall.specs.Seats.{inRange, isPresent, receivesOnly, freeSeat, withSeat, vacated}
 use Rattle.hall.specs.Identity.{seatNamed, lengthAllowed}
 use Rattle.hall.specs.Join.{isAt, ssrcTaken, seated, join}
-use Rattle.rules.specs.declared.Core.{Core}
 use Rattle.rules.specs.Floor.{holds}
 use Rattle.rules.specs.Request.{waits}
 use Rattle.desk.specs.declared.Left.{Left}
@@ -30,11 +29,11 @@ use Rattle.desk.specs.Events.{fresh, leave}
 use Rattle.history.specs.Doing.{Desk, Doing, event, leaves, joins, made, does, after}
 use Rattle.marks.specs.Marks.{isSeat}
 use Rattle.marks.specs.InLine.{in-nil}
-use Rattle.reach.specs.Sound.{SeatsOk, Sound}
+use Rattle.reach.specs.Sound.{Sound}
 use Rattle.reach.specs.InLine.{clash, present-below}
 use Rattle.reach.specs.Hall.{found-holds, stored, hall-ok}
 use Rattle.reach.specs.Reach.{marks-counted}
-use Rattle.demands.specs.Demands.{Happening, Heard, unread, doing, heard, outcome, happens, History, deskAfter, Asking, nobody, asks, asking, asked, sheet, isPlaced, isStruck, isGivenOut, changed, lineFrom, holderFrom, reason, StruckForAReason, WorkedOut}
+use Rattle.demands.specs.Demands.{Happening, Heard, unread, doing, heard, outcome, happens, History, deskAfter, asks, asking, asked, sheet, isPlaced, isStruck, isGivenOut, changed, lineFrom, holderFrom, reason, StruckForAReason, WorkedOut}
 use Rattle.demands.proofs.Counts.{sound-after, comes-by}
 use Rattle.demands.proofs.Did.{Did, rests, Deaf, did}
 use Rattle.demands.proofs.OfEach.{placed-why, struck-why, line-changed, holder-changed}

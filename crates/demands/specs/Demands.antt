@@ -1,10 +1,11 @@
--- The mission's three demands, and the third of them stated: over any sequence of events from a fresh desk, nobody drops out unseen.
+-- The mission's third demand: over any sequence of events from a fresh desk, nobody drops out unseen. First what a history is, then how it is
+-- counted, then the five statements. Nothing is assumed but a fresh desk.
 --
---   1  a packet is read by its table, and what is written reads back     reading/specs/Reading, again/specs/Again
---   2  each step is the paper's rule, with its messages and marks         desk/specs/Events; Thursday's exercise: exercise/specs/Thursday
---   3  the marks add up                                                   the five statements at the end of this file
---
--- First what a history is, then how it is counted, then the five statements. Nothing is assumed but a fresh desk.
+-- Where the demands are proved:
+--   1, 2  of each call and each step: the promises above the functions, each proved in its crate. Packets: reading, writing, and again for what
+--         is written and read back. The desk: rules, desk, call; Thursday's exercise and the idle versions: exercise.
+--   3     of any sequence of steps: the statements below. 1, 4 and the first half of 5 in proofs/Counts, 2 and the rest of 5 in proofs/Steps,
+--         3 in proofs/Order; that the reports counted are the code's: specs/ThroughCode, proofs/ByCode.
 use Prim.Native.Nat.{ℕ, suc, _+_, _≤_, _<_}
 use mathlib.Core.Path.{_≡_}
 use mathlib.Core.Bool.{Bool, true, false, not, _&&_, _||_}

@@ -19,7 +19,7 @@ use Rattle.desk.specs.declared.Event.{Event}
 use Rattle.desk.specs.declared.Left.{Left}
 use Rattle.desk.specs.Events.{fresh, step, left, leave}
 use Rattle.history.specs.Doing.{Desk, event, leaves, joins, joined}
-use Rattle.demands.specs.Demands.{Happening, packet, other, Outcome, ofDoing, Server, History, deskAfter, Row, rowOf, sheet, happens}
+use Rattle.demands.specs.Demands.{packet, other, Outcome, ofDoing, Server, History, deskAfter, Row, rowOf, sheet, happens}
 
 -- desk::fresh_core, hall::empty_hall, hall::no_names; desk::make_step, desk::leave_call, hall::join_call, call::hear
 pub record Code : Type 0 where

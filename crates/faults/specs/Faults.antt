@@ -1,0 +1,190 @@
+-- Servers of students, and where the demands stop them: each is the rules' server with one fault, and a short history at which a statement
+-- of Demands is not so. Assumes nothing.
+use Prim.Native.Nat.{ℕ, _+_}
+use mathlib.Core.Path.{_≡_, refl, sym, _∙_}
+use mathlib.Core.Bool.{Bool, true, false, _&&_}
+use mathlib.Core.List.{List, [], _∷_}
+use native.Mathlib.Omega.{arith}
+use lib.ListN.{take}
+use Rattle.words.specs.Choice.{if_then_else_}
+use Rattle.line.specs.declared.Entry.{Entry}
+use Rattle.line.specs.Line.{waiting, lineOf, before, isIn, ahead, enter, anotherAtLeast, without}
+use Rattle.hall.specs.declared.Settings.{Settings}
+use Rattle.hall.specs.declared.Asked.the-variants.{Priority}
+use Rattle.hall.specs.Seats.{inRange, only, emptyHall, alone, effective, seatOf, freeSeat, withSeat}
+use Rattle.hall.specs.Identity.{octetsOf, nameOf, noNames, withName, nameAt, same, seatNamed, lengthAllowed}
+use Rattle.hall.specs.Join.{ssrcTaken, seated, join}
+use Rattle.rules.specs.declared.Given.{Given}
+use Rattle.rules.specs.declared.Given.the-variants.{NotGiven, AtOnce, OutOfLine}
+use Rattle.rules.specs.declared.Marks.{Marks}
+use Rattle.rules.specs.Words.{_withLine_, next}
+use Rattle.rules.specs.Floor.{given, givenAtOnce, givenOutOfLine, entersIdle, passesOn, floorEnds, revokes}
+use Rattle.rules.specs.Request.{entry, waits, priorityIn, full, presses, denied, infoOf, holderAsks, informed, pressed, rule6, asksAgain, placed, request}
+use Rattle.desk.specs.declared.Event.the-variants.{Start, Request, Release}
+use Rattle.desk.specs.Timers.{isStopped}
+use Rattle.desk.specs.Events.{fresh, starts, callerOf, struckOff, releases, step}
+use Rattle.history.specs.Doing.{Desk, event, joins, does}
+use Rattle.demands.specs.Demands.{Happening, other, heard, Outcome, happens, Server, History, deskAfter, Asking, nobody, asks, asked, sheet, times, isPlaced, isStruck, isGivenOut, isEnded, priorityOf, moves, changed, latest, reason, NobodyDropsOut, StruckForAReason, GoesToTheFirst}
+
+-- THE EVENING ON WHICH THEY ARE TRIED
+-- Three sit down: test1, test10 and anna, with SSRCs 10, 11 and 12; the line has room for all.
+abbrev settings : Settings
+settings = record { ssrc = 1; level = 200; limit = 15; c7 = 2; c20 = 2; duration = 30 }
+
+abbrev test1 : List ℕ
+test1 = 116 ∷ 101 ∷ 115 ∷ 116 ∷ 49 ∷ []
+
+abbrev test10 : List ℕ
+test10 = 116 ∷ 101 ∷ 115 ∷ 116 ∷ 49 ∷ 48 ∷ []
+
+abbrev anna : List ℕ
+anna = 97 ∷ 110 ∷ 110 ∷ 97 ∷ []
+
+abbrev comes : List ℕ → ℕ → Happening
+comes o x = other (joins o (record { ssrc = x; highest = 255; queueing = true; listener = false }))
+
+abbrev begins : Happening
+begins = other (event Start)
+
+abbrev asksFor : ℕ → ℕ → Happening
+asksFor s p = other (event (Request (10 + s) (Priority p)))
+
+abbrev lets-go : ℕ → Happening
+lets-go s = other (event (Release (10 + s)))
+
+-- histories, the latest first: anna has the floor; test1 is in line behind her; and test10 behind test1
+abbrev opened : History
+opened = begins ∷ comes anna 12 ∷ comes test10 11 ∷ comes test1 10 ∷ []
+
+abbrev one-waits : History
+one-waits = asksFor 0 5 ∷ asksFor 2 5 ∷ opened
+
+abbrev two-wait : History
+two-wait = asksFor 1 5 ∷ one-waits
+
+in-range : inRange settings ≡ true
+unfolding inRange
+in-range = refl
+
+-- an outcome with another line, or with other marks
+abbrev relined : Outcome → List Entry → Outcome
+relined r es = record { desk = record { core = r .desk .core withLine lineOf es; hall = r .desk .hall; names = r .desk .names }; report = r .report }
+
+abbrev remarked : Outcome → Marks → Outcome
+remarked r m = record { desk = r .desk; report = record { answer = r .report .answer; first = r .report .first; second = r .report .second; marks = m } }
+
+-- 1. THE STUDENT'S SERVER: the line is searched by the first four letters of a name, and a request is written over the entry that is found.
+abbrev letters : Desk → ℕ → List ℕ
+letters d s = take 4 (octetsOf (nameAt (d .names) s))
+
+abbrev sharesLetters : Desk → ℕ → List Entry → Bool
+sharesLetters d s [] = false
+sharesLetters d s (e ∷ es) = if same (letters d (e .seat)) (letters d s) then true else sharesLetters d s es
+
+abbrev writtenOver : Desk → ℕ → ℕ → List Entry → List Entry
+writtenOver d s p [] = []
+writtenOver d s p (e ∷ es) = if same (letters d (e .seat)) (letters d s) then entry s p ∷ es else e ∷ writtenOver d s p es
+
+abbrev byLetters : Desk → Asking → Outcome → Outcome
+byLetters d nobody r = r
+byLetters d (asks s p) r =
+    if isPlaced s (r .report .marks) && sharesLetters d s (waiting (d .core .line)) then relined r (writtenOver d s p (waiting (d .core .line))) else r
+
+unfoldable pub student : Server
+student d x = byLetters d (asked (d .hall) (heard x)) (happens d x)
+
+-- test1 was placed, was never given the floor or struck off, and does not wait
+student-counts : (times (isPlaced 0) (sheet student settings two-wait) ≡ 1) × (times (isGivenOut 0) (sheet student settings two-wait) ≡ 0)
+    × (times (isStruck 0) (sheet student settings two-wait) ≡ 0) × (waits (deskAfter student settings two-wait .core) 0 ≡ false)
+unfolding student happens heard if_then_else_ waiting lineOf before ahead enter anotherAtLeast without emptyHall alone effective seatOf freeSeat withSeat octetsOf nameOf noNames withName same seatNamed lengthAllowed ssrcTaken seated join next given givenAtOnce entersIdle revokes waits priorityIn full presses denied infoOf holderAsks informed pressed rule6 asksAgain placed request fresh starts callerOf step does
+student-counts = (refl, refl, refl, refl)
+
+pub student-drops-one : NobodyDropsOut student → ⊥
+student-drops-one k =
+    let c = student-counts in
+    let z = rw (c .0, c .1, c .2, c .3) at (k settings in-range two-wait 0 .0) in
+    omega arith
+
+-- 2. A SEAT GIVEN THE FLOOR STAYS IN LINE
+abbrev stillThere : Desk → Given → Outcome → Outcome
+stillThere d NotGiven r = r
+stillThere d (AtOnce s) r = r
+stillThere d (OutOfLine s) r = relined r (waiting (d .core .line))
+
+unfoldable pub stays : Server
+stays d x = stillThere d (happens d x .report .marks .given) (happens d x)
+
+abbrev handed-over : History
+handed-over = lets-go 2 ∷ one-waits
+
+stays-counts : (times (isPlaced 0) (sheet stays settings handed-over) ≡ 1) × (times (isGivenOut 0) (sheet stays settings handed-over) ≡ 1)
+    × (times (isStruck 0) (sheet stays settings handed-over) ≡ 0) × (waits (deskAfter stays settings handed-over .core) 0 ≡ true)
+unfolding stays happens heard if_then_else_ waiting lineOf before ahead enter anotherAtLeast without emptyHall alone effective seatOf freeSeat withSeat octetsOf nameOf noNames withName same seatNamed lengthAllowed ssrcTaken seated join next given givenAtOnce givenOutOfLine entersIdle passesOn floorEnds revokes waits priorityIn full presses denied infoOf holderAsks informed pressed rule6 asksAgain placed request fresh starts callerOf struckOff releases step does
+stays-counts = (refl, refl, refl, refl)
+
+pub stays-in-line : NobodyDropsOut stays → ⊥
+stays-in-line k =
+    let c = stays-counts in
+    let z = rw (c .0, c .1, c .2, c .3) at (k settings in-range handed-over 0 .0) in
+    omega arith
+
+-- 3. A MARK INVENTED: whatever happens, test10 is reported as struck off
+unfoldable pub invents : Server
+invents d x =
+    remarked (happens d x)
+    (record { placed = happens d x .report .marks .placed; struck = only 1; ended = happens d x .report .marks .ended; given = happens d x .report .marks .given })
+
+invented : (isStruck 1 (invents (deskAfter invents settings []) begins .report .marks) ≡ true) × (reason (deskAfter invents settings [] .hall) (heard begins) 1 ≡ false)
+unfolding invents happens heard
+invented = (refl, refl)
+
+different : {a : Bool} → a ≡ true → a ≡ false → ⊥
+different p q = let z : _≡_ {A = ℕ} 0 1 = cc in omega arith
+
+pub invents-a-mark : StruckForAReason invents → ⊥
+invents-a-mark k = different (k settings in-range [] begins 1 (invented .0)) (invented .1)
+
+invented-counts : (times (isPlaced 1) (sheet invents settings (begins ∷ [])) ≡ 0) × (times (isStruck 1) (sheet invents settings (begins ∷ [])) ≡ 1)
+unfolding invents happens heard does step starts entersIdle fresh next
+invented-counts = (refl, refl)
+
+pub invents-and-miscounts : NobodyDropsOut invents → ⊥
+invents-and-miscounts k =
+    let c = invented-counts in
+    let z = rw (c .0, c .1) at (k settings in-range (begins ∷ []) 1 .0) in
+    omega arith
+
+-- 4. ASKING AGAIN AT THE SAME PRIORITY SENDS A STUDENT TO THE BACK
+abbrev behindAll : Desk → Asking → Outcome → Outcome
+behindAll d nobody r = r
+behindAll d (asks s p) r = if isIn s (waiting (d .core .line)) then relined r (enter (entry s p) (without (only s) (waiting (d .core .line)))) else r
+
+unfoldable pub sends-back : Server
+sends-back d x = behindAll d (asked (d .hall) (heard x)) (happens d x)
+
+-- test1 asks again, and anna's floor goes to test10, whose placing came later
+abbrev asked-again : History
+asked-again = asksFor 0 5 ∷ two-wait
+
+sent-back :
+    (isEnded 2 (sends-back (deskAfter sends-back settings asked-again) (lets-go 2) .report .marks) ≡ true)
+    × (waits (deskAfter sends-back settings asked-again .core) 0 ≡ true)
+    × (isStopped (sends-back (deskAfter sends-back settings asked-again) (lets-go 2) .desk .core .phase) ≡ false)
+    × (sends-back (deskAfter sends-back settings asked-again) (lets-go 2) .report .marks .given ≡ OutOfLine 1)
+    × (isIn 0 (waiting (deskAfter sends-back settings asked-again .core .line)) ≡ true)
+    × (priorityOf 0 (waiting (deskAfter sends-back settings asked-again .core .line)) ≡ 5) × (priorityOf 1 (waiting (deskAfter sends-back settings asked-again .core .line)) ≡ 5)
+    × (latest 0 (sheet sends-back settings asked-again) ≡ 6) × (latest 1 (sheet sends-back settings asked-again) ≡ 7)
+unfolding sends-back happens heard changed moves priorityOf if_then_else_ waiting lineOf before ahead enter anotherAtLeast without emptyHall alone effective seatOf freeSeat withSeat octetsOf nameOf noNames withName same seatNamed lengthAllowed ssrcTaken seated join next given givenAtOnce givenOutOfLine entersIdle passesOn floorEnds revokes waits priorityIn full presses denied infoOf holderAsks informed pressed rule6 asksAgain placed request fresh starts callerOf struckOff releases step does
+sent-back = (refl, refl, refl, refl, refl, refl, refl, refl, refl)
+
+same-seat : {s t : ℕ} → OutOfLine s ≡ OutOfLine t → s ≡ t
+same-seat q = cc
+
+pub sends-to-the-back : GoesToTheFirst sends-back → ⊥
+sends-to-the-back k =
+    let c = sent-back in
+    let x = k settings in-range asked-again (lets-go 2) 2 0 (c .0) (c .1) (c .2) in
+    let s : x .0 ≡ 1 = same-seat (sym (x .1) ∙ c .3) in
+    let f = rw s at (x .2) in
+    let z = f .earliest 0 (c .4) (c .5 ∙ sym (c .6)) (λ q. omega arith) in
+    omega (arith, c .7, c .8)
