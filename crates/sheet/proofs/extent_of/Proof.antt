@@ -37,10 +37,20 @@ loop-less : tie.Need-loop-less Inv-loop μ-loop
 loop-less c = search needs
 
 loop-again : tie.Need-loop-again Inv-loop μ-loop
-loop-again c = let h = c .before .before .before .before .args .hall in let ns = c .before .before .before .before .args .names in let v = c .before .before .before .loop in let l : v .seat < 16 = c .before .before .loop-test .taken in (omega arith, omega (arith, c .before .octets-at .ensures .1, v .inv .1), omega (arith, c .count-at .ensures, count-few h ns (v .seat), v .inv .2), omega (arith, v .inv .3, c .before .octets-at .ensures .0, simp length-append at (ap length (octets-on h ns (v .seat) l))), omega (arith, v .inv .4, c .count-at .ensures, count-on h ns (v .seat) l))
+loop-again c =
+    let h = c .before .before .before .before .args .hall in
+    let ns = c .before .before .before .before .args .names in
+    let v = c .before .before .before .loop in
+    let l : v .seat < 16 = c .before .before .loop-test .taken in
+    (omega arith, omega (arith, c .before .octets-at .ensures .1, v .inv .1), omega (arith, c .count-at .ensures, count-few h ns (v .seat), v .inv .2), omega (arith, v .inv .3, c .before .octets-at .ensures .0, simp length-append at (ap length (octets-on h ns (v .seat) l))), omega (arith, v .inv .4, c .count-at .ensures, count-on h ns (v .seat) l))
 
 returns : tie.Need-returns Inv-loop μ-loop
-returns c = let h = c .before .before .args .hall in let ns = c .before .before .args .names in let v = c .before .loop in let l : 16 ≤ v .seat = c .loop-test .left in record { octets = omega (arith, v .inv .3, ap length (no-octets h ns (v .seat) l)); few = omega (arith, v .inv .1, v .inv .0); count = omega (arith, v .inv .4, ap length (rest-none h ns (v .seat) l)) }
+returns c =
+    let h = c .before .before .args .hall in
+    let ns = c .before .before .args .names in
+    let v = c .before .loop in
+    let l : 16 ≤ v .seat = c .loop-test .left in
+    record { octets = omega (arith, v .inv .3, ap length (no-octets h ns (v .seat) l)); few = omega (arith, v .inv .1, v .inv .0); count = omega (arith, v .inv .4, ap length (rest-none h ns (v .seat) l)) }
 
 pub extent-of-spec : {M : Type 1} → statement M
 extent-of-spec =

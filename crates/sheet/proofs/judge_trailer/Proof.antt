@@ -15,7 +15,9 @@ number16-requires : tie.Need-number16-requires
 number16-requires c κs = search needs
 
 returns-2 : tie.Need-returns-2
-returns-2 c = let s = c .before .before .before .before .args .s .now in loads-letters s (c .before .before .if1 .left) (λ q. c .if2 .taken (c .before .number16 .ensures ∙ q))
+returns-2 c =
+    let s = c .before .before .before .before .args .s .now in
+    loads-letters s (c .before .before .if1 .left) (λ q. c .if2 .taken (c .before .number16 .ensures ∙ q))
 
 sub-if3 : tie.Need-sub-if3
 sub-if3 c = search needs
@@ -24,7 +26,9 @@ shared-slice-read-if3 : tie.Need-shared-slice-read-if3
 shared-slice-read-if3 c = search needs
 
 returns-3 : tie.Need-returns-3
-returns-3 c = let s = c .before .before .before .before .before .before .args .s .now in loads-form s (c .before .before .before .before .if1 .left) (sym (c .before .before .before .number16 .ensures) ∙ c .before .before .if2 .left) (c .if3 .taken)
+returns-3 c =
+    let s = c .before .before .before .before .before .before .args .s .now in
+    loads-form s (c .before .before .before .before .if1 .left) (sym (c .before .before .before .number16 .ensures) ∙ c .before .before .if2 .left) (c .if3 .taken)
 
 sub-if4 : tie.Need-sub-if4
 sub-if4 c = search needs
@@ -33,7 +37,9 @@ shared-slice-read-if4 : tie.Need-shared-slice-read-if4
 shared-slice-read-if4 c = search needs
 
 returns-4 : tie.Need-returns-4
-returns-4 c = let s = c .before .before .before .before .before .before .before .before .args .s .now in loads-count s (c .before .before .before .before .before .before .if1 .left) (sym (c .before .before .before .before .before .number16 .ensures) ∙ c .before .before .before .before .if2 .left) (c .before .before .if3 .left) (c .if4 .taken)
+returns-4 c =
+    let s = c .before .before .before .before .before .before .before .before .args .s .now in
+    loads-count s (c .before .before .before .before .before .before .if1 .left) (sym (c .before .before .before .before .before .number16 .ensures) ∙ c .before .before .before .before .if2 .left) (c .before .before .if3 .left) (c .if4 .taken)
 
 sub-number16-2 : tie.Need-sub-number16-2
 sub-number16-2 c = search needs
@@ -48,7 +54,9 @@ add-if5 : tie.Need-add-if5
 add-if5 c = search needs
 
 returns-5 : tie.Need-returns-5
-returns-5 c = let s = c .before .before .before .before .before .before .before .before .before .before .args .s .now in loads-settings s (c .before .before .before .before .before .before .before .before .if1 .left) (sym (c .before .before .before .before .before .before .before .number16 .ensures) ∙ c .before .before .before .before .before .before .if2 .left) (c .before .before .before .before .if3 .left) (c .before .before .if4 .left) (λ q. c .if5 .taken (ap (λ (n : ℕ). n + 20) (c .before .number162 .ensures) ∙ q))
+returns-5 c =
+    let s = c .before .before .before .before .before .before .before .before .before .before .args .s .now in
+    loads-settings s (c .before .before .before .before .before .before .before .before .if1 .left) (sym (c .before .before .before .before .before .before .before .number16 .ensures) ∙ c .before .before .before .before .before .before .if2 .left) (c .before .before .before .before .if3 .left) (c .before .before .if4 .left) (λ q. c .if5 .taken (ap (λ (n : ℕ). n + 20) (c .before .number162 .ensures) ∙ q))
 
 sub-number16-3 : tie.Need-sub-number16-3
 sub-number16-3 c = search needs
@@ -57,10 +65,14 @@ number16-requires-3 : tie.Need-number16-requires-3
 number16-requires-3 c κs = search needs
 
 returns-6 : tie.Need-returns-6
-returns-6 c = let s = c .before .before .before .before .before .before .before .before .before .before .before .before .args .s .now in loads-seats s (c .before .before .before .before .before .before .before .before .before .before .if1 .left) (sym (c .before .before .before .before .before .before .before .before .before .number16 .ensures) ∙ c .before .before .before .before .before .before .before .before .if2 .left) (c .before .before .before .before .before .before .if3 .left) (c .before .before .before .before .if4 .left) (ap (λ (n : ℕ). n + 20) (sym (c .before .before .before .number162 .ensures)) ∙ c .before .before .if5 .left) (λ q. c .if6 .taken (c .before .number163 .ensures ∙ q))
+returns-6 c =
+    let s = c .before .before .before .before .before .before .before .before .before .before .before .before .args .s .now in
+    loads-seats s (c .before .before .before .before .before .before .before .before .before .before .if1 .left) (sym (c .before .before .before .before .before .before .before .before .before .number16 .ensures) ∙ c .before .before .before .before .before .before .before .before .if2 .left) (c .before .before .before .before .before .before .if3 .left) (c .before .before .before .before .if4 .left) (ap (λ (n : ℕ). n + 20) (sym (c .before .before .before .number162 .ensures)) ∙ c .before .before .if5 .left) (λ q. c .if6 .taken (c .before .number163 .ensures ∙ q))
 
 returns-7 : tie.Need-returns-7
-returns-7 c = let s = c .before .before .before .before .before .before .before .before .before .before .before .before .args .s .now in (c .before .before .before .before .before .before .before .before .before .before .if1 .left, c .before .before .before .before .if4 .left, loads-framed s (c .before .before .before .before .before .before .before .before .before .before .if1 .left) (sym (c .before .before .before .before .before .before .before .before .before .number16 .ensures) ∙ c .before .before .before .before .before .before .before .before .if2 .left) (c .before .before .before .before .before .before .if3 .left) (c .before .before .before .before .if4 .left) (ap (λ (n : ℕ). n + 20) (sym (c .before .before .before .number162 .ensures)) ∙ c .before .before .if5 .left) (sym (c .before .number163 .ensures) ∙ c .if6 .left))
+returns-7 c =
+    let s = c .before .before .before .before .before .before .before .before .before .before .before .before .args .s .now in
+    (c .before .before .before .before .before .before .before .before .before .before .if1 .left, c .before .before .before .before .if4 .left, loads-framed s (c .before .before .before .before .before .before .before .before .before .before .if1 .left) (sym (c .before .before .before .before .before .before .before .before .before .number16 .ensures) ∙ c .before .before .before .before .before .before .before .before .if2 .left) (c .before .before .before .before .before .before .if3 .left) (c .before .before .before .before .if4 .left) (ap (λ (n : ℕ). n + 20) (sym (c .before .before .before .number162 .ensures)) ∙ c .before .before .if5 .left) (sym (c .before .number163 .ensures) ∙ c .if6 .left))
 
 pub judge-trailer-spec : {M : Type 1} → statement M
 judge-trailer-spec =

@@ -12,11 +12,19 @@ sub-end c = search needs
 
 returns : tie.Need-returns
 unfolding laidOut
-returns c = let s = c .before .args .s .now in let at = c .before .args .at in let h : length s - 20 < at + 7 + getD s (at + 6) 0 = omega arith in rw (lt-leb (at + 7 + getD s (at + 6) 0) (length s - 20) h)
+returns c =
+    let s = c .before .args .s .now in
+    let at = c .before .args .at in
+    let h : length s - 20 < at + 7 + getD s (at + 6) 0 = omega arith in
+    rw (lt-leb (at + 7 + getD s (at + 6) 0) (length s - 20) h)
 
 returns-2 : tie.Need-returns-2
 unfolding laidOut
-returns-2 c = let s = c .before .before .args .s .now in let at = c .before .before .args .at in let h : length s - 20 < at + 7 + getD s (at + 6) 0 = omega arith in rw (lt-leb (at + 7 + getD s (at + 6) 0) (length s - 20) h)
+returns-2 c =
+    let s = c .before .before .args .s .now in
+    let at = c .before .before .args .at in
+    let h : length s - 20 < at + 7 + getD s (at + 6) 0 = omega arith in
+    rw (lt-leb (at + 7 + getD s (at + 6) 0) (length s - 20) h)
 
 sub-if3 : tie.Need-sub-if3
 sub-if3 c = search needs
@@ -32,14 +40,22 @@ cast-if3 c = omega (arith, c .shared-slice-known .given (c .before .before .befo
 
 returns-3 : tie.Need-returns-3
 unfolding laidOut
-returns-3 c = let s = c .before .before .before .before .args .s .now in let at = c .before .before .before .before .args .at in let h : length s - 20 < at + 7 + getD s (at + 6) 0 = omega arith in rw (lt-leb (at + 7 + getD s (at + 6) 0) (length s - 20) h)
+returns-3 c =
+    let s = c .before .before .before .before .args .s .now in
+    let at = c .before .before .before .before .args .at in
+    let h : length s - 20 < at + 7 + getD s (at + 6) 0 = omega arith in
+    rw (lt-leb (at + 7 + getD s (at + 6) 0) (length s - 20) h)
 
 shared-slice-read-result : tie.Need-shared-slice-read-result
 shared-slice-read-result c = search needs
 
 returns-4 : tie.Need-returns-4
 unfolding laidOut
-returns-4 c = let s = c .before .before .before .before .before .args .s .now in let at = c .before .before .before .before .before .args .at in let h : at + 7 + getD s (at + 6) 0 ≤ length s - 20 = omega arith in rw (le-leb (at + 7 + getD s (at + 6) 0) (length s - 20) h)
+returns-4 c =
+    let s = c .before .before .before .before .before .args .s .now in
+    let at = c .before .before .before .before .before .args .at in
+    let h : at + 7 + getD s (at + 6) 0 ≤ length s - 20 = omega arith in
+    rw (le-leb (at + 7 + getD s (at + 6) 0) (length s - 20) h)
 
 pub laid-out-spec : {M : Type 1} → statement M
 laid-out-spec =

@@ -22,10 +22,21 @@ add-result : tie.Need-add-result
 add-result c = search needs
 
 returns : tie.Need-returns
-returns c = let h = c .before .before .before .before .args .hall in let ns = c .before .before .before .before .args .names in let s = c .before .before .before .before .args .seat in let l = ap length (taken h ns s (sym (c .before .before .before .is-present .ensures) ∙ c .before .before .if1 .taken)) ∙ length-seat (seatAt h ns s) in let n = c .name-length .ensures .0 ∙ ap (λ (x : Name). length (octetsOf x)) (c .before .name-at .ensures) in (omega (arith, l, n), omega arith)
+returns c =
+    let h = c .before .before .before .before .args .hall in
+    let ns = c .before .before .before .before .args .names in
+    let s = c .before .before .before .before .args .seat in
+    let l = ap length (taken h ns s (sym (c .before .before .before .is-present .ensures) ∙ c .before .before .if1 .taken)) ∙ length-seat (seatAt h ns s) in
+    let n = c .name-length .ensures .0 ∙ ap (λ (x : Name). length (octetsOf x)) (c .before .name-at .ensures) in
+    (omega (arith, l, n), omega arith)
 
 returns-2 : tie.Need-returns-2
-returns-2 c = let h = c .before .before .args .hall in let ns = c .before .before .args .names in let s = c .before .before .args .seat in let l = ap length (free h ns s (sym (c .before .is-present .ensures) ∙ c .if1 .left)) in (omega (arith, l), omega arith)
+returns-2 c =
+    let h = c .before .before .args .hall in
+    let ns = c .before .before .args .names in
+    let s = c .before .before .args .seat in
+    let l = ap length (free h ns s (sym (c .before .is-present .ensures) ∙ c .if1 .left)) in
+    (omega (arith, l), omega arith)
 
 pub octets-at-spec : {M : Type 1} → statement M
 octets-at-spec =

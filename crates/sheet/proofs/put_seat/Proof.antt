@@ -57,7 +57,8 @@ same-length c = c .before .before .put-part .kept .0 ∙ length-set (c .before .
 
 returns : tie.Need-returns
 unfolding octets32 octets16
-returns c = let a = c .before .before .before .before .before .before .before .before .before .before .before .before .before .before .before .before .before .args in
+returns c =
+    let a = c .before .before .before .before .before .before .before .before .before .before .before .before .before .before .before .before .before .args in
     let room = a .room .now in
     let at = a .at in
     let w = a .who in

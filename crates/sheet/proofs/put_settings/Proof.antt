@@ -42,7 +42,8 @@ same-length c = search needs
 
 returns : tie.Need-returns
 unfolding settingsOctets octets32 octets16
-returns c = let a = c .before .before .before .before .before .before .before .before .before .before .before .before .before .before .before .before .before .before .before .before .before .args in
+returns c =
+    let a = c .before .before .before .before .before .before .before .before .before .before .before .before .before .before .before .before .before .before .before .before .before .args in
     let room = a .room .now in
     let at = a .at in
     let s = a .settings in

@@ -23,16 +23,39 @@ name-at-requires : tie.Need-name-at-requires
 name-at-requires c κs = search needs
 
 put-seat-requires : tie.Need-put-seat-requires
-put-seat-requires c κs = let h = c .before .before .before .before .before .before .args .hall in let ns = c .before .before .before .before .before .before .args .names in let s = c .before .before .before .before .before .before .args .seat in let at = c .before .before .before .before .before .before .args .at in let room = c .before .before .before .before .before .before .args .room .now in let l = ap length (taken h ns s (sym (c .before .before .before .before .is-present .ensures) ∙ c .before .before .before .if1 .taken)) ∙ length-seat (seatAt h ns s) in rw (c .before .name-at .ensures) (omega (arith, l, c .before .before .before .before .before .before .pre .1))
+put-seat-requires c κs =
+    let h = c .before .before .before .before .before .before .args .hall in
+    let ns = c .before .before .before .before .before .before .args .names in
+    let s = c .before .before .before .before .before .before .args .seat in
+    let at = c .before .before .before .before .before .before .args .at in
+    let room = c .before .before .before .before .before .before .args .room .now in
+    let l = ap length (taken h ns s (sym (c .before .before .before .before .is-present .ensures) ∙ c .before .before .before .if1 .taken)) ∙ length-seat (seatAt h ns s) in
+    rw (c .before .name-at .ensures) (omega (arith, l, c .before .before .before .before .before .before .pre .1))
 
 same-length : tie.Need-same-length
 same-length c = search needs
 
 returns : tie.Need-returns
-returns c = let h = c .before .before .before .before .before .before .before .before .before .args .hall in let ns = c .before .before .before .before .before .before .before .before .before .args .names in let s = c .before .before .before .before .before .before .before .before .before .args .seat in let at = c .before .before .before .before .before .before .before .before .before .args .at in let room = c .before .before .before .before .before .before .before .before .before .args .room .now in let t = taken h ns s (sym (c .before .before .before .before .before .before .before .is-present .ensures) ∙ c .before .before .before .before .before .before .if1 .taken) in let l = ap length t ∙ length-seat (seatAt h ns s) in let q = c .before .before .put-seat .ensures .0 ∙ ap (λ (n : Name). at + 7 + length (octetsOf n)) (c .before .before .before .before .name-at .ensures) in (omega (arith, q, l), c .before .before .put-seat .ensures .1 ∙ ap (λ (n : Name). over room at (seatOctets (record { who = c .before .before .before .before .before .who-sits .result; identity = octetsOf n }))) (c .before .before .before .before .name-at .ensures) ∙ ap (λ (w : Newcomer). over room at (seatOctets (record { who = w; identity = octetsOf (nameAt ns s) }))) (c .before .before .before .before .before .who-sits .ensures) ∙ ap (over room at) (sym t))
+returns c =
+    let h = c .before .before .before .before .before .before .before .before .before .args .hall in
+    let ns = c .before .before .before .before .before .before .before .before .before .args .names in
+    let s = c .before .before .before .before .before .before .before .before .before .args .seat in
+    let at = c .before .before .before .before .before .before .before .before .before .args .at in
+    let room = c .before .before .before .before .before .before .before .before .before .args .room .now in
+    let t = taken h ns s (sym (c .before .before .before .before .before .before .before .is-present .ensures) ∙ c .before .before .before .before .before .before .if1 .taken) in
+    let l = ap length t ∙ length-seat (seatAt h ns s) in
+    let q = c .before .before .put-seat .ensures .0 ∙ ap (λ (n : Name). at + 7 + length (octetsOf n)) (c .before .before .before .before .name-at .ensures) in
+    (omega (arith, q, l), c .before .before .put-seat .ensures .1 ∙ ap (λ (n : Name). over room at (seatOctets (record { who = c .before .before .before .before .before .who-sits .result; identity = octetsOf n }))) (c .before .before .before .before .name-at .ensures) ∙ ap (λ (w : Newcomer). over room at (seatOctets (record { who = w; identity = octetsOf (nameAt ns s) }))) (c .before .before .before .before .before .who-sits .ensures) ∙ ap (over room at) (sym t))
 
 returns-2 : tie.Need-returns-2
-returns-2 c = let h = c .before .before .before .args .hall in let ns = c .before .before .before .args .names in let s = c .before .before .before .args .seat in let at = c .before .before .before .args .at in let room = c .before .before .before .args .room .now in let f = free h ns s (sym (c .before .is-present .ensures) ∙ c .if1 .left) in (omega (arith, ap length f), sym (over-none room at) ∙ ap (over room at) (sym f))
+returns-2 c =
+    let h = c .before .before .before .args .hall in
+    let ns = c .before .before .before .args .names in
+    let s = c .before .before .before .args .seat in
+    let at = c .before .before .before .args .at in
+    let room = c .before .before .before .args .room .now in
+    let f = free h ns s (sym (c .before .is-present .ensures) ∙ c .if1 .left) in
+    (omega (arith, ap length f), sym (over-none room at) ∙ ap (over room at) (sym f))
 
 pub put-taken-spec : {M : Type 1} → statement M
 put-taken-spec =

@@ -36,7 +36,8 @@ same-length c = search needs
 
 returns : tie.Need-returns
 unfolding trailer octets16
-returns c = let a = c .before .before .before .before .before .before .before .before .before .before .before .before .before .before .before .before .before .args in
+returns c =
+    let a = c .before .before .before .before .before .before .before .before .before .before .before .before .before .before .before .before .before .args in
     let room = a .room .now in
     let at = a .at in
     let h : at ≤ length room = omega (arith, c .before .before .before .before .before .before .before .before .before .before .before .before .before .before .before .before .before .pre) in

@@ -16,7 +16,12 @@ add-if1 : tie.Need-add-if1
 add-if1 c = search needs
 
 returns : tie.Need-returns
-returns c = let h = c .before .before .before .args .hall in let ns = c .before .before .before .args .names in let room = c .before .before .before .args .room .now in let k : length room < length (sheetOf h ns) = omega (arith, length-sheetOf h ns, c .before .extent-of .ensures .octets, c .if1 .taken) in (sym (saves-no-room h ns room k), sym (room-untouched h ns room k))
+returns c =
+    let h = c .before .before .before .args .hall in
+    let ns = c .before .before .before .args .names in
+    let room = c .before .before .before .args .room .now in
+    let k : length room < length (sheetOf h ns) = omega (arith, length-sheetOf h ns, c .before .extent-of .ensures .octets, c .if1 .taken) in
+    (sym (saves-no-room h ns room k), sym (room-untouched h ns room k))
 
 put-seats-requires : tie.Need-put-seats-requires
 put-seats-requires c κs = search needs
@@ -40,7 +45,8 @@ same-length : tie.Need-same-length
 same-length c = search needs
 
 returns-2 : tie.Need-returns-2
-returns-2 c = let h = c .before .before .before .before .before .before .before .before .before .before .before .before .before .before .before .before .args .hall in
+returns-2 c =
+    let h = c .before .before .before .before .before .before .before .before .before .before .before .before .before .before .before .before .args .hall in
     let ns = c .before .before .before .before .before .before .before .before .before .before .before .before .before .before .before .before .args .names in
     let room = c .before .before .before .before .before .before .before .before .before .before .before .before .before .before .before .before .args .room .now in
     let m = c .before .before .before .before .before .before .before .before .before .before .before .before .before .before .extent-of .ensures in

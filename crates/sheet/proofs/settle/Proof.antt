@@ -22,7 +22,9 @@ refuse-requires : tie.Need-refuse-requires
 refuse-requires c κs = search needs
 
 returns : tie.Need-returns
-returns c = let s = c .before .before .before .before .before .args .s .now in c .refuse .ensures ∙ sym (settles-range s (ap inRange (sym (c .before .before .before .settings-at .ensures)) ∙ sym (c .before .before .in-range .ensures) ∙ not-true _ (c .before .if1 .taken)))
+returns c =
+    let s = c .before .before .before .before .before .args .s .now in
+    c .refuse .ensures ∙ sym (settles-range s (ap inRange (sym (c .before .before .before .settings-at .ensures)) ∙ sym (c .before .before .in-range .ensures) ∙ not-true _ (c .before .if1 .taken)))
 
 sub-number16 : tie.Need-sub-number16
 sub-number16 c = search needs
@@ -34,7 +36,9 @@ refuse-requires-2 : tie.Need-refuse-requires-2
 refuse-requires-2 c κs = search needs
 
 returns-2 : tie.Need-returns-2
-returns-2 c = let s = c .before .before .before .before .before .before .before .args .s .now in c .refuse2 .ensures ∙ sym (settles-zeros s (ap inRange (sym (c .before .before .before .before .before .settings-at .ensures)) ∙ sym (c .before .before .before .before .in-range .ensures) ∙ not-false _ (c .before .before .before .if1 .left)) (λ q. c .before .if2 .taken (c .before .before .number16 .ensures ∙ q)))
+returns-2 c =
+    let s = c .before .before .before .before .before .before .before .args .s .now in
+    c .refuse2 .ensures ∙ sym (settles-zeros s (ap inRange (sym (c .before .before .before .before .before .settings-at .ensures)) ∙ sym (c .before .before .before .before .in-range .ensures) ∙ not-false _ (c .before .before .before .if1 .left)) (λ q. c .before .if2 .taken (c .before .before .number16 .ensures ∙ q)))
 
 sub-take-seats : tie.Need-sub-take-seats
 sub-take-seats c = search needs
@@ -46,7 +50,9 @@ take-seats-requires : tie.Need-take-seats-requires
 take-seats-requires c κs = search needs
 
 returns-3 : tie.Need-returns-3
-returns-3 c = let s = c .before .before .before .before .before .before .before .before .args .s .now in c .take-seats .ensures ∙ ap (λ (t : Settings). seatAll (emptyHall t) noNames (readSeats (seatCount s) s 0)) (c .before .before .before .before .before .before .settings-at .ensures) ∙ sym (settles s (ap inRange (sym (c .before .before .before .before .before .before .settings-at .ensures)) ∙ sym (c .before .before .before .before .before .in-range .ensures) ∙ not-false _ (c .before .before .before .before .if1 .left)) (sym (c .before .before .before .number16 .ensures) ∙ c .before .before .if2 .left))
+returns-3 c =
+    let s = c .before .before .before .before .before .before .before .before .args .s .now in
+    c .take-seats .ensures ∙ ap (λ (t : Settings). seatAll (emptyHall t) noNames (readSeats (seatCount s) s 0)) (c .before .before .before .before .before .before .settings-at .ensures) ∙ sym (settles s (ap inRange (sym (c .before .before .before .before .before .before .settings-at .ensures)) ∙ sym (c .before .before .before .before .before .in-range .ensures) ∙ not-false _ (c .before .before .before .before .if1 .left)) (sym (c .before .before .before .number16 .ensures) ∙ c .before .before .if2 .left))
 
 pub settle-spec : {M : Type 1} → statement M
 settle-spec =

@@ -32,7 +32,9 @@ refuse-requires : tie.Need-refuse-requires Inv-loop μ-loop
 refuse-requires c κs = search needs
 
 returns : tie.Need-returns Inv-loop μ-loop
-returns c = let v = c .before .before .before .before .before .loop in rw (sym (c .before .before .before .before .before .before .before .empty-hall .ensures), sym (c .before .before .before .before .before .before .no-names .ensures)) (c .refuse .ensures ∙ sym (v .inv ∙ turn-fault (v .hall) (v .names) (c .before .before .before .before .before .before .before .before .before .args .s .now) (v .at) (v .left) (c .before .before .before .before .loop-test .taken) (c .before .before .before .take-next .result) (c .before .before .before .take-next .ensures) (c .before .enum-told .given .1)))
+returns c =
+    let v = c .before .before .before .before .before .loop in
+    rw (sym (c .before .before .before .before .before .before .before .empty-hall .ensures), sym (c .before .before .before .before .before .before .no-names .ensures)) (c .refuse .ensures ∙ sym (v .inv ∙ turn-fault (v .hall) (v .names) (c .before .before .before .before .before .before .before .before .before .args .s .now) (v .at) (v .left) (c .before .before .before .before .loop-test .taken) (c .before .before .before .take-next .result) (c .before .before .before .take-next .ensures) (c .before .enum-told .given .1)))
 
 enum-told-2 : tie.Need-enum-told-2 Inv-loop μ-loop
 enum-told-2 c = search needs
@@ -44,7 +46,9 @@ loop-less : tie.Need-loop-less Inv-loop μ-loop
 loop-less c = search needs
 
 loop-again : tie.Need-loop-again Inv-loop μ-loop
-loop-again c = let v = c .before .before .before .before .before .before .loop in v .inv ∙ turn-on (v .hall) (v .names) (c .before .before .before .before .before .before .before .before .before .before .args .s .now) (v .at) (v .left) (c .before .before .before .before .before .loop-test .taken) (c .before .before .before .before .take-next .result) (c .before .before .before .before .take-next .ensures) _ (c .before .before .enum-told2 .given .1)
+loop-again c =
+    let v = c .before .before .before .before .before .before .loop in
+    v .inv ∙ turn-on (v .hall) (v .names) (c .before .before .before .before .before .before .before .before .before .before .args .s .now) (v .at) (v .left) (c .before .before .before .before .before .loop-test .taken) (c .before .before .before .before .take-next .result) (c .before .before .before .before .take-next .ensures) _ (c .before .before .enum-told2 .given .1)
 
 sub-if1 : tie.Need-sub-if1 Inv-loop μ-loop
 sub-if1 c = search needs
@@ -53,13 +57,19 @@ refuse-requires-2 : tie.Need-refuse-requires-2 Inv-loop μ-loop
 refuse-requires-2 c κs = search needs
 
 returns-2 : tie.Need-returns-2 Inv-loop μ-loop
-returns-2 c = let v = c .before .before .before .loop in let z : v .left ≡ 0 = omega (arith, c .before .before .loop-test .left) in rw (sym (c .before .before .before .before .before .empty-hall .ensures), sym (c .before .before .before .before .no-names .ensures)) (c .refuse2 .ensures ∙ sym (v .inv ∙ ap (λ (n : ℕ). seatAll (v .hall) (v .names) (readSeats n (c .before .before .before .before .before .before .before .args .s .now) (v .at))) z ∙ loads-gap (v .hall) (v .names) (c .before .before .before .before .before .before .before .args .s .now) (v .at) (c .before .if1 .taken)))
+returns-2 c =
+    let v = c .before .before .before .loop in
+    let z : v .left ≡ 0 = omega (arith, c .before .before .loop-test .left) in
+    rw (sym (c .before .before .before .before .before .empty-hall .ensures), sym (c .before .before .before .before .no-names .ensures)) (c .refuse2 .ensures ∙ sym (v .inv ∙ ap (λ (n : ℕ). seatAll (v .hall) (v .names) (readSeats n (c .before .before .before .before .before .before .before .args .s .now) (v .at))) z ∙ loads-gap (v .hall) (v .names) (c .before .before .before .before .before .before .before .args .s .now) (v .at) (c .before .if1 .taken)))
 
 accept-requires : tie.Need-accept-requires Inv-loop μ-loop
 accept-requires c κs = search needs
 
 returns-3 : tie.Need-returns-3 Inv-loop μ-loop
-returns-3 c = let v = c .before .before .before .loop in let z : v .left ≡ 0 = omega (arith, c .before .before .loop-test .left) in rw (sym (c .before .before .before .before .before .empty-hall .ensures), sym (c .before .before .before .before .no-names .ensures)) (c .accept .ensures ∙ sym (v .inv ∙ ap (λ (n : ℕ). seatAll (v .hall) (v .names) (readSeats n (c .before .before .before .before .before .before .before .args .s .now) (v .at))) z ∙ loads-end (v .hall) (v .names) (c .before .before .before .before .before .before .before .args .s .now) (v .at) (c .before .if1 .left)))
+returns-3 c =
+    let v = c .before .before .before .loop in
+    let z : v .left ≡ 0 = omega (arith, c .before .before .loop-test .left) in
+    rw (sym (c .before .before .before .before .before .empty-hall .ensures), sym (c .before .before .before .before .no-names .ensures)) (c .accept .ensures ∙ sym (v .inv ∙ ap (λ (n : ℕ). seatAll (v .hall) (v .names) (readSeats n (c .before .before .before .before .before .before .before .args .s .now) (v .at))) z ∙ loads-end (v .hall) (v .names) (c .before .before .before .before .before .before .before .args .s .now) (v .at) (c .before .if1 .left)))
 
 pub take-seats-spec : {M : Type 1} → statement M
 take-seats-spec =
