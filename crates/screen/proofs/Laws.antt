@@ -1,0 +1,66 @@
+-- The room while the line is written to it, entry by entry, and what it holds in the end. Assumes nothing.
+use Prim.Native.Nat.{ℕ, zero, suc, _+_, _-_, _≤_, _<_, min}
+use native.Mathlib.Numerals.{add-one}
+use native.Mathlib.Omega.{arith}
+use mathlib.Core.Bool.{true, false}
+use mathlib.Core.List.{List, [], _∷_, _++_, append-assoc}
+use mathlib.Core.Path.{_≡_, refl, sym, ap, _∙_}
+use lib.Dec.{leb}
+use lib.ListN.{length, take, drop, getD, set, length-take, length-drop, length-append, drop-of-length-le}
+use lib.Seq.{take-suc, take-all, drop-cons, set-at}
+use borrow.Author.Tests.{le-leb, lt-leb, leb-true, leb-false}
+use Rattle.words.specs.Choice.{if_then_else_, by-test, if-yes, if-no}
+use Rattle.line.specs.declared.Entry.{Entry}
+use Rattle.line.specs.Line.{empty}
+use Rattle.screen.specs.declared.Shown.{Shown}
+use Rattle.screen.specs.declared.Shown.the-variants.{All, NoRoom}
+use Rattle.screen.specs.Screen.{shownIn, answered, over, left}
+
+-- the first i entries of the line over the room's
+abbrev pub upTo : List Entry → List Entry → ℕ → List Entry
+upTo es room i = take i es ++ drop i room
+
+module _ (es room : List Entry) (i : ℕ) (in-line : i ≤ length es) (in-room : i ≤ length room) where
+  pub upto-long : length (upTo es room i) ≡ length room
+  upto-long = rw (length-append (take i es) (drop i room), length-take i es, length-drop i room) (omega (arith, in-line, in-room))
+
+module _ (es room : List Entry) (i : ℕ) (in-line : i < length es) (in-room : i < length room) where
+  pub upto-more : set (upTo es room i) i (getD es i empty) ≡ upTo es room (i + 1)
+  upto-more =
+      rw (add-one i, take-suc es i empty in-line, drop-cons room i empty in-room, append-assoc (take i es) (getD es i empty ∷ []) (drop (suc i) room))
+      (set-at (take i es) (getD room i empty) (drop (suc i) room) (getD es i empty) i (rw (length-take i es) (omega (arith, in-line))))
+
+-- all who wait, or none
+pub shown-all : (es : List Entry) (places : ℕ) → length es ≤ places → shownIn es places ≡ length es
+unfolding shownIn if_then_else_
+shown-all es places h = rw (le-leb (length es) places h)
+
+pub shown-none : (es : List Entry) (places : ℕ) → places < length es → shownIn es places ≡ 0
+unfolding shownIn if_then_else_
+shown-none es places h = rw (lt-leb (length es) places h)
+
+pub answered-all : (es : List Entry) (places : ℕ) → length es ≤ places → answered es places ≡ All (length es)
+unfolding answered if_then_else_
+answered-all es places h = rw (le-leb (length es) places h)
+
+pub answered-none : (es : List Entry) (places : ℕ) → places < length es → answered es places ≡ NoRoom
+unfolding answered if_then_else_
+answered-none es places h = rw (lt-leb (length es) places h)
+
+pub shown-in-line : (es : List Entry) (places : ℕ) → shownIn es places ≤ length es
+shown-in-line es places =
+    by-test (leb (length es) places) (λ t. rw (shown-all es places (leb-true (length es) places t)) (omega arith))
+    (λ t. rw (shown-none es places (leb-false (length es) places t)) (omega arith))
+
+pub shown-in-room : (es : List Entry) (places : ℕ) → shownIn es places ≤ places
+shown-in-room es places =
+    by-test (leb (length es) places) (λ t. rw (shown-all es places (leb-true (length es) places t)) (leb-true (length es) places t))
+    (λ t. rw (shown-none es places (leb-false (length es) places t)) (omega arith))
+
+-- once as many are written as are shown, the room holds what it is to hold
+pub upto-left : (es room : List Entry) → upTo es room (shownIn es (length room)) ≡ left es room
+unfolding left
+upto-left es room =
+    by-test (leb (length es) (length room))
+    (λ t. rw (shown-all es (length room) (leb-true (length es) (length room) t), if-yes _ _ _ t, take-all (length es) es (omega arith)))
+    (λ t. rw (shown-none es (length room) (leb-false (length es) (length room) t), if-no _ _ _ t))

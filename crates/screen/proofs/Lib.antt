@@ -1,0 +1,2 @@
+-- What the walks share, and laws of the list in the room.
+pub mod Laws

@@ -1,0 +1,31 @@
+-- The wall screen's list: "refusal 13 if too short; entries past the line untouched" (document 01, "The desk"). The list is the line's
+-- own, in its order, each entry a seat and its priority. Assumes nothing.
+use Prim.Native.Nat.{ℕ}
+use mathlib.Core.List.{List, _++_}
+use lib.Dec.{leb}
+use lib.ListN.{length, drop}
+use Rattle.words.specs.Choice.{if_then_else_}
+use Rattle.message.specs.Answers.{Answer, refused, result}
+use Rattle.line.specs.declared.Entry.{Entry}
+use Rattle.screen.specs.declared.Shown.{Shown}
+use Rattle.screen.specs.declared.Shown.the-variants.{All, NoRoom}
+
+-- the room has places enough for the whole line, or nothing is shown
+unfoldable pub shownIn : List Entry → ℕ → ℕ
+shownIn es places = if leb (length es) places then length es else 0
+
+unfoldable pub answered : List Entry → ℕ → Shown
+answered es places = if leb (length es) places then All (length es) else NoRoom
+
+-- the answer in the paper's numbers
+abbrev pub told : Shown → Answer ℕ
+told (All n) = result n
+told NoRoom = refused 13
+
+-- these entries over a room's first ones
+abbrev pub over : List Entry → List Entry → List Entry
+over es room = es ++ drop (length es) room
+
+-- what the room holds in the end
+unfoldable pub left : List Entry → List Entry → List Entry
+left es room = if leb (length es) (length room) then over es room else room
