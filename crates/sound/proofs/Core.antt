@@ -1,7 +1,7 @@
 -- The core passes its test exactly if it is sound. Assumes nothing.
 use Prim.Native.Nat.{ℕ, _≤_, _<_}
 use mathlib.Core.Path.{_≡_, refl, ap, sym, _∙_}
-use mathlib.Core.Bool.{Bool, true, false, not, _&&_, _||_}
+use mathlib.Core.Bool.{true, false, not, _||_}
 use mathlib.Core.List.{List}
 use native.Mathlib.Omega.{arith}
 use lib.Dec.{eqb, leb, ltb}
@@ -24,7 +24,7 @@ use Rattle.rules.specs.Floor.{holds}
 use Rattle.reach.specs.Sound.{ListOk, LineOk, FloorOk, CoreOk}
 use Rattle.reach.specs.InLine.{clash}
 use Rattle.sound.specs.Test.{inOrder, isFirst, placeSound, isEmpty, placeBehind, lineSound, holderSound, floorSound, coreSound}
-use Rattle.sound.proofs.Laws.{and-both, both, all-below, or-behind, or-within, or-right, filled-behind, behind-filled}
+use Rattle.sound.proofs.Laws.{and-both, and-three, and-four, both, three, four, all-below, or-behind, or-within, or-right, filled-behind, behind-filled}
 use Rattle.sound.proofs.InLine.{sorted-from, sorted-at, once-from, once-at, place-in, found-seat, found-place, none-in}
 
 -- those who wait
@@ -34,10 +34,7 @@ module _ (h : Hall) (es : List Entry) where
 
   place-ok : (i : ℕ) → placeSound h es i ≡ true → PlaceOk i
   unfolding placeSound PlaceOk
-  place-ok i q =
-      let a = and-both (inOrder es i && isFirst es i) (isPresent h (getD es i empty .seat)) q in
-      let b = and-both (inOrder es i) (isFirst es i) (a .0) in
-      (b .0, b .1, a .1)
+  place-ok i q = and-three _ _ _ q
 
   list-from : allBelow (placeSound h es) (length es) ≡ true → leb (length es) (h .settings .limit) ≡ true → ListOk h es
   unfolding PlaceOk
@@ -54,8 +51,7 @@ module _ (h : Hall) (es : List Entry) where
   unfolding placeSound
   list-test k =
       all-below (placeSound h es) (length es)
-      (λ i b. both (inOrder es i && isFirst es i) (isPresent h (getD es i empty .seat))
-      (both (inOrder es i) (isFirst es i) (le-leb _ _ (sorted-at es (k .sorted) i)) (eq-eqb _ _ (once-at es (k .once) i b)))
+      (λ i b. three _ _ _ (le-leb _ _ (sorted-at es (k .sorted) i)) (eq-eqb _ _ (once-at es (k .once) i b))
       (k .here (getD es i empty .seat) (place-in es (k .once) i b)))
 
 -- the places behind them
@@ -145,59 +141,41 @@ module _ (h : Hall) (es : List Entry) where
 
 -- the line, and the whole core
 module _ (h : Hall) (l : Line) where
-  abbrev inPlace : Bool
-  inPlace = allBelow (placeSound h (waiting l)) (length (waiting l))
-
-  abbrev within : Bool
-  within = leb (length (waiting l)) (h .settings .limit)
-
-  abbrev isCounted : Bool
-  isCounted = eqb (l .len) (length (waiting l))
+  line-tests : lineSound h l ≡ true →
+      (allBelow (placeSound h (waiting l)) (length (waiting l)) ≡ true) × (leb (length (waiting l)) (h .settings .limit) ≡ true)
+      × (eqb (l .len) (length (waiting l)) ≡ true) × (allBelow (placeBehind l) 15 ≡ true)
+  unfolding lineSound
+  line-tests q = and-four _ _ _ _ q
 
   line-from : length (l .entries) ≡ 15 → lineSound h l ≡ true → LineOk h l
-  unfolding lineSound
   line-from n q =
-      let a = and-both (inPlace && within && isCounted) (allBelow (placeBehind l) 15) q in
-      let b = and-both (inPlace && within) isCounted (a .0) in
-      let c = and-both inPlace within (b .0) in
-      record { list = list-from h (waiting l) (c .0) (c .1); behind = behind-from l n (b .1) (a .1) }
+      let a = line-tests q in
+      record { list = list-from h (waiting l) (a .0) (a .1); behind = behind-from l n (a .2) (a .3) }
 
   line-test : h .settings .limit ≤ 15 → LineOk h l → lineSound h l ≡ true
   unfolding lineSound
   line-test m k =
-      both (inPlace && within && isCounted) (allBelow (placeBehind l) 15)
-      (both (inPlace && within) isCounted
-      (both inPlace within (list-test h (waiting l) (k .list)) (le-leb _ _ (k .list .within)))
-      (eq-eqb _ _ (counted l (k .behind) (omega (arith, k .list .within)))))
-      (behind-test l (k .behind))
+      four _ _ _ _ (list-test h (waiting l) (k .list)) (le-leb _ _ (k .list .within))
+      (eq-eqb _ _ (counted l (k .behind) (omega (arith, k .list .within)))) (behind-test l (k .behind))
 
 module _ (h : Hall) (c : Core) where
-  abbrev floors : Bool
-  floors = floorSound h (waiting (c .line)) (c .phase)
-
-  abbrev sevens : Bool
-  sevens = leb (c .c7) (h .settings .c7)
-
-  abbrev twenties : Bool
-  twenties = leb (c .c20) (h .settings .c20)
+  core-tests : coreSound h c ≡ true →
+      (lineSound h (c .line) ≡ true) × (floorSound h (waiting (c .line)) (c .phase) ≡ true)
+      × (leb (c .c7) (h .settings .c7) ≡ true) × (leb (c .c20) (h .settings .c20) ≡ true)
+  unfolding coreSound
+  core-tests q = and-four _ _ _ _ q
 
   pub core-from : length (c .line .entries) ≡ 15 → c .sequence < 65536 → coreSound h c ≡ true → CoreOk h c
-  unfolding coreSound
   core-from n s q =
-      let x = and-both (lineSound h (c .line) && floors && sevens) twenties q in
-      let y = and-both (lineSound h (c .line) && floors) sevens (x .0) in
-      let z = and-both (lineSound h (c .line)) floors (y .0) in
+      let a = core-tests q in
       record {
-        line = line-from h (c .line) n (z .0);
-        floor = floor-from h (waiting (c .line)) (c .phase) (z .1);
-        numbers = record { sequence = s; c7 = leb-true _ _ (y .1); c20 = leb-true _ _ (x .1) };
+        line = line-from h (c .line) n (a .0);
+        floor = floor-from h (waiting (c .line)) (c .phase) (a .1);
+        numbers = record { sequence = s; c7 = leb-true _ _ (a .2); c20 = leb-true _ _ (a .3) };
       }
 
   pub core-test : h .settings .limit ≤ 15 → CoreOk h c → coreSound h c ≡ true
   unfolding coreSound
   core-test m k =
-      both (lineSound h (c .line) && floors && sevens) twenties
-      (both (lineSound h (c .line) && floors) sevens
-      (both (lineSound h (c .line)) floors (line-test h (c .line) m (k .line)) (floor-test h (waiting (c .line)) (c .phase) (k .floor)))
-      (le-leb _ _ (k .numbers .c7)))
-      (le-leb _ _ (k .numbers .c20))
+      four _ _ _ _ (line-test h (c .line) m (k .line)) (floor-test h (waiting (c .line)) (c .phase) (k .floor))
+      (le-leb _ _ (k .numbers .c7)) (le-leb _ _ (k .numbers .c20))

@@ -15,12 +15,30 @@ use Rattle.words.specs.Table.{padded, padded-is, padded-at}
 use Rattle.hall.specs.Identity.{lengthAllowed}
 use Rattle.reach.specs.InLine.{clash}
 
--- an `&&`, and a test of every number below n, from both sides
+-- an `&&` of two to five tests, and a test of every number below n, from both sides
 pub and-both : (p q : Bool) → (p && q) ≡ true → (p ≡ true) × (q ≡ true)
 and-both p q e = (and-left p q e, and-right p q e)
 
 pub both : (p q : Bool) → p ≡ true → q ≡ true → (p && q) ≡ true
 both p q a b = rw (a, b)
+
+pub and-three : (p q r : Bool) → (p && q && r) ≡ true → (p ≡ true) × (q ≡ true) × (r ≡ true)
+and-three p q r e = let a = and-both (p && q) r e in let b = and-both p q (a .0) in (b .0, b .1, a .1)
+
+pub and-four : (p q r s : Bool) → (p && q && r && s) ≡ true → (p ≡ true) × (q ≡ true) × (r ≡ true) × (s ≡ true)
+and-four p q r s e = let a = and-both (p && q && r) s e in let b = and-three p q r (a .0) in (b .0, b .1, b .2, a .1)
+
+pub and-five : (p q r s t : Bool) → (p && q && r && s && t) ≡ true → (p ≡ true) × (q ≡ true) × (r ≡ true) × (s ≡ true) × (t ≡ true)
+and-five p q r s t e = let a = and-both (p && q && r && s) t e in let b = and-four p q r s (a .0) in (b .0, b .1, b .2, b .3, a .1)
+
+pub three : (p q r : Bool) → p ≡ true → q ≡ true → r ≡ true → (p && q && r) ≡ true
+three p q r a b c = rw (a, b, c)
+
+pub four : (p q r s : Bool) → p ≡ true → q ≡ true → r ≡ true → s ≡ true → (p && q && r && s) ≡ true
+four p q r s a b c d = rw (a, b, c, d)
+
+pub five : (p q r s t : Bool) → p ≡ true → q ≡ true → r ≡ true → s ≡ true → t ≡ true → (p && q && r && s && t) ≡ true
+five p q r s t a b c d e = rw (a, b, c, d, e)
 
 pub all-below : (f : ℕ → Bool) (n : ℕ) → ((i : ℕ) → i < n → f i ≡ true) → allBelow f n ≡ true
 all-below f zero g = refl

@@ -1,7 +1,7 @@
 -- The seats pass their test exactly if they are sound. Assumes nothing.
 use Prim.Native.Nat.{ℕ, suc, _≤_, _<_}
 use mathlib.Core.Path.{_≡_, refl, ap, sym, _∙_}
-use mathlib.Core.Bool.{Bool, true, false, not, _&&_}
+use mathlib.Core.Bool.{Bool, true, false, not}
 use mathlib.Core.List.{List, [], _∷_}
 use native.Mathlib.Omega.{arith}
 use lib.Dec.{eqb, ltb}
@@ -22,7 +22,7 @@ use Rattle.reach.specs.InLine.{clash}
 use Rattle.reach.specs.Hall.{found-holds, none-holds}
 use Rattle.sound.specs.Test.{octetBehind, nameSound, finds, ssrcAt, takenSound, freeSound, seatSound, seatsSound}
 use Rattle.sound.specs.Shaped.{ShapedSeats}
-use Rattle.sound.proofs.Laws.{and-both, both, all-below, or-behind, or-within, or-right, filled-behind, behind-filled, within-column}
+use Rattle.sound.proofs.Laws.{and-both, and-four, and-five, both, four, five, all-below, or-behind, or-within, or-right, filled-behind, behind-filled, within-column}
 
 -- an identity, with zeros behind it
 abbrev nameWith : List ℕ → ℕ → Name
@@ -115,80 +115,52 @@ record TakenOk (h : Hall) (ns : Names) (s : ℕ) : Type 0 where
   pub by-identity : seatNamed h ns (octetsOf (nameAt ns s)) ≡ At s
 
 module _ (h : Hall) (ns : Names) (s : ℕ) where
-  abbrev notDesk : Bool
-  notDesk = not (eqb (ssrcAt h s) (h .settings .ssrc))
-
-  abbrev bySsrc : Bool
-  bySsrc = finds (seatOf h (ssrcAt h s)) s
-
-  abbrev allowed : Bool
-  allowed = lengthAllowed (octetsOf (nameAt ns s))
-
-  abbrev byIdentity : Bool
-  byIdentity = finds (seatNamed h ns (octetsOf (nameAt ns s))) s
+  taken-tests : takenSound h ns s ≡ true →
+      (not (eqb (ssrcAt h s) (h .settings .ssrc)) ≡ true) × (finds (seatOf h (ssrcAt h s)) s ≡ true)
+      × (lengthAllowed (octetsOf (nameAt ns s)) ≡ true) × (finds (seatNamed h ns (octetsOf (nameAt ns s))) s ≡ true)
+  unfolding takenSound
+  taken-tests q = and-four _ _ _ _ q
 
   taken-from : takenSound h ns s ≡ true → TakenOk h ns s
-  unfolding takenSound
   taken-from q =
-      let a = and-both (notDesk && bySsrc && allowed) byIdentity q in
-      let b = and-both (notDesk && bySsrc) allowed (a .0) in
-      let c = and-both notDesk bySsrc (b .0) in
-      record {
-        desk = eqb-false _ _ (not-true _ (c .0));
-        by-ssrc = finds-at _ s (c .1);
-        length = b .1;
-        by-identity = finds-at _ s (a .1);
-      }
+      let a = taken-tests q in
+      record { desk = eqb-false _ _ (not-true _ (a .0)); by-ssrc = finds-at _ s (a .1); length = a .2; by-identity = finds-at _ s (a .3) }
 
   taken-test : SeatsOk h ns → s < 16 → isPresent h s ≡ true → takenSound h ns s ≡ true
   unfolding takenSound seatOf seatNamed
   taken-test k b p =
-      both (notDesk && bySsrc && allowed) byIdentity
-      (both (notDesk && bySsrc) allowed
-      (both notDesk bySsrc (ap not (ne-eqb _ _ (k .desk s p)))
+      four _ _ _ _ (ap not (ne-eqb _ _ (k .desk s p)))
       (finds-only (hasSsrc h (ssrcAt h s)) s b (both (isPresent h s) (eqb (ssrcAt h s) (ssrcAt h s)) p (eq-eqb (ssrcAt h s) (ssrcAt h s) refl))
       (λ t q. let a = and-both (isPresent h t) (eqb (ssrcAt h t) (ssrcAt h s)) q in k .ssrcs t s (a .0) p (eqb-true _ _ (a .1)))
-      _ refl))
-      (k .lengths s p))
+      _ refl)
+      (k .lengths s p)
       (finds-only (hasName h ns (octetsOf (nameAt ns s))) s b (both (isPresent h s) (same (octetsOf (nameAt ns s)) (octetsOf (nameAt ns s))) p (same-self (octetsOf (nameAt ns s))))
       (λ t q. let a = and-both (isPresent h t) (same (octetsOf (nameAt ns t)) (octetsOf (nameAt ns s))) q in k .identities t s (a .0) p (a .1))
       _ refl)
 
+  free-tests : freeSound h ns s ≡ true →
+      (eqb (ssrcAt h s) 0 ≡ true) × (eqb (getD (h .highest) s 0) 0 ≡ true) × (not (queues h s) ≡ true) × (not (receivesOnly h s) ≡ true)
+      × (eqb (length (octetsOf (nameAt ns s))) 0 ≡ true)
+  unfolding freeSound
+  free-tests q = and-five _ _ _ _ _ q
+
   abbrev FreeOk : Type 0
   FreeOk = (getD (h .ssrcs) s 0 ≡ 0) × (getD (h .highest) s 0 ≡ 0) × (getD (h .queueing) s false ≡ false) × (getD (h .listener) s false ≡ false) × (nameAt ns s ≡ noName)
 
-  abbrev noSsrc : Bool
-  noSsrc = eqb (ssrcAt h s) 0
-
-  abbrev noPriority : Bool
-  noPriority = eqb (getD (h .highest) s 0) 0
-
-  abbrev noOctets : Bool
-  noOctets = eqb (length (octetsOf (nameAt ns s))) 0
-
   free-from : nameAt ns s ≡ nameOf (octetsOf (nameAt ns s)) → freeSound h ns s ≡ true → FreeOk
-  unfolding freeSound
   free-from m q =
-      let a = and-both (noSsrc && noPriority && not (queues h s) && not (receivesOnly h s)) noOctets q in
-      let b = and-both (noSsrc && noPriority && not (queues h s)) (not (receivesOnly h s)) (a .0) in
-      let c = and-both (noSsrc && noPriority) (not (queues h s)) (b .0) in
-      let d = and-both noSsrc noPriority (c .0) in (
-        eqb-true _ _ (d .0),
-        eqb-true _ _ (d .1),
-        not-true _ (c .1),
-        not-true _ (b .1),
-        m ∙ ap nameOf (no-octets (octetsOf (nameAt ns s)) (a .1)) ∙ name-none,
+      let a = free-tests q in (
+        eqb-true _ _ (a .0),
+        eqb-true _ _ (a .1),
+        not-true _ (a .2),
+        not-true _ (a .3),
+        m ∙ ap nameOf (no-octets (octetsOf (nameAt ns s)) (a .4)) ∙ name-none,
       )
 
   free-test : FreeOk → freeSound h ns s ≡ true
   unfolding freeSound
   free-test k =
-      both (noSsrc && noPriority && not (queues h s) && not (receivesOnly h s)) noOctets
-      (both (noSsrc && noPriority && not (queues h s)) (not (receivesOnly h s))
-      (both (noSsrc && noPriority) (not (queues h s))
-      (both noSsrc noPriority (eq-eqb _ _ (k .0)) (eq-eqb _ _ (k .1)))
-      (ap not (k .2)))
-      (ap not (k .3)))
+      five _ _ _ _ _ (eq-eqb _ _ (k .0)) (eq-eqb _ _ (k .1)) (ap not (k .2)) (ap not (k .3))
       (eq-eqb _ _ (ap (λ (n : Name). length (octetsOf n)) (k .4) ∙ none-short))
 
 -- all seats

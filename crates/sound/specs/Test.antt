@@ -1,7 +1,7 @@
 -- The test of a desk: the words of docs/FORMS.md on the desk that octets stand for, as Bools. What a value's own type gives (how many seats and
 -- places there are, that a sequence number has 16 bits) is not tested. Assumes nothing.
 use Prim.Native.Nat.{ℕ, suc}
-use mathlib.Core.Bool.{Bool, true, false, not, _&&_, _||_}
+use mathlib.Core.Bool.{Bool, false, not, _&&_, _||_}
 use mathlib.Core.List.{List}
 use lib.Dec.{eqb, leb, ltb}
 use lib.ListN.{length, getD}
