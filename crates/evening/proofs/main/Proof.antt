@@ -7,7 +7,7 @@ use Rattle.evening.proofs.main.Tie as tie
 use Rattle.evening.proofs.main.Reads as reads
 use Rattle.evening.proofs.main.Lts as lts
 use Rattle.evening.proofs.run.Reads as run-reads
-use Rattle.evening.proofs.say.text.Reads as text-reads
+use Rattle.evening.proofs.say.Reads as say-reads
 use Rattle.evening.proofs.seat.Reads as seat-reads
 
 abbrev Inv-loop : tie.InvT-loop
@@ -16,11 +16,11 @@ Inv-loop tally core i₀ i = i ≤ 16
 abbrev μ-loop : tie.MeasureT-loop
 μ-loop tally core i₀ i = 16 - i
 
-slice-aggregate-text : tie.Need-slice-aggregate-text Inv-loop μ-loop
-slice-aggregate-text c = search needs
+slice-aggregate-say : tie.Need-slice-aggregate-say Inv-loop μ-loop
+slice-aggregate-say c = search needs
 
-text-requires : tie.Need-text-requires Inv-loop μ-loop
-text-requires c κs = search needs
+say-requires : tie.Need-say-requires Inv-loop μ-loop
+say-requires c κs = search needs
 
 run-requires : tie.Need-run-requires Inv-loop μ-loop
 run-requires c κs = search needs
@@ -49,8 +49,8 @@ main-spec =
     (tie.spec
     Inv-loop
     μ-loop
-    slice-aggregate-text
-    text-requires
+    slice-aggregate-say
+    say-requires
     run-requires
     loop-holds
     seat-requires

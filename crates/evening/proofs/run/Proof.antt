@@ -8,7 +8,7 @@ use Rattle.evening.proofs.run.Reads as reads
 use Rattle.evening.proofs.run.Lts as lts
 use Rattle.evening.proofs.fresh.Reads as fresh-reads
 use Rattle.evening.proofs.next.Reads as next-reads
-use Rattle.evening.proofs.turn.Reads as turn-reads
+use Rattle.evening.proofs.next_turn.Reads as next-turn-reads
 
 abbrev Inv-loop : tie.InvT-loop
 Inv-loop seed e₀ s₀ turns₀ e s turns = turns ≤ 5000
@@ -25,8 +25,8 @@ loop-holds c = search needs
 next-requires : tie.Need-next-requires Inv-loop μ-loop
 next-requires c κs = search needs
 
-turn-requires : tie.Need-turn-requires Inv-loop μ-loop
-turn-requires c κs = search needs
+next-turn-requires : tie.Need-next-turn-requires Inv-loop μ-loop
+next-turn-requires c κs = search needs
 
 add-turns : tie.Need-add-turns Inv-loop μ-loop
 add-turns c = search needs
@@ -49,7 +49,7 @@ run-spec =
     fresh-requires
     loop-holds
     next-requires
-    turn-requires
+    next-turn-requires
     add-turns
     loop-less
     loop-again

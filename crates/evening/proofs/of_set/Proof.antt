@@ -4,11 +4,11 @@ use mathlib.Core.Path.{_≡_}
 use lib.ListN.{length}
 use borrow.Author.Needs.{needs}
 use native.Mathlib.Omega.{arith}
-use Rattle.evening.proofs.tally.of_set.Statement.{statement}
-use Rattle.evening.proofs.tally.of_set.Tie as tie
-use Rattle.evening.proofs.tally.of_set.Reads as reads
-use Rattle.evening.proofs.tally.of_set.Lts as lts
-use Rattle.evening.proofs.tally.more_if.Reads as more-if-reads
+use Rattle.evening.proofs.of_set.Statement.{statement}
+use Rattle.evening.proofs.of_set.Tie as tie
+use Rattle.evening.proofs.of_set.Reads as reads
+use Rattle.evening.proofs.of_set.Lts as lts
+use Rattle.evening.proofs.more_if.Reads as more-if-reads
 
 abbrev Inv-loop : tie.InvT-loop
 Inv-loop set next₀ i₀ next i = (i ≤ 16) × (length set ≡ 16) × (length next ≡ 16)
