@@ -81,7 +81,8 @@ pub fn event_of(m: Message) -> Event
     }
 }
 
-fn of_step(step: Step) -> Called
+// What a step answers, in the paper's numbers.
+pub fn of_step(step: Step) -> Called
     ensures { λ r. ⌜ r ≡ ofStep step ⌝ }
 {
     let core = step.core;
@@ -100,7 +101,7 @@ fn of_step(step: Step) -> Called
 }
 
 // Nothing changes, nobody is told, and the answer is this number.
-fn not_read(core: Core, number: u8) -> Called
+pub fn not_read(core: Core, number: u8) -> Called
     ensures { λ r. ⌜ r ≡ unread core number ⌝ }
 {
     let step = rules::answer(core, Answer::Done);

@@ -38,7 +38,7 @@ length-names ns =
     length-append (lengthOctets ns) (rows (λ s. nameOctets (nameAt ns s)) 0 16)
     ∙ rw (length-column (λ s. length (identity.octetsOf (nameAt ns s))) 0 16, length-rows (λ s. nameOctets (nameAt ns s)) 62 0 16 (λ s. length-name (nameAt ns s)))
 
-length-octets : (c : Core) (h : Hall) (ns : Names) → length (octetsOf c h ns) ≡ 1200
+pub length-octets : (c : Core) (h : Hall) (ns : Names) → length (octetsOf c h ns) ≡ 1200
 unfolding octetsOf
 length-octets c h ns = simp (length-append, length-core c, length-hall h, length-names ns)
 

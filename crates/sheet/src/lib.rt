@@ -41,6 +41,20 @@ pub enum Verdict {
     SeatAtFault,
 }
 
+// The number of a verdict; 0 is accepted.
+pub fn verdict_number(verdict: Verdict) -> u8
+    ensures { λ r. ⌜ r ≡ number verdict ⌝ }
+{
+    match verdict {
+        Verdict::Accepted => 0,
+        Verdict::NotASheet => 41,
+        Verdict::OtherForm => 42,
+        Verdict::WrongPlaces => 43,
+        Verdict::OutsideRange => 44,
+        Verdict::SeatAtFault => 45,
+    }
+}
+
 // The verdict, and the desk: fresh, and empty with zeros for its settings where the sheet was refused.
 pub struct Loading {
     pub verdict: Verdict,

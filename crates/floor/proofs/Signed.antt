@@ -1,0 +1,26 @@
+-- A small number at a signed width, and minus it. Assumes nothing.
+use Prim.Native.Nat.{ℕ, zero, suc, _<_, _^_}
+use mathlib.Core.Path.{_≡_, refl, ap, sym, _∙_}
+use native.Mathlib.Omega.{arith}
+use lib.IntN.{ℤ, pos, negsuc, negℤ, _-ℤ_, +ℤ-idl}
+use lib.Signed.{mag}
+use mir.Syntax.{w32}
+use mir.Val.{SFits, toZ, ofZ}
+use mir.Facts.{toZ-pos, toZ-ofZ}
+
+pub as-it-is : (n : ℕ) → n < 2147483648 → toZ w32 n ≡ pos n
+as-it-is n h = toZ-pos w32 h
+
+module _ (n : ℕ) (h : n < 2147483648) where
+  minus : toZ w32 0 -ℤ toZ w32 n ≡ negℤ (pos n)
+  minus = rw (as-it-is n h) (+ℤ-idl (negℤ (pos n)))
+
+  pub minus-fits : SFits w32 (toZ w32 0 -ℤ toZ w32 n)
+  minus-fits = rw minus (small n h)
+    where
+      small : (k : ℕ) → k < 2147483648 → SFits w32 (negℤ (pos k))
+      small zero b = record { sfits = omega arith }
+      small (suc k) b = record { sfits = omega arith }
+
+  pub minus-is : toZ w32 (ofZ w32 (toZ w32 0 -ℤ toZ w32 n)) ≡ negℤ (pos n)
+  minus-is = toZ-ofZ minus-fits ∙ minus

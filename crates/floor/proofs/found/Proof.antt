@@ -1,0 +1,16 @@
+use Rattle.floor.proofs.Signed.{as-it-is}
+use native.Mathlib.Omega.{arith}
+use borrow.Author.Needs.{needs}
+use Rattle.floor.proofs.found.Statement.{statement}
+use Rattle.floor.proofs.found.Tie as tie
+use Rattle.floor.proofs.found.Reads as reads
+use Rattle.floor.proofs.found.Lts as lts
+
+cast-result : tie.Need-cast-result
+cast-result c = search needs
+
+returns : tie.Need-returns
+returns c = as-it-is _ (c .pre)
+
+pub found-spec : {M : Type 1} → statement M
+found-spec = tie.close (tie.spec cast-result returns)

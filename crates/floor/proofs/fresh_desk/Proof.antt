@@ -1,0 +1,45 @@
+use native.Mathlib.Omega.{arith}
+use borrow.Author.Needs.{needs}
+use Rattle.floor.proofs.fresh_desk.Statement.{statement}
+use Rattle.floor.proofs.fresh_desk.Tie as tie
+use Rattle.floor.proofs.fresh_desk.Reads as reads
+use Rattle.floor.proofs.fresh_desk.Lts as lts
+use Rattle.desk.proofs.fresh_core.Reads as fresh-core-reads
+use Rattle.floor.proofs.write_desk.Reads as write-desk-reads
+use Rattle.hall.proofs.empty_hall.Reads as empty-hall-reads
+use Rattle.hall.proofs.no_names.Reads as no-names-reads
+
+-- src/lib.rt:253:9
+fresh-core-requires : tie.Need-fresh-core-requires
+fresh-core-requires c κs = search needs
+
+-- src/lib.rt:254:9
+empty-hall-requires : tie.Need-empty-hall-requires
+empty-hall-requires c κs = search needs
+
+-- src/lib.rt:255:9
+no-names-requires : tie.Need-no-names-requires
+no-names-requires c κs = search needs
+
+-- src/lib.rt:256:5
+write-desk-requires : tie.Need-write-desk-requires
+write-desk-requires c κs = search needs
+
+-- src/lib.rt:250:1
+same-length : tie.Need-same-length
+same-length c = search needs
+
+-- src/lib.rt:250:1
+returns : tie.Need-returns
+returns c = search needs
+
+pub fresh-desk-spec : {M : Type 1} → statement M
+fresh-desk-spec =
+    tie.close
+    (tie.spec
+    fresh-core-requires
+    empty-hall-requires
+    no-names-requires
+    write-desk-requires
+    same-length
+    returns)

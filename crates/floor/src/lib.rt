@@ -1,0 +1,330 @@
+// The C face: the desk rests in lent octets (docs/FORMS.md), and every exported function is its rule between decoding and encoding.
+// specs/Floor.antt says what each answers and leaves; include/floor.h is the manual.
+use call::Called;
+use desk::Event;
+use desk::Left;
+use desk::Running;
+use desk::Timer;
+use hall::Found;
+use hall::Hall;
+use hall::Names;
+use hall::Newcomer;
+use hall::Settings;
+use rules::Core;
+use rules::Phase;
+ghost use mathlib.Core.Path.{_≡_};
+ghost use mathlib.Core.Bool.{true};
+ghost use mathlib.Core.List.{List};
+ghost use Prim.Native.Nat.{_<_, _≤_};
+ghost use lib.ListN.{length};
+ghost use lib.IntN.{pos, negℤ};
+ghost use Rattle.message.specs.Answers.{result};
+ghost use Rattle.octets.specs.Octets.{over};
+ghost use Rattle.hall.specs.Seats.{seatOf, emptyHall};
+ghost use Rattle.hall.specs.Identity.{seatNamed, noNames};
+ghost use Rattle.desk.specs.Events.{fresh};
+ghost use Rattle.desk.specs.declared.Event.the-variants as event;
+ghost use Rattle.floor.specs.declared.Named.the-variants as named;
+ghost use Rattle.desk.specs.Timers.{running};
+ghost use Rattle.form.specs.Form.{kindOctet, coreAt, hallAt, namesAt, octetsOf};
+ghost use Rattle.report.specs.Report.{maskOf};
+ghost use Rattle.floor.specs.Floor.{formed, leaves, calledOn, eventOn, packetOn, timerNamed, notRunning, firedOn, leftOn, seatNumbered, leaveOn, written, settings, makeOn, loadOn, newcomer, joinOn, signed, looks, holderAnswer, bit, timerSet, seatAnswer};
+
+// A timer by its number.
+pub enum Named {
+    Known(Timer),
+    Unknown,
+}
+
+// Whether lent octets are a desk's.
+fn is_desk(desk: &[u8]) -> bool
+    ensures { λ r. ⌜ r ≡ formed (now (desk .entry)) ⌝ }
+{
+    if form::is_canonical(desk) {
+        let core = form::core_at(desk);
+        let hall = form::hall_at(desk);
+        let names = form::names_at(desk);
+        sound::is_sound(core, hall, names)
+    } else {
+        false
+    }
+}
+
+// Writes what a step brought about, unless it was refused or there is no room for its report.
+fn settle(desk: &mut [u8], report: &mut [u8], called: Called) -> u32
+    requires { ⌜ formed (now desk) ≡ true ⌝ }
+    ensures { λ r. ⌜ leaves r (now (desk .exit)) (now (report .exit)) ≡ calledOn (now (desk .entry)) (now (report .entry)) called ⌝ }
+{
+    let answer = called.answer;
+    let core = called.core;
+    let first = called.first;
+    let second = called.second;
+    let marks = called.marks;
+    if answer != 0 {
+        return answer as u32;
+    }
+    if report.len() < 24 {
+        return 13;
+    }
+    form::put_core(desk, core);
+    report::put_report(report, first, second, marks);
+    0
+}
+
+fn event_on(desk: &mut [u8], report: &mut [u8], event: Event) -> u32
+    ensures { λ r. ⌜ leaves r (now (desk .exit)) (now (report .exit)) ≡ eventOn (now (desk .entry)) (now (report .entry)) event ⌝ }
+{
+    if is_desk(desk) {
+        let core = form::core_at(desk);
+        let hall = form::hall_at(desk);
+        let step = desk::make_step(core, hall, event);
+        settle(desk, report, call::of_step(step))
+    } else {
+        20
+    }
+}
+
+// The call starts.
+#[no_mangle]
+pub extern "C" fn floor_start(desk: &mut [u8], report: &mut [u8]) -> u32
+    ensures { λ r. ⌜ leaves r (now (desk .exit)) (now (report .exit)) ≡ eventOn (now (desk .entry)) (now (report .entry)) event.Start ⌝ }
+{
+    event_on(desk, report, Event::Start)
+}
+
+// The call stops.
+#[no_mangle]
+pub extern "C" fn floor_stop(desk: &mut [u8], report: &mut [u8]) -> u32
+    ensures { λ r. ⌜ leaves r (now (desk .exit)) (now (report .exit)) ≡ eventOn (now (desk .entry)) (now (report .entry)) event.Stop ⌝ }
+{
+    event_on(desk, report, Event::Stop)
+}
+
+// Media came in from this SSRC.
+#[no_mangle]
+pub extern "C" fn floor_media(desk: &mut [u8], ssrc: u32, report: &mut [u8]) -> u32
+    ensures { λ r. ⌜ leaves r (now (desk .exit)) (now (report .exit)) ≡ eventOn (now (desk .entry)) (now (report .entry)) (event.Media ssrc) ⌝ }
+{
+    event_on(desk, report, Event::Media(ssrc))
+}
+
+// A packet came in.
+#[no_mangle]
+pub extern "C" fn floor_packet(desk: &mut [u8], packet: &[u8], report: &mut [u8]) -> u32
+    ensures { λ r. ⌜ leaves r (now (desk .exit)) (now (report .exit)) ≡ packetOn (now (desk .entry)) (now (report .entry)) (now (packet .entry)) ⌝ }
+{
+    if is_desk(desk) {
+        let core = form::core_at(desk);
+        let hall = form::hall_at(desk);
+        let called = call::hear(core, hall, packet);
+        settle(desk, report, called)
+    } else {
+        20
+    }
+}
+
+fn timer_named(n: u32) -> Named
+    ensures { λ r. ⌜ r ≡ timerNamed n ⌝ }
+{
+    match n {
+        1 => Named::Known(Timer::T1),
+        2 => Named::Known(Timer::T2),
+        3 => Named::Known(Timer::T3),
+        4 => Named::Known(Timer::T4),
+        7 => Named::Known(Timer::T7),
+        8 => Named::Known(Timer::T8),
+        20 => Named::Known(Timer::T20),
+        _ => Named::Unknown,
+    }
+}
+
+fn not_running(phase: Phase) -> u8
+    ensures { λ r. ⌜ r ≡ notRunning phase ⌝ }
+{
+    match phase {
+        Phase::Stopped => 21,
+        Phase::Idle(_) => 23,
+        Phase::Taken(_, _) => 23,
+        Phase::Revoking(_, _) => 23,
+    }
+}
+
+// A timer that no desk has is one that is not running.
+fn unknown_timer(desk: &mut [u8], report: &mut [u8]) -> u32
+    ensures { λ r. ⌜ leaves r (now (desk .exit)) (now (report .exit)) ≡ firedOn (now (desk .entry)) (now (report .entry)) named.Unknown ⌝ }
+{
+    if is_desk(desk) {
+        let core = form::core_at(desk);
+        let phase = core.phase;
+        let called = call::not_read(core, not_running(phase));
+        settle(desk, report, called)
+    } else {
+        20
+    }
+}
+
+// A timer fired.
+#[no_mangle]
+pub extern "C" fn floor_timer(desk: &mut [u8], timer: u32, report: &mut [u8]) -> u32
+    ensures { λ r. ⌜ leaves r (now (desk .exit)) (now (report .exit)) ≡ firedOn (now (desk .entry)) (now (report .entry)) (timerNamed timer) ⌝ }
+{
+    match timer_named(timer) {
+        Named::Known(t) => event_on(desk, report, Event::Expiry(t)),
+        Named::Unknown => unknown_timer(desk, report),
+    }
+}
+
+// Writes a whole desk into the first 1,200 octets of a room.
+fn put_desk(room: &mut [u8], core: Core, hall: Hall, names: Names)
+    requires { ⌜ 1200 ≤ length (now room) ⌝ }
+    ensures { λ _. ⌜ now (room .exit) ≡ over (now (room .entry)) 0 (octetsOf core hall names) ⌝ }
+{
+    form::put_letters(room);
+    form::put_core(room, core);
+    form::put_hall(room, hall);
+    form::put_names(room, names);
+}
+
+// As settle, for a step that changed the seats too.
+fn settle_left(desk: &mut [u8], report: &mut [u8], left: Left) -> u32
+    requires { ⌜ formed (now desk) ≡ true ⌝ }
+    ensures { λ r. ⌜ leaves r (now (desk .exit)) (now (report .exit)) ≡ leftOn (now (desk .entry)) (now (report .entry)) left ⌝ }
+{
+    let said = left.report;
+    let answer = said.answer;
+    let first = said.first;
+    let second = said.second;
+    let marks = said.marks;
+    let n = call::answer_number(answer);
+    if n != 0 {
+        return n as u32;
+    }
+    if report.len() < 24 {
+        return 13;
+    }
+    let core = left.core;
+    let hall = left.hall;
+    let names = left.names;
+    put_desk(desk, core, hall, names);
+    report::put_report(report, first, second, marks);
+    0
+}
+
+// A number that no seat has stands for every such number.
+fn seat_numbered(seat: u32) -> u8
+    ensures { λ r. ⌜ r ≡ seatNumbered seat ⌝ }
+{
+    if seat < 16 { seat as u8 } else { 16 }
+}
+
+// A seat leaves.
+#[no_mangle]
+pub extern "C" fn floor_leave(desk: &mut [u8], seat: u32, report: &mut [u8]) -> u32
+    ensures { λ r. ⌜ leaves r (now (desk .exit)) (now (report .exit)) ≡ leaveOn (now (desk .entry)) (now (report .entry)) (seatNumbered seat) ⌝ }
+{
+    if is_desk(desk) {
+        let core = form::core_at(desk);
+        let hall = form::hall_at(desk);
+        let names = form::names_at(desk);
+        let left = desk::leave_call(core, hall, names, seat_numbered(seat));
+        settle_left(desk, report, left)
+    } else {
+        20
+    }
+}
+
+// Writes a desk, unless it was refused or the room is too short for it.
+fn write_desk(desk: &mut [u8], n: u8, core: Core, hall: Hall, names: Names) -> u32
+    ensures { λ r. ⌜ (r, now (desk .exit)) ≡ written (now (desk .entry)) n core hall names ⌝ }
+{
+    if n != 0 {
+        return n as u32;
+    }
+    if desk.len() < 1200 {
+        return 13;
+    }
+    put_desk(desk, core, hall, names);
+    0
+}
+
+fn fresh_desk(desk: &mut [u8], settings: Settings) -> u32
+    ensures { λ r. ⌜ (r, now (desk .exit)) ≡ written (now (desk .entry)) 0 fresh (emptyHall settings) noNames ⌝ }
+{
+    let core = desk::fresh_core();
+    let hall = hall::empty_hall(settings);
+    let names = hall::no_names();
+    write_desk(desk, 0, core, hall, names)
+}
+
+// Makes a fresh desk.
+#[no_mangle]
+pub extern "C" fn floor_make(desk: &mut [u8], ssrc: u32, level: u32, limit: u32, c7: u32, c20: u32, duration: u32) -> u32
+    ensures { λ r. ⌜ (r, now (desk .exit)) ≡ makeOn (now (desk .entry)) (settings ssrc level limit c7 c20 duration) ⌝ }
+{
+    if level < 256 && limit < 256 && c7 < 256 && c20 < 256 && duration < 65536 {
+        let settings = Settings {
+            ssrc,
+            level: level as u8,
+            limit: limit as u8,
+            c7: c7 as u8,
+            c20: c20 as u8,
+            duration: duration as u16,
+        };
+        if hall::in_range(settings) {
+            return fresh_desk(desk, settings);
+        }
+    }
+    28
+}
+
+// Makes a fresh desk from a sheet.
+#[no_mangle]
+pub extern "C" fn floor_load(desk: &mut [u8], sheet: &[u8]) -> u32
+    ensures { λ r. ⌜ (r, now (desk .exit)) ≡ loadOn (now (desk .entry)) (now (sheet .entry)) ⌝ }
+{
+    let loading = sheet::load(sheet);
+    let verdict = loading.verdict;
+    let core = loading.core;
+    let hall = loading.hall;
+    let names = loading.names;
+    let n = sheet::verdict_number(verdict);
+    write_desk(desk, n, core, hall, names)
+}
+
+// Takes the lowest free seat.
+#[no_mangle]
+pub extern "C" fn floor_join(desk: &mut [u8], identity: &[u8], ssrc: u32, highest: u8, queueing: u8, receive_only: u8) -> u32
+    ensures { λ r. ⌜ (r, now (desk .exit)) ≡ joinOn (now (desk .entry)) (now (identity .entry)) (newcomer ssrc highest queueing «receive_only») ⌝ }
+{
+    if is_desk(desk) {
+        let who = Newcomer {
+            ssrc,
+            highest,
+            queueing: queueing != 0,
+            listener: receive_only != 0,
+        };
+        let core = form::core_at(desk);
+        let hall = form::hall_at(desk);
+        let names = form::names_at(desk);
+        let joined = hall::join_call(hall, names, identity, who);
+        let answer = joined.answer;
+        let more = joined.hall;
+        let named = joined.names;
+        write_desk(desk, call::answer_number(answer), core, more, named)
+    } else {
+        20
+    }
+}
+
+fn found(n: u32) -> i32
+    requires { ⌜ n < 2147483648 ⌝ }
+    ensures { λ r. ⌜ r ≡ pos n ⌝ }
+{
+    n as i32
+}
+
+fn refusal(n: u8) -> i32
+    ensures { λ r. ⌜ r ≡ negℤ (pos n) ⌝ }
+{
+    0 - (n as i32)
+}
