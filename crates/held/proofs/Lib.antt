@@ -1,0 +1,4 @@
+-- The laws that the functions' proofs share, and the laws of the form.
+pub mod Bits
+pub mod Runs
+pub mod Answers
