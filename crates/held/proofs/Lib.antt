@@ -2,3 +2,4 @@
 pub mod Bits
 pub mod Runs
 pub mod Answers
+pub mod Back
