@@ -3,3 +3,4 @@ pub mod Bits
 pub mod Runs
 pub mod Answers
 pub mod Back
+pub mod Again
