@@ -4,3 +4,4 @@ pub mod Runs
 pub mod Answers
 pub mod Back
 pub mod Again
+pub mod Done
