@@ -2,7 +2,7 @@
 use Prim.Native.Nat.{ℕ, _≤_, _<_}
 use mathlib.Core.Bool.{false}
 use mathlib.Core.List.{List}
-use mathlib.Core.Path.{_≡_, refl, sym, ap, _∙_}
+use mathlib.Core.Path.{_≡_, ap}
 use lib.ListN.{length}
 use borrow.Author.Tests.{eq-eqb, lt-ltb, le-ltb}
 use Rattle.words.specs.Choice.{if_then_else_}
@@ -12,7 +12,7 @@ use Rattle.message.specs.Answers.{refused, result}
 use Rattle.message.specs.declared.Typed.{Typed}
 use Rattle.message.specs.declared.Message.{Message}
 use Rattle.reading.specs.Reading.{reading}
-use Rattle.held.specs.Held.{heldOctets, octetAt, unlistedField, ofType, heldAt, readHeld, keptIn, answered, keeping}
+use Rattle.held.specs.Held.{heldOctets, octetAt, unlistedField, ofType, heldAt, readHeld, keptIn}
 
 -- octets in the form hold a message if their type is listed
 pub held-is : (s : List ℕ) (t : Typed) → length s ≡ 40 → octetAt s 1 ≤ 1 → unlistedField (be16 s 2) ≡ false → typed (octetAt s 0) ≡ t

@@ -5,13 +5,12 @@ use Prim.Native.Nat.{ℕ, _+_, _*_, _/_, _%_, _≤_, _<_}
 use native.Mathlib.Nat.{mod-eq-of-lt, div-add-mod}
 use native.Mathlib.Omega.{arith}
 use mathlib.Core.Bool.{Bool, true, false}
-use mathlib.Core.List.{List, []}
-use mathlib.Core.Path.{_≡_, refl, sym, ap, _∙_}
-use lib.Dec.{eqb}
+use mathlib.Core.List.{[]}
+use mathlib.Core.Path.{_≡_, refl, ap, _∙_}
 use Rattle.words.specs.Choice.{if_then_else_}
 use Rattle.octets.specs.Octets.{be16, be32, octets16, octets32}
 use Rattle.message.specs.Types.{typed, typeNumber}
-use Rattle.message.specs.Message.{isGiven, ofOctet, ofWord, ofNumber, ofQueue, ofPart, ofCause, has, fieldsOf}
+use Rattle.message.specs.Message.{isGiven, ofOctet, ofWord, ofNumber, ofQueue, ofPart, ofCause, has}
 use Rattle.message.specs.declared.Kind.{Kind}
 use Rattle.message.specs.declared.Kind.the-variants.{Request, Granted, Taken, Deny, Release, Idle, Revoke, QueuePositionRequest, QueuePositionInfo, Ack}
 use Rattle.message.specs.declared.Typed.the-variants.{Listed}
@@ -23,7 +22,7 @@ use Rattle.message.specs.declared.Part.{Part}
 use Rattle.message.specs.declared.Cause.{Cause}
 use Rattle.message.specs.declared.Message.{Message}
 use Rattle.held.specs.declared.Held.the-variants.{Is}
-use Rattle.held.specs.Held.{flag, which, octetIn, wordIn, numberIn, positionIn, priorityIn, causeIn, phraseIn, startIn, countIn, headOctets, firstOctets, nextOctets, placeOctets, partOctets, heldOctets, isSet, octetIf, wordIf, numberIf, queueIf, partIf, causeIf, octetAt, messageWith, unlistedField, heldAt}
+use Rattle.held.specs.Held.{flag, which, octetIn, wordIn, numberIn, positionIn, priorityIn, causeIn, phraseIn, startIn, countIn, headOctets, firstOctets, nextOctets, placeOctets, partOctets, heldOctets, octetIf, wordIf, numberIf, queueIf, partIf, causeIf, messageWith, unlistedField, heldAt}
 use Rattle.held.proofs.Bits.{is-set, flag-back}
 use Rattle.held.proofs.Answers.{held-is}
 

@@ -4,15 +4,15 @@
 --     writers-coincide : (held src : List ℕ) (room : ℕ) (r r′ : Writing) → told r ≡ writingOf (heldAt held) src room
 --         → told r′ ≡ writingOf (heldAt held) src room → r ≡ r′
 -- Assumes nothing.
-use Prim.Native.Nat.{ℕ, zero, suc, _+_, _*_, _≤_}
+use Prim.Native.Nat.{ℕ, zero, suc, _≤_}
 use native.Mathlib.Omega.{arith}
-use mathlib.Core.Bool.{Bool, true, false, not}
+use mathlib.Core.Bool.{Bool, true, false}
 use mathlib.Core.List.{List}
-use mathlib.Core.Path.{_≡_, refl, sym, ap, _∙_}
-use lib.Dec.{ltb, eqb}
+use mathlib.Core.Path.{_≡_, refl, sym, _∙_}
+use lib.Dec.{ltb}
 use lib.ListN.{length}
 use borrow.Author.Tests.{ltb-false}
-use Rattle.words.specs.Choice.{if_then_else_, by-test, if-yes, if-no}
+use Rattle.words.specs.Choice.{if_then_else_, by-test, if-yes}
 use Rattle.message.specs.Answers.{Answer, refused, result}
 use Rattle.message.specs.Types.{typed}
 use Rattle.message.specs.Message.{said, complete}

@@ -282,7 +282,7 @@ fn put_parts(room: &mut [u8], m: Message)
 }
 
 // Writes a message into the first 40 octets of a room.
-pub fn put_held(room: &mut [u8], m: Message)
+fn put_held(room: &mut [u8], m: Message)
     requires { ⌜ 40 ≤ length (now room) ⌝ }
     ensures { λ _. ⌜ now (room .exit) ≡ over (now (room .entry)) 0 (heldOctets m) ⌝ }
 {
@@ -412,7 +412,7 @@ fn has_unlisted(fields: u16) -> bool
 }
 
 // The message that octets hold, or that they hold none.
-pub fn held_at(s: &[u8]) -> Held
+fn held_at(s: &[u8]) -> Held
     ensures { λ r. ⌜ r ≡ heldAt (now (s .entry)) ⌝ }
 {
     if s.len() != SIZE {

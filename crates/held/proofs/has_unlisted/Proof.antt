@@ -1,11 +1,7 @@
 use Rattle.held.specs.Held.{unlistedField}
-use native.Mathlib.Omega.{arith}
 use borrow.Author.Needs.{needs}
 use Rattle.held.proofs.has_unlisted.Statement.{statement}
 use Rattle.held.proofs.has_unlisted.Tie as tie
-use Rattle.held.proofs.has_unlisted.Reads as reads
-use Rattle.held.proofs.has_unlisted.Lts as lts
-use Rattle.held.proofs.is_set.Reads as is-set-reads
 
 is-set-requires : tie.Need-is-set-requires
 is-set-requires c κs = search needs

@@ -1,21 +1,14 @@
 use Rattle.words.specs.Choice.{if_then_else_}
-use mathlib.Core.Path.{_≡_, refl, sym, ap, _∙_}
+use mathlib.Core.Path.{_≡_, sym, ap, _∙_}
 use mathlib.Core.Bool.{true, false}
 use borrow.Author.Tests.{eq-eqb, ne-eqb, lt-ltb, le-ltb}
 use Rattle.octets.specs.Octets.{be16}
 use Rattle.held.specs.Held.{heldAt, unlistedField, messageWith}
 use Rattle.held.specs.declared.Held.the-variants.{Is}
 use Rattle.held.proofs.Answers.{held-is}
-use native.Mathlib.Omega.{arith}
 use borrow.Author.Needs.{needs}
 use Rattle.held.proofs.held_at.Statement.{statement}
 use Rattle.held.proofs.held_at.Tie as tie
-use Rattle.held.proofs.held_at.Reads as reads
-use Rattle.held.proofs.held_at.Lts as lts
-use Rattle.held.proofs.has_unlisted.Reads as has-unlisted-reads
-use Rattle.held.proofs.message_with.Reads as message-with-reads
-use Rattle.message.proofs.typed_by.Reads as typed-by-reads
-use Rattle.octets.proofs.number16.Reads as number16-reads
 
 returns : tie.Need-returns
 unfolding heldAt if_then_else_

@@ -4,15 +4,6 @@ use native.Mathlib.Omega.{arith}
 use borrow.Author.Needs.{needs}
 use Rattle.held.proofs.message_with.Statement.{statement}
 use Rattle.held.proofs.message_with.Tie as tie
-use Rattle.held.proofs.message_with.Reads as reads
-use Rattle.held.proofs.message_with.Lts as lts
-use Rattle.held.proofs.cause_in.Reads as cause-in-reads
-use Rattle.held.proofs.number_in.Reads as number-in-reads
-use Rattle.held.proofs.octet_in.Reads as octet-in-reads
-use Rattle.held.proofs.part_in.Reads as part-in-reads
-use Rattle.held.proofs.queue_in.Reads as queue-in-reads
-use Rattle.held.proofs.word_in.Reads as word-in-reads
-use Rattle.octets.proofs.number32.Reads as number32-reads
 
 shared-slice-read-t5 : tie.Need-shared-slice-read-t5
 shared-slice-read-t5 c = search needs

@@ -1,12 +1,7 @@
-use mathlib.Core.Path.{_≡_, refl, sym, ap, _∙_}
-use native.Mathlib.Omega.{arith}
+use mathlib.Core.Path.{sym, _∙_}
 use borrow.Author.Needs.{needs}
 use Rattle.held.proofs.number_in.Statement.{statement}
 use Rattle.held.proofs.number_in.Tie as tie
-use Rattle.held.proofs.number_in.Reads as reads
-use Rattle.held.proofs.number_in.Lts as lts
-use Rattle.held.proofs.is_set.Reads as is-set-reads
-use Rattle.octets.proofs.number32.Reads as number32-reads
 
 is-set-requires : tie.Need-is-set-requires
 is-set-requires c κs = search needs

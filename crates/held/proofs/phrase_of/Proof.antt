@@ -1,9 +1,6 @@
-use native.Mathlib.Omega.{arith}
 use borrow.Author.Needs.{needs}
 use Rattle.held.proofs.phrase_of.Statement.{statement}
 use Rattle.held.proofs.phrase_of.Tie as tie
-use Rattle.held.proofs.phrase_of.Reads as reads
-use Rattle.held.proofs.phrase_of.Lts as lts
 
 enum-told : tie.Need-enum-told
 enum-told c = search needs

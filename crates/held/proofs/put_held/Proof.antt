@@ -1,20 +1,11 @@
-use Prim.Native.Nat.{ℕ, _+_, _%_, _≤_, _<_, zero-le}
-use mathlib.Core.List.{List, [], _∷_, _++_}
-use mathlib.Core.Path.{_≡_, refl, sym, ap, _∙_}
-use lib.ListN.{length}
+use Prim.Native.Nat.{_+_, zero-le}
+use mathlib.Core.Path.{_≡_, refl}
 use Rattle.octets.specs.Octets.{over, octets16, octets32}
 use Rattle.held.proofs.Runs.{run}
 use Rattle.held.specs.Held.{headOctets, firstOctets, nextOctets, placeOctets, partOctets, heldOctets}
-use native.Mathlib.Omega.{arith}
 use borrow.Author.Needs.{needs}
 use Rattle.held.proofs.put_held.Statement.{statement}
 use Rattle.held.proofs.put_held.Tie as tie
-use Rattle.held.proofs.put_held.Reads as reads
-use Rattle.held.proofs.put_held.Lts as lts
-use Rattle.held.proofs.put_first.Reads as put-first-reads
-use Rattle.held.proofs.put_head.Reads as put-head-reads
-use Rattle.held.proofs.put_next.Reads as put-next-reads
-use Rattle.held.proofs.put_parts.Reads as put-parts-reads
 
 put-head-requires : tie.Need-put-head-requires
 put-head-requires c κs = search needs
@@ -36,11 +27,19 @@ unfolding heldOctets headOctets firstOctets nextOctets partOctets placeOctets oc
 returns c =
     let a = c .before .before .before .before .before .before .before .before .before .before .before .before .before .before .before .before .before .args in
     let r = a .room .now in
-    let e1 : c .before .before .before .before .before .before .before .before .before .before .before .before .before .before .put-head .last .0 ≡ over r 0 (headOctets (a .m)) = c .before .before .before .before .before .before .before .before .before .before .before .before .before .before .put-head .ensures in
-    let e2 : c .before .before .before .before .before .before .before .before .before .before .put-first .last .0 ≡ over (c .before .before .before .before .before .before .before .before .before .before .before .before .before .before .put-head .last .0) (0 + 8) (firstOctets (a .m)) = c .before .before .before .before .before .before .before .before .before .before .put-first .ensures in
-    let e3 : c .before .before .before .before .before .before .put-next .last .0 ≡ over (c .before .before .before .before .before .before .before .before .before .before .put-first .last .0) (0 + 16) (nextOctets (a .m)) = c .before .before .before .before .before .before .put-next .ensures in
-    let e4 : c .before .before .put-parts .last .0 ≡ over (c .before .before .before .before .before .before .put-next .last .0) (0 + 28) (partOctets (a .m)) = c .before .before .put-parts .ensures in
-    run r (c .before .before .before .before .before .before .put-next .last .0) (c .before .before .put-parts .last .0) 0 28 ((((headOctets (a .m))) ++ (firstOctets (a .m))) ++ (nextOctets (a .m))) (partOctets (a .m)) zero-le refl (run r (c .before .before .before .before .before .before .before .before .before .before .put-first .last .0) (c .before .before .before .before .before .before .put-next .last .0) 0 16 (((headOctets (a .m))) ++ (firstOctets (a .m))) (nextOctets (a .m)) zero-le refl (run r (c .before .before .before .before .before .before .before .before .before .before .before .before .before .before .put-head .last .0) (c .before .before .before .before .before .before .before .before .before .before .put-first .last .0) 0 8 ((headOctets (a .m))) (firstOctets (a .m)) zero-le refl (e1) e2) e3) e4
+    let one = c .before .before .before .before .before .before .before .before .before .before .before .before .before .before .put-head in
+    let two = c .before .before .before .before .before .before .before .before .before .before .put-first in
+    let three = c .before .before .before .before .before .before .put-next in
+    let four = c .before .before .put-parts in
+    let e1 : one .last .0 ≡ over r 0 (headOctets (a .m)) =
+    one .ensures in
+    let e2 : two .last .0 ≡ over (one .last .0) (0 + 8) (firstOctets (a .m)) =
+    two .ensures in
+    let e3 : three .last .0 ≡ over (two .last .0) (0 + 16) (nextOctets (a .m)) =
+    three .ensures in
+    let e4 : four .last .0 ≡ over (three .last .0) (0 + 28) (partOctets (a .m)) =
+    four .ensures in
+    run r _ _ 0 28 _ _ zero-le refl (run r _ _ 0 16 _ _ zero-le refl (run r _ _ 0 8 _ _ zero-le refl e1 e2) e3) e4
 
 pub put-held-spec : {M : Type 1} → statement M
 put-held-spec =

@@ -1,6 +1,5 @@
-use Prim.Native.Nat.{ℕ, _+_, _%_, _≤_, _<_, zero-le}
-use mathlib.Core.List.{List, [], _∷_, _++_}
-use mathlib.Core.Path.{_≡_, refl, sym, ap, _∙_}
+use Prim.Native.Nat.{_+_, _≤_}
+use mathlib.Core.Path.{_≡_, refl}
 use lib.ListN.{length}
 use Rattle.octets.specs.Octets.{over, octets16, octets32}
 use Rattle.held.proofs.Runs.{run}
@@ -9,12 +8,6 @@ use native.Mathlib.Omega.{arith}
 use borrow.Author.Needs.{needs}
 use Rattle.held.proofs.put_next.Statement.{statement}
 use Rattle.held.proofs.put_next.Tie as tie
-use Rattle.held.proofs.put_next.Reads as reads
-use Rattle.held.proofs.put_next.Lts as lts
-use Rattle.held.proofs.number_of.Reads as number-of-reads
-use Rattle.held.proofs.word_of.Reads as word-of-reads
-use Rattle.octets.proofs.put16.Reads as put16-reads
-use Rattle.octets.proofs.put32.Reads as put32-reads
 
 word-of-requires : tie.Need-word-of-requires
 word-of-requires c κs = search needs
@@ -55,12 +48,22 @@ returns c =
     let a = c .before .before .before .before .before .before .before .before .before .before .before .before .before .before .before .before .before .before .before .before .before .before .before .before .before .before .args in
     let r = a .room .now in
     let h : 16 ≤ length r = omega (arith, c .before .before .before .before .before .before .before .before .before .before .before .before .before .before .before .before .before .before .before .before .before .before .before .before .before .before .pre) in
-    let e1 : c .before .before .before .before .before .before .before .before .before .before .before .before .before .before .before .before .before .before .before .before .before .before .put16 .last .0 ≡ over r 16 (octets16 (wordIn (a .m .permission))) = rw (← (c .before .before .before .before .before .before .before .before .before .before .before .before .before .before .before .before .before .before .before .before .before .before .before .word-of .ensures)) (c .before .before .before .before .before .before .before .before .before .before .before .before .before .before .before .before .before .before .before .before .before .before .put16 .ensures) in
-    let e2 : c .before .before .before .before .before .before .before .before .before .before .before .before .before .before .before .before .before .put162 .last .0 ≡ over (c .before .before .before .before .before .before .before .before .before .before .before .before .before .before .before .before .before .before .before .before .before .before .put16 .last .0) (16 + 2) (octets16 (wordIn (a .m .sequence))) = rw (← (c .before .before .before .before .before .before .before .before .before .before .before .before .before .before .before .before .before .before .word-of2 .ensures)) (c .before .before .before .before .before .before .before .before .before .before .before .before .before .before .before .before .before .put162 .ensures) in
-    let e3 : c .before .before .before .before .before .before .before .before .before .before .before .before .put163 .last .0 ≡ over (c .before .before .before .before .before .before .before .before .before .before .before .before .before .before .before .before .before .put162 .last .0) (16 + 4) (octets16 (wordIn (a .m .source))) = rw (← (c .before .before .before .before .before .before .before .before .before .before .before .before .before .word-of3 .ensures)) (c .before .before .before .before .before .before .before .before .before .before .before .before .put163 .ensures) in
-    let e4 : c .before .before .before .before .before .before .before .put164 .last .0 ≡ over (c .before .before .before .before .before .before .before .before .before .before .before .before .put163 .last .0) (16 + 6) (octets16 (wordIn (a .m .indicator))) = rw (← (c .before .before .before .before .before .before .before .before .word-of4 .ensures)) (c .before .before .before .before .before .before .before .put164 .ensures) in
-    let e5 : c .before .before .put32 .last .0 ≡ over (c .before .before .before .before .before .before .before .put164 .last .0) (16 + 8) (octets32 (numberIn (a .m .party))) = rw (← (c .before .before .before .number-of .ensures)) (c .before .before .put32 .ensures) in
-    run r (c .before .before .before .before .before .before .before .put164 .last .0) (c .before .before .put32 .last .0) 16 8 (((((octets16 (wordIn (a .m .permission)))) ++ (octets16 (wordIn (a .m .sequence)))) ++ (octets16 (wordIn (a .m .source)))) ++ (octets16 (wordIn (a .m .indicator)))) (octets32 (numberIn (a .m .party))) h refl (run r (c .before .before .before .before .before .before .before .before .before .before .before .before .put163 .last .0) (c .before .before .before .before .before .before .before .put164 .last .0) 16 6 ((((octets16 (wordIn (a .m .permission)))) ++ (octets16 (wordIn (a .m .sequence)))) ++ (octets16 (wordIn (a .m .source)))) (octets16 (wordIn (a .m .indicator))) h refl (run r (c .before .before .before .before .before .before .before .before .before .before .before .before .before .before .before .before .before .put162 .last .0) (c .before .before .before .before .before .before .before .before .before .before .before .before .put163 .last .0) 16 4 (((octets16 (wordIn (a .m .permission)))) ++ (octets16 (wordIn (a .m .sequence)))) (octets16 (wordIn (a .m .source))) h refl (run r (c .before .before .before .before .before .before .before .before .before .before .before .before .before .before .before .before .before .before .before .before .before .before .put16 .last .0) (c .before .before .before .before .before .before .before .before .before .before .before .before .before .before .before .before .before .put162 .last .0) 16 2 ((octets16 (wordIn (a .m .permission)))) (octets16 (wordIn (a .m .sequence))) h refl (e1) e2) e3) e4) e5
+    let one = c .before .before .before .before .before .before .before .before .before .before .before .before .before .before .before .before .before .before .before .before .before .before .put16 in
+    let two = c .before .before .before .before .before .before .before .before .before .before .before .before .before .before .before .before .before .put162 in
+    let three = c .before .before .before .before .before .before .before .before .before .before .before .before .put163 in
+    let four = c .before .before .before .before .before .before .before .put164 in
+    let five = c .before .before .put32 in
+    let e1 : one .last .0 ≡ over r 16 (octets16 (wordIn (a .m .permission))) =
+    rw (← (c .before .before .before .before .before .before .before .before .before .before .before .before .before .before .before .before .before .before .before .before .before .before .before .word-of .ensures)) (one .ensures) in
+    let e2 : two .last .0 ≡ over (one .last .0) (16 + 2) (octets16 (wordIn (a .m .sequence))) =
+    rw (← (c .before .before .before .before .before .before .before .before .before .before .before .before .before .before .before .before .before .before .word-of2 .ensures)) (two .ensures) in
+    let e3 : three .last .0 ≡ over (two .last .0) (16 + 4) (octets16 (wordIn (a .m .source))) =
+    rw (← (c .before .before .before .before .before .before .before .before .before .before .before .before .before .word-of3 .ensures)) (three .ensures) in
+    let e4 : four .last .0 ≡ over (three .last .0) (16 + 6) (octets16 (wordIn (a .m .indicator))) =
+    rw (← (c .before .before .before .before .before .before .before .before .word-of4 .ensures)) (four .ensures) in
+    let e5 : five .last .0 ≡ over (four .last .0) (16 + 8) (octets32 (numberIn (a .m .party))) =
+    rw (← (c .before .before .before .number-of .ensures)) (five .ensures) in
+    run r _ _ 16 8 _ _ h refl (run r _ _ 16 6 _ _ h refl (run r _ _ 16 4 _ _ h refl (run r _ _ 16 2 _ _ h refl e1 e2) e3) e4) e5
 
 pub put-next-spec : {M : Type 1} → statement M
 put-next-spec =

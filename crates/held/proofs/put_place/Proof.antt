@@ -1,19 +1,13 @@
-use Prim.Native.Nat.{ℕ, _+_, _%_, _≤_, _<_, zero-le}
-use mathlib.Core.List.{List, [], _∷_, _++_}
-use mathlib.Core.Path.{_≡_, refl, sym, ap, _∙_}
+use Prim.Native.Nat.{_+_, _%_, _≤_}
+use mathlib.Core.Path.{_≡_, refl}
 use lib.ListN.{length}
-use Rattle.octets.specs.Octets.{over, octets16, octets32}
+use Rattle.octets.specs.Octets.{over, octets16}
 use Rattle.held.proofs.Runs.{run}
 use Rattle.held.specs.Held.{startIn, countIn, placeOctets}
 use native.Mathlib.Omega.{arith}
 use borrow.Author.Needs.{needs}
 use Rattle.held.proofs.put_place.Statement.{statement}
 use Rattle.held.proofs.put_place.Tie as tie
-use Rattle.held.proofs.put_place.Reads as reads
-use Rattle.held.proofs.put_place.Lts as lts
-use Rattle.held.proofs.count_of.Reads as count-of-reads
-use Rattle.held.proofs.start_of.Reads as start-of-reads
-use Rattle.octets.proofs.put16.Reads as put16-reads
 
 start-of-requires : tie.Need-start-of-requires
 start-of-requires c κs = search needs
@@ -45,9 +39,13 @@ returns c =
     let a = c .before .before .before .before .before .before .before .before .before .before .before .args in
     let r = a .room .now in
     let h : (a .at) ≤ length r = omega (arith, c .before .before .before .before .before .before .before .before .before .before .before .pre) in
-    let e1 : c .before .before .before .before .before .before .put16 .last .0 ≡ over r (a .at) (octets16 (startIn (a .p) % 65536)) = rw (← (c .before .before .before .before .before .before .before .before .before .start-of .ensures)) (c .before .before .before .before .before .before .put16 .ensures) in
-    let e2 : c .before .before .put162 .last .0 ≡ over (c .before .before .before .before .before .before .put16 .last .0) ((a .at) + 2) (octets16 (countIn (a .p) % 65536)) = rw (← (c .before .before .before .before .before .before .before .before .count-of .ensures)) (c .before .before .put162 .ensures) in
-    run r (c .before .before .before .before .before .before .put16 .last .0) (c .before .before .put162 .last .0) (a .at) 2 ((octets16 (startIn (a .p) % 65536))) (octets16 (countIn (a .p) % 65536)) h refl (e1) e2
+    let one = c .before .before .before .before .before .before .put16 in
+    let two = c .before .before .put162 in
+    let e1 : one .last .0 ≡ over r (a .at) (octets16 (startIn (a .p) % 65536)) =
+    rw (← (c .before .before .before .before .before .before .before .before .before .start-of .ensures)) (one .ensures) in
+    let e2 : two .last .0 ≡ over (one .last .0) ((a .at) + 2) (octets16 (countIn (a .p) % 65536)) =
+    rw (← (c .before .before .before .before .before .before .before .before .count-of .ensures)) (two .ensures) in
+    run r _ _ (a .at) 2 _ _ h refl e1 e2
 
 pub put-place-spec : {M : Type 1} → statement M
 put-place-spec =

@@ -1,15 +1,9 @@
-use mathlib.Core.Path.{_≡_, refl, sym, ap, _∙_}
+use mathlib.Core.Path.{sym, ap, _∙_}
 use Rattle.reading.specs.Reading.{told}
 use Rattle.held.proofs.Answers.{refused-is, short-is, kept-is}
-use native.Mathlib.Omega.{arith}
 use borrow.Author.Needs.{needs}
 use Rattle.held.proofs.read_held.Statement.{statement}
 use Rattle.held.proofs.read_held.Tie as tie
-use Rattle.held.proofs.read_held.Reads as reads
-use Rattle.held.proofs.read_held.Lts as lts
-use Rattle.held.proofs.put_held.Reads as put-held-reads
-use Rattle.message.proofs.refusal_number.Reads as refusal-number-reads
-use Rattle.reading.proofs.read.Reads as read-reads
 
 read-requires : tie.Need-read-requires
 read-requires c κs = search needs

@@ -1,16 +1,7 @@
 use Rattle.held.proofs.Bits.{which-is}
-use native.Mathlib.Omega.{arith}
 use borrow.Author.Needs.{needs}
 use Rattle.held.proofs.which_of.Statement.{statement}
 use Rattle.held.proofs.which_of.Tie as tie
-use Rattle.held.proofs.which_of.Reads as reads
-use Rattle.held.proofs.which_of.Lts as lts
-use Rattle.held.proofs.cause_bit.Reads as cause-bit-reads
-use Rattle.held.proofs.number_bit.Reads as number-bit-reads
-use Rattle.held.proofs.octet_bit.Reads as octet-bit-reads
-use Rattle.held.proofs.part_bit.Reads as part-bit-reads
-use Rattle.held.proofs.queue_bit.Reads as queue-bit-reads
-use Rattle.held.proofs.word_bit.Reads as word-bit-reads
 
 octet-bit-requires : tie.Need-octet-bit-requires
 octet-bit-requires c κs = search needs

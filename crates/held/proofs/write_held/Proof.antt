@@ -1,12 +1,7 @@
-use mathlib.Core.Path.{_≡_, refl, sym, ap, _∙_}
-use native.Mathlib.Omega.{arith}
+use mathlib.Core.Path.{refl, sym, _∙_}
 use borrow.Author.Needs.{needs}
 use Rattle.held.proofs.write_held.Statement.{statement}
 use Rattle.held.proofs.write_held.Tie as tie
-use Rattle.held.proofs.write_held.Reads as reads
-use Rattle.held.proofs.write_held.Lts as lts
-use Rattle.held.proofs.held_at.Reads as held-at-reads
-use Rattle.writing.proofs.write.Reads as write-reads
 
 held-at-requires : tie.Need-held-at-requires
 held-at-requires c κs = search needs
