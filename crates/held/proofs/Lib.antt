@@ -5,3 +5,4 @@ pub mod Answers
 pub mod Back
 pub mod Again
 pub mod Done
+pub mod Worked
