@@ -1,0 +1,100 @@
+-- 0 is answered only where a packet was read and the room has 40 octets: no refusal has that number. And no promise leaves a choice
+-- (document 01, "How strictly it is stated"): what the writer's answer is told as fixes it; the other promises name the result itself.
+--     read-if-0 : (packet : List ℕ) (room : ℕ) → readHeld packet room ≡ 0 → WasRead packet room
+--     writers-coincide : (held src : List ℕ) (room : ℕ) (r r′ : Writing) → told r ≡ writingOf (heldAt held) src room
+--         → told r′ ≡ writingOf (heldAt held) src room → r ≡ r′
+-- Assumes nothing.
+use Prim.Native.Nat.{ℕ, zero, suc, _≤_}
+use native.Mathlib.Omega.{arith}
+use mathlib.Core.Bool.{Bool, true, false}
+use mathlib.Core.List.{List}
+use mathlib.Core.Path.{_≡_, refl, sym, _∙_}
+use lib.Dec.{ltb}
+use lib.ListN.{length}
+use borrow.Author.Tests.{ltb-false}
+use Rattle.words.specs.Choice.{if_then_else_, by-test, if-yes}
+use Rattle.message.specs.Answers.{Answer, refused, result}
+use Rattle.message.specs.Types.{typed}
+use Rattle.message.specs.Message.{said, complete}
+use Rattle.message.specs.declared.Kind.{Kind}
+use Rattle.message.specs.declared.Typed.{Typed}
+use Rattle.message.specs.declared.Typed.the-variants.{Listed, Unlisted}
+use Rattle.message.specs.declared.Message.{Message}
+use Rattle.reading.specs.declared.Found.{Found}
+use Rattle.reading.specs.declared.Step.{Step}
+use Rattle.reading.specs.declared.Step.the-variants.{Field, End, PastTheEnd, AgainstTheTable}
+use Rattle.reading.specs.Fields.{Fields, whole, fault, infront, stepAt, stepThen, fieldsFrom, fieldsIn, startOf}
+use Rattle.reading.specs.Reading.{messageAt, judged, ofType, reading, typeBits}
+use Rattle.writing.specs.declared.Writing.{Writing}
+use Rattle.writing.specs.Writing.{told}
+use Rattle.again.proofs.Coincide.{written-told}
+use Rattle.held.specs.Held.{heldAt, answered, readHeld, writingOf}
+
+pub record WasRead (packet : List ℕ) (room : ℕ) : Type 0 where
+  pub message : Message
+  pub read : reading packet ≡ result message
+  pub long : 40 ≤ room
+
+-- an answer that is no refusal, or one with a number
+abbrev Numbered : Answer Message → Type 0
+Numbered (refused n) = 1 ≤ n
+Numbered (result m) = Unit {0}
+
+-- a walk ends with a number that is not 0
+abbrev Ended : Fields → Type 0
+Ended (whole fs) = Unit {0}
+Ended (fault n) = 1 ≤ n
+
+front-ended : (f : Found) (fs : Fields) → Ended fs → Ended (infront f fs)
+front-ended f (whole fs) e = tt
+front-ended f (fault n) e = e
+
+step-ended : (t : Step) (rest : ℕ → Fields) → ((p : ℕ) → Ended (rest p)) → Ended (stepThen t rest)
+step-ended End rest e = tt
+step-ended PastTheEnd rest e = omega arith
+step-ended AgainstTheTable rest e = omega arith
+step-ended (Field f) rest e = front-ended f (rest (f .next)) (e (f .next))
+
+ended : (steps : ℕ) (s : List ℕ) (at : ℕ) → Ended (fieldsFrom steps s at)
+unfolding fieldsFrom
+ended zero s at = tt
+ended (suc steps) s at = step-ended (stepAt s at) (λ next. fieldsFrom steps s next) (λ p. ended steps s p)
+
+choice : (t : Bool) (a b : Answer Message) → Numbered a → Numbered b → Numbered (if t then a else b)
+unfolding if_then_else_
+choice true a b p q = p
+choice false a b p q = q
+
+judged-numbered : (k : Kind) (s : List ℕ) (fs : Fields) → Ended fs → Numbered (judged k s fs)
+judged-numbered k s (fault n) e = e
+judged-numbered k s (whole fs) e =
+    choice (complete (said (messageAt k s (startOf fs)) s)) (result (messageAt k s (startOf fs))) (refused 11) tt (omega arith)
+
+type-numbered : (t : Typed) (s : List ℕ) → Numbered (ofType t s)
+unfolding fieldsIn
+type-numbered Unlisted s = omega arith
+type-numbered (Listed k) s = judged-numbered k s (fieldsIn s) (ended (length s) s 12)
+
+some : (n : ℕ) → 1 ≤ suc n
+some n = omega arith
+
+numbered : (s : List ℕ) → Numbered (reading s)
+unfolding reading
+numbered s =
+    choice _ (refused 1) _ (some 0) (choice _ (refused 2) _ (some 1) (choice _ (refused 3) _ (some 2) (choice _ (refused 4) _ (some 3)
+    (choice _ (refused 5) _ (some 4) (choice _ (refused 6) _ (some 5) (choice _ (refused 7) _ (some 6) (type-numbered (typed (typeBits s)) s)))))))
+
+done : (a : Answer Message) (packet : List ℕ) (room : ℕ) → reading packet ≡ a → Numbered a → answered a room ≡ 0 → WasRead packet room
+done (refused n) packet room e p z = absurd (omega arith)
+done (result m) packet room e p z =
+    by-test (ltb room 40)
+    (λ t. let z′ : _≡_ {A = ℕ} 13 0 = sym (if-yes (ltb room 40) 13 0 t) ∙ z in absurd (omega arith))
+    (λ t. record { message = m; read = e; long = ltb-false room 40 t })
+
+pub read-if-0 : (packet : List ℕ) (room : ℕ) → readHeld packet room ≡ 0 → WasRead packet room
+unfolding readHeld
+read-if-0 packet room z = done (reading packet) packet room refl (numbered packet) z
+
+pub writers-coincide : (held src : List ℕ) (room : ℕ) (r r′ : Writing) → told r ≡ writingOf (heldAt held) src room
+    → told r′ ≡ writingOf (heldAt held) src room → r ≡ r′
+writers-coincide held src room r r′ p q = written-told r r′ (p ∙ sym q)
