@@ -6,7 +6,7 @@ use line::Line;
 ghost use mathlib.Core.Path.{_≡_};
 ghost use lib.ListN.{length};
 ghost use Rattle.line.specs.Line.{waiting};
-ghost use Rattle.screen.specs.Screen.{shownIn, answered, left};
+ghost use Rattle.screen.specs.Screen.{shownIn, answered, left, listing};
 
 // The answer of a list: how many wait, all of whom are in the room; or refusal 13.
 pub enum Shown {
@@ -45,4 +45,16 @@ pub fn fill(line: Line, room: &mut [Entry]) -> Shown
         i = i + 1;
     }
     answer(line, room.len())
+}
+
+// The list for a caller with no room of its own: all who wait, and empty entries behind them.
+pub fn listed(line: Line) -> [Entry; 15]
+    ensures { λ r. ⌜ r ≡ listing (waiting line) ⌝ }
+{
+    let mut room = [Entry {
+        seat: 0,
+        priority: 0,
+    }; 15];
+    fill(line, &mut room);
+    room
 }
