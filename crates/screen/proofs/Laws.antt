@@ -10,12 +10,13 @@ use lib.ListN.{length, take, drop, getD, set, replicate, length-take, length-dro
 use lib.Seq.{take-suc, take-all, drop-cons, set-at, getD-append-add}
 use borrow.Author.Tests.{le-leb, lt-leb, leb-true, leb-false, ltb-true, ltb-false}
 use Rattle.words.specs.Choice.{if_then_else_, by-test, if-yes, if-no}
+use Rattle.message.specs.Answers.{Answer, refused, result}
 use Rattle.line.specs.declared.Entry.{Entry}
 use Rattle.line.specs.declared.Line.{Line}
 use Rattle.line.specs.Line.{waiting, empty}
 use Rattle.screen.specs.declared.Shown.{Shown}
 use Rattle.screen.specs.declared.Shown.the-variants.{All, NoRoom}
-use Rattle.screen.specs.Screen.{shownIn, answered, over, left, listing}
+use Rattle.screen.specs.Screen.{shownIn, answered, told, over, left, listing}
 
 -- the first i entries of the line over the room's
 abbrev pub upTo : List Entry → List Entry → ℕ → List Entry
@@ -40,13 +41,20 @@ pub shown-none : (es : List Entry) (places : ℕ) → places < length es → sho
 unfolding shownIn if_then_else_
 shown-none es places h = rw (lt-leb (length es) places h)
 
-pub answered-all : (es : List Entry) (places : ℕ) → length es ≤ places → answered es places ≡ All (length es)
+pub answered-all : (es : List Entry) (places : ℕ) → length es ≤ places → answered es places ≡ result (length es)
 unfolding answered if_then_else_
 answered-all es places h = rw (le-leb (length es) places h)
 
-pub answered-none : (es : List Entry) (places : ℕ) → places < length es → answered es places ≡ NoRoom
+pub answered-none : (es : List Entry) (places : ℕ) → places < length es → answered es places ≡ refused 13
 unfolding answered if_then_else_
 answered-none es places h = rw (lt-leb (length es) places h)
+
+-- the answer in the paper's numbers determines the answer, so any two answers that a promise here allows coincide
+pub told-one : (a b : Shown) → told a ≡ told b → a ≡ b
+told-one (All m) (All n) e = ap All cc
+told-one (All m) NoRoom e = cc
+told-one NoRoom (All n) e = cc
+told-one NoRoom NoRoom e = refl
 
 pub shown-in-line : (es : List Entry) (places : ℕ) → shownIn es places ≤ length es
 shown-in-line es places =

@@ -15,13 +15,13 @@ use Rattle.screen.specs.declared.Shown.the-variants.{All, NoRoom}
 unfoldable pub shownIn : List Entry → ℕ → ℕ
 shownIn es places = if leb (length es) places then length es else 0
 
-unfoldable pub answered : List Entry → ℕ → Shown
-answered es places = if leb (length es) places then All (length es) else NoRoom
-
--- the answer in the paper's numbers
+-- the answer in the paper's numbers, and which it is
 abbrev pub told : Shown → Answer ℕ
 told (All n) = result n
 told NoRoom = refused 13
+
+unfoldable pub answered : List Entry → ℕ → Answer ℕ
+answered es places = if leb (length es) places then result (length es) else refused 13
 
 -- these entries over a room's first ones
 abbrev pub over : List Entry → List Entry → List Entry

@@ -2,7 +2,7 @@
 use mathlib.Core.Path.{_≡_, sym, ap, subst, _∙_}
 use Prim.Native.Nat.{ℕ, _≤_, _<_}
 use borrow.Author.Needs.{needs}
-use Rattle.screen.specs.declared.Shown.the-variants.{All}
+use Rattle.message.specs.Answers.{result}
 use Rattle.screen.proofs.Laws.{answered-all, answered-none}
 use Rattle.screen.proofs.answer.Statement.{statement}
 use Rattle.screen.proofs.answer.Tie as tie
@@ -13,7 +13,7 @@ count-requires c κs = search needs
 returns : tie.Need-returns
 returns c =
     let e = c .before .count .ensures .0 in
-    ap All e ∙ sym (answered-all _ _ (subst (λ (n : ℕ). n ≤ c .before .before .args .places) e (c .if1 .taken)))
+    ap result e ∙ sym (answered-all _ _ (subst (λ (n : ℕ). n ≤ c .before .before .args .places) e (c .if1 .taken)))
 
 returns-2 : tie.Need-returns-2
 returns-2 c =

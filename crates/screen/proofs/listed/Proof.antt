@@ -56,7 +56,7 @@ use Rattle.line.proofs.Entry as E
 use Rattle.line.proofs.Entry.Laws as E′
 use Rattle.line.proofs.Line as L
 use Rattle.line.proofs.Line.Laws as L′
-use Rattle.screen.specs.Screen.{answered, left, listing}
+use Rattle.screen.specs.Screen.{answered, told, left, listing}
 use Rattle.screen.specs.declared.Shown.{Shown}
 use Rattle.screen.proofs.Laws.{listed-all}
 use Rattle.screen.proofs.Shown as S
@@ -189,8 +189,8 @@ module _ {M : Type 1} (𝓤 : URA M) (H : Heap 𝓤) (A : Atoms 𝓤) (W : Given
         calls-at ! fm (Fill 𝓤 H A at-mem run) known (to-fill l₂ ν δ) (and-then ! (load ! (from ! (stop !)) (look ! 11 refl)) (and-then ! (load ! (from ! (stop !)) (look ! 2 refl)) (no-more !))) (λ u.
         use1 W (later (some (λ (a : Shown). ((‵ (flft (ν ∷ []) fullShare) ⊛ ‵ ftrue) ⊛ ‵ (S.the-row .own a (u ∷ []))) ⊛ raw (ensured 𝓤 H A fill.ended (fill.clauses 𝓤 H A at-mem run) (ν ∷ [], tt) (line, (x l₂ δ, tt)) tt a)))) (id⊢ 𝓤 _) $ await ! tt $ pick ! (λ a.
         -- what `fill` promises, at some last list
-        split ! $ move ! (1 ∷ []) $ use1 W (some (λ (zs : Unit {0} × (List Entry × Unit {0})). ‵ (lasts fill.ended (ν ∷ [], tt) (line, (x l₂ δ, tt)) zs) ⊛ raw (fact 𝓤 ((a ≡ answered es 15) × (zs .1 .0 ≡ left es ys))))) (id⊢ 𝓤 _) $ pick ! (λ zs.
-        split ! $ move ! (1 ∷ []) $ heard ! ((a ≡ answered es 15) × (zs .1 .0 ≡ left es ys)) (λ e. fsplit ! $ drop ! $ fsplit ! $ fsplit ! $ move ! (1 ∷ []) $ feqL ! (λ _.
+        split ! $ move ! (1 ∷ []) $ use1 W (some (λ (zs : Unit {0} × (List Entry × Unit {0})). ‵ (lasts fill.ended (ν ∷ [], tt) (line, (x l₂ δ, tt)) zs) ⊛ raw (fact 𝓤 ((told a ≡ answered es 15) × (zs .1 .0 ≡ left es ys))))) (id⊢ 𝓤 _) $ pick ! (λ zs.
+        split ! $ move ! (1 ∷ []) $ heard ! ((told a ≡ answered es 15) × (zs .1 .0 ≡ left es ys)) (λ e. fsplit ! $ drop ! $ fsplit ! $ fsplit ! $ move ! (1 ∷ []) $ feqL ! (λ _.
         -- [the last list; true; the token, with the answer; the lender's part; the seven locals]
         move ! (2 ∷ []) $ split ! $ move ! (1 ∷ []) $ peeks ! S.the-row (Is S.the-row) (shows 𝓤 H A S.the-row) a (u ∷ []) (λ fine.
         land ! (from ! (stop !)) (init ! 9 refl (enum.lawful S.the-type S′.the-laws 𝓤 H A W tt .typed a _ fine .0)) $ drop ! $
