@@ -1,16 +1,15 @@
 -- The room while the line is written to it, entry by entry, and what it holds in the end. Assumes nothing.
-use Prim.Native.Nat.{ℕ, zero, suc, _+_, _-_, _≤_, _<_, min}
+use Prim.Native.Nat.{ℕ, zero, suc, _+_, _-_, _≤_, _<_}
 use native.Mathlib.Numerals.{add-one}
 use native.Mathlib.Omega.{arith}
-use mathlib.Core.Bool.{true, false}
 use mathlib.Core.List.{List, [], _∷_, _++_, append-assoc}
 use mathlib.Core.Path.{_≡_, refl, sym, ap, subst, _∙_}
 use lib.Dec.{ltb, leb}
-use lib.ListN.{length, take, drop, getD, set, replicate, length-take, length-drop, length-append, drop-of-length-le, List·getD-append, List·getD-eq-default}
+use lib.ListN.{length, take, drop, getD, set, replicate, length-take, length-drop, length-append, List·getD-append, List·getD-eq-default}
 use lib.Seq.{take-suc, take-all, drop-cons, set-at, getD-append-add}
 use borrow.Author.Tests.{le-leb, lt-leb, leb-true, leb-false, ltb-true, ltb-false}
 use Rattle.words.specs.Choice.{if_then_else_, by-test, if-yes, if-no}
-use Rattle.message.specs.Answers.{Answer, refused, result}
+use Rattle.message.specs.Answers.{refused, result}
 use Rattle.line.specs.declared.Entry.{Entry}
 use Rattle.line.specs.declared.Line.{Line}
 use Rattle.line.specs.Line.{waiting, empty}
