@@ -1,20 +1,21 @@
 -- The room while the line is written to it, entry by entry, and what it holds in the end. Assumes nothing.
-use Prim.Native.Nat.{ℕ, zero, suc, _+_, _-_, _≤_, _<_, min}
+use Prim.Native.Nat.{ℕ, zero, suc, _+_, _-_, _≤_, _<_}
 use native.Mathlib.Numerals.{add-one}
 use native.Mathlib.Omega.{arith}
-use mathlib.Core.Bool.{true, false}
 use mathlib.Core.List.{List, [], _∷_, _++_, append-assoc}
-use mathlib.Core.Path.{_≡_, refl, sym, ap, _∙_}
-use lib.Dec.{leb}
-use lib.ListN.{length, take, drop, getD, set, length-take, length-drop, length-append, drop-of-length-le}
-use lib.Seq.{take-suc, take-all, drop-cons, set-at}
-use borrow.Author.Tests.{le-leb, lt-leb, leb-true, leb-false}
+use mathlib.Core.Path.{_≡_, refl, sym, ap, subst, _∙_}
+use lib.Dec.{ltb, leb}
+use lib.ListN.{length, take, drop, getD, set, replicate, length-take, length-drop, length-append, List·getD-append, List·getD-eq-default}
+use lib.Seq.{take-suc, take-all, drop-cons, set-at, getD-append-add}
+use borrow.Author.Tests.{le-leb, lt-leb, leb-true, leb-false, ltb-true, ltb-false}
 use Rattle.words.specs.Choice.{if_then_else_, by-test, if-yes, if-no}
+use Rattle.message.specs.Answers.{refused, result}
 use Rattle.line.specs.declared.Entry.{Entry}
-use Rattle.line.specs.Line.{empty}
+use Rattle.line.specs.declared.Line.{Line}
+use Rattle.line.specs.Line.{waiting, empty}
 use Rattle.screen.specs.declared.Shown.{Shown}
 use Rattle.screen.specs.declared.Shown.the-variants.{All, NoRoom}
-use Rattle.screen.specs.Screen.{shownIn, answered, over, left}
+use Rattle.screen.specs.Screen.{shownIn, answered, told, over, left, listing}
 
 -- the first i entries of the line over the room's
 abbrev pub upTo : List Entry → List Entry → ℕ → List Entry
@@ -39,13 +40,20 @@ pub shown-none : (es : List Entry) (places : ℕ) → places < length es → sho
 unfolding shownIn if_then_else_
 shown-none es places h = rw (lt-leb (length es) places h)
 
-pub answered-all : (es : List Entry) (places : ℕ) → length es ≤ places → answered es places ≡ All (length es)
+pub answered-all : (es : List Entry) (places : ℕ) → length es ≤ places → answered es places ≡ result (length es)
 unfolding answered if_then_else_
 answered-all es places h = rw (le-leb (length es) places h)
 
-pub answered-none : (es : List Entry) (places : ℕ) → places < length es → answered es places ≡ NoRoom
+pub answered-none : (es : List Entry) (places : ℕ) → places < length es → answered es places ≡ refused 13
 unfolding answered if_then_else_
 answered-none es places h = rw (lt-leb (length es) places h)
+
+-- the answer in the paper's numbers determines the answer, so any two answers that a promise here allows coincide
+pub told-one : (a b : Shown) → told a ≡ told b → a ≡ b
+told-one (All m) (All n) e = ap All cc
+told-one (All m) NoRoom e = cc
+told-one NoRoom (All n) e = cc
+told-one NoRoom NoRoom e = refl
 
 pub shown-in-line : (es : List Entry) (places : ℕ) → shownIn es places ≤ length es
 shown-in-line es places =
@@ -64,3 +72,28 @@ upto-left es room =
     by-test (leb (length es) (length room))
     (λ t. rw (shown-all es (length room) (leb-true (length es) (length room) t), if-yes _ _ _ t, take-all (length es) es (omega arith)))
     (λ t. rw (shown-none es (length room) (leb-false (length es) (length room) t), if-no _ _ _ t))
+
+-- Nothing is left out of the list in fifteen places: a line, whose array has fifteen entries, fits into them.
+pub waiting-fits : (l : Line) → length (l .entries) ≡ 15 → length (waiting l) ≤ 15
+unfolding waiting
+waiting-fits l e = rw (length-take (l .len) (l .entries)) (omega (arith, e))
+
+pub listed-all : (l : Line) → length (l .entries) ≡ 15 → left (waiting l) (replicate 15 empty) ≡ listing (waiting l)
+unfolding left listing
+listed-all l e = if-yes _ _ _ (le-leb (length (waiting l)) 15 (waiting-fits l e))
+
+past-empties : (n m k : ℕ) → getD (drop n (replicate m empty)) k empty ≡ empty
+past-empties zero zero k = refl
+past-empties zero (suc m) zero = refl
+past-empties zero (suc m) (suc k) = past-empties zero m k
+past-empties (suc n) zero k = refl
+past-empties (suc n) (suc m) k = past-empties n m k
+
+-- at each place of the list stands who waits there, and the empty entry past them
+pub listed-at : (es : List Entry) (i : ℕ) → getD (listing es) i empty ≡ getD es i empty
+unfolding listing
+listed-at es i =
+    by-test (ltb i (length es)) (λ t. List·getD-append es _ empty i (ltb-true i (length es) t))
+    (λ t. let h : length es ≤ i = ltb-false i (length es) t in
+    let e : i ≡ length es + (i - length es) = omega (arith, h) in
+    subst (λ (k : ℕ). getD (over es (replicate 15 empty)) k empty ≡ empty) (sym e) (getD-append-add es _ (i - length es) empty ∙ past-empties (length es) 15 (i - length es)) ∙ sym (List·getD-eq-default es empty h))

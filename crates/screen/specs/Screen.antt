@@ -3,10 +3,11 @@
 use Prim.Native.Nat.{ℕ}
 use mathlib.Core.List.{List, _++_}
 use lib.Dec.{leb}
-use lib.ListN.{length, drop}
+use lib.ListN.{length, drop, replicate}
 use Rattle.words.specs.Choice.{if_then_else_}
 use Rattle.message.specs.Answers.{Answer, refused, result}
 use Rattle.line.specs.declared.Entry.{Entry}
+use Rattle.line.specs.Line.{empty}
 use Rattle.screen.specs.declared.Shown.{Shown}
 use Rattle.screen.specs.declared.Shown.the-variants.{All, NoRoom}
 
@@ -14,13 +15,13 @@ use Rattle.screen.specs.declared.Shown.the-variants.{All, NoRoom}
 unfoldable pub shownIn : List Entry → ℕ → ℕ
 shownIn es places = if leb (length es) places then length es else 0
 
-unfoldable pub answered : List Entry → ℕ → Shown
-answered es places = if leb (length es) places then All (length es) else NoRoom
-
--- the answer in the paper's numbers
+-- the answer in the paper's numbers, and which it is
 abbrev pub told : Shown → Answer ℕ
 told (All n) = result n
 told NoRoom = refused 13
+
+unfoldable pub answered : List Entry → ℕ → Answer ℕ
+answered es places = if leb (length es) places then result (length es) else refused 13
 
 -- these entries over a room's first ones
 abbrev pub over : List Entry → List Entry → List Entry
@@ -29,3 +30,7 @@ over es room = es ++ drop (length es) room
 -- what the room holds in the end
 unfoldable pub left : List Entry → List Entry → List Entry
 left es room = if leb (length es) (length room) then over es room else room
+
+-- the list in a room of fifteen places, as many as a line has: those who wait, with empty entries behind them
+unfoldable pub listing : List Entry → List Entry
+listing es = over es (replicate 15 empty)

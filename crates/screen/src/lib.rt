@@ -6,7 +6,7 @@ use line::Line;
 ghost use mathlib.Core.Path.{_≡_};
 ghost use lib.ListN.{length};
 ghost use Rattle.line.specs.Line.{waiting};
-ghost use Rattle.screen.specs.Screen.{shownIn, answered, left};
+ghost use Rattle.screen.specs.Screen.{shownIn, answered, told, left, listing};
 
 // The answer of a list: how many wait, all of whom are in the room; or refusal 13.
 pub enum Shown {
@@ -24,7 +24,7 @@ pub fn shown_in(line: Line, places: usize) -> usize
 
 // What is answered for a room of this many places.
 pub fn answer(line: Line, places: usize) -> Shown
-    ensures { λ r. ⌜ r ≡ answered (waiting line) places ⌝ }
+    ensures { λ r. ⌜ told r ≡ answered (waiting line) places ⌝ }
 {
     let n = line::count(line);
     if n <= places {
@@ -36,7 +36,7 @@ pub fn answer(line: Line, places: usize) -> Shown
 
 // Writes the line to the room. Places past the line are untouched, and all are where the room is too short.
 pub fn fill(line: Line, room: &mut [Entry]) -> Shown
-    ensures { λ r. ⌜ (r ≡ answered (waiting line) (length (now (room .entry)))) × (now (room .exit) ≡ left (waiting line) (now (room .entry))) ⌝ }
+    ensures { λ r. ⌜ (told r ≡ answered (waiting line) (length (now (room .entry)))) × (now (room .exit) ≡ left (waiting line) (now (room .entry))) ⌝ }
 {
     let n = shown_in(line, room.len());
     let mut i = 0;
@@ -45,4 +45,16 @@ pub fn fill(line: Line, room: &mut [Entry]) -> Shown
         i = i + 1;
     }
     answer(line, room.len())
+}
+
+// The list for a caller with no room of its own: all who wait, and empty entries behind them.
+pub fn listed(line: Line) -> [Entry; 15]
+    ensures { λ r. ⌜ r ≡ listing (waiting line) ⌝ }
+{
+    let mut room = [Entry {
+        seat: 0,
+        priority: 0,
+    }; 15];
+    fill(line, &mut room);
+    room
 }

@@ -212,14 +212,16 @@ fn show_phase(p: Phase) {
     }
 }
 
+// The line, from the wall screen's list of it.
 fn show_waiting(l: Line) {
     let n = line::count(l);
+    let entries = screen::listed(l);
     if n == 0 {
         say(b" empty");
     }
     let mut i = 0;
     while i < n {
-        let e = line::entry_at(l, i);
+        let e = entries[i];
         show_holder(b" seat ", e);
         i += 1;
     }

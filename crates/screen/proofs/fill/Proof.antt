@@ -33,7 +33,7 @@ use types.Kit.{Given, Item, ‵, raw, _⊛_, ⋆, some, later, runs, anyQ, atRet
 use types.Part.{whole, sub, look-in}
 use types.Run.{look, store, store-raw, init, forget, stop, hop, fld, from, load, lit, of-opd, bin, and-then, no-more, assigns, assigns-last, first, skips, jumps, blocks, branches, land, returns, enter, alloc1, alloc0, params1, pass1, pass0, free1, free0, exec, Below, again, loops}
 use sound.WpLaws.{FmC, fmOf, WpFn-mono}
-use denote.RattleType.{RattleType, owns}
+use denote.RattleType.{owns}
 use denote.Shadow.{pureI}
 use denote.Laws.{Is, shows}
 use denote.Memory.{pointee}
@@ -49,7 +49,7 @@ use denote.Enum.Laws as enum
 use denote.Struct.Laws as struct
 use denote.Triple.Statement.{Contract, Triple}
 use denote.Triple.Call.{calls-at}
-use denote.Triple.Entry.{Args, Vals, onEntry}
+use denote.Triple.Entry.{Vals, onEntry}
 use denote.Triple.Spec.{Meets, tripleOf}
 use denote.Triple.Table.{entered, cited}
 use denote.Triple.Walked.{says, Stays, stay-none, stay-slice, walkOf, goes-none, goes-slice, Walks, ends-at, walked, walk-meets}
@@ -66,7 +66,7 @@ use Rattle.line.proofs.entry_at as entry
 use Rattle.line.proofs.entry_at.Symbol as entry-def
 use Rattle.line.proofs.entry_at.Symbol.{name as #line·entry-at}
 use Rattle.line.proofs.entry_at.Met as entry-thm
-use Rattle.screen.specs.Screen.{shownIn, answered, left}
+use Rattle.screen.specs.Screen.{shownIn, answered, told, left}
 use Rattle.screen.specs.declared.Shown.{Shown}
 use Rattle.screen.proofs.Laws.{upTo, upto-long, upto-more, upto-left, shown-in-line, shown-in-room}
 use Rattle.screen.proofs.Shown as S
@@ -199,14 +199,14 @@ module _ {M : Type 1} (𝓤 : URA M) (H : Heap 𝓤) (A : Atoms 𝓤) (W : Given
   entry-said : (i : ℕ) (e : Entry) → ent 𝓤 (ensured 𝓤 H A entry.ended (entry.clauses 𝓤 H A mem run) tt (line, (i, tt)) tt e) (fact 𝓤 (e ≡ getD es i empty))
   entry-said i e = exE 𝓤 _ (λ ws. snd∗ 𝓤 (sem 𝓤 H A (lasts entry.ended tt (line, (i, tt)) ws)) (fact 𝓤 (e ≡ getD es i empty)))
 
-  answer-said : (a : Shown) → ent 𝓤 (ensured 𝓤 H A answer.ended (answer.clauses 𝓤 H A mem run) tt (line, (places, tt)) tt a) (fact 𝓤 (a ≡ answered es places))
-  answer-said a = exE 𝓤 _ (λ ws. snd∗ 𝓤 (sem 𝓤 H A (lasts answer.ended tt (line, (places, tt)) ws)) (fact 𝓤 (a ≡ answered es places)))
+  answer-said : (a : Shown) → ent 𝓤 (ensured 𝓤 H A answer.ended (answer.clauses 𝓤 H A mem run) tt (line, (places, tt)) tt a) (fact 𝓤 (told a ≡ answered es places))
+  answer-said a = exE 𝓤 _ (λ ws. snd∗ 𝓤 (sem 𝓤 H A (lasts answer.ended tt (line, (places, tt)) ws)) (fact 𝓤 (told a ≡ answered es places)))
 
   -- the room once i entries are written
   abbrev written : ℕ → List Entry
   written i = upTo es ys i
 
-  exits : (a : Shown) (v : Val) (zs : List Entry) → length zs ≡ places → a ≡ answered es places → zs ≡ left es ys
+  exits : (a : Shown) (v : Val) (zs : List Entry) → length zs ≡ places → told a ≡ answered es places → zs ≡ left es ys
       → ent 𝓤 (⋆ 𝓤 H A (‵ (S.the-row .own a (v ∷ [])) ∷ ‵ (fobs γ (codedHoleys E.the-row .code (heres E.the-row zs))) ∷ ‵ (fbor κ (Held E.the-row (length zs) b o γ)) ∷ ‵ (flft κ q) ∷ [])) (Post v)
   exits a v zs long e holds =
       qed W (‵ (S.the-row .own a (v ∷ [])) ∷ ‵ (fobs γ (codedHoleys E.the-row .code (heres E.the-row zs))) ∷ ‵ (fbor κ (Held E.the-row (length zs) b o γ)) ∷ ‵ (flft κ q) ∷ []) ∵
@@ -288,7 +288,7 @@ module _ {M : Type 1} (𝓤 : URA M) (H : Heap 𝓤) (A : Atoms 𝓤) (W : Given
           use0 W (raw (Answer 𝓤 H A mem run .pre to-answer)) asks-answer $
           calls-at ! fm (Answer 𝓤 H A mem run) known-answer to-answer (and-then ! (load ! (from ! (stop !)) (look ! 20 refl)) (and-then ! (load ! (from ! (stop !)) (look ! 12 refl)) (no-more !))) (λ u.
           use1 W (later (some (λ (a : Shown). (‵ ftrue ⊛ ‵ (S.the-row .own a (u ∷ []))) ⊛ raw (ensured 𝓤 H A answer.ended (answer.clauses 𝓤 H A mem run) tt (line, (places, tt)) tt a)))) (id⊢ 𝓤 _) $ await ! tt $ pick ! (λ a.
-          split ! $ move ! (1 ∷ []) $ use1 W (raw (fact 𝓤 (a ≡ answered es places))) (answer-said a) $ heard ! (a ≡ answered es places) (λ is. split ! $ drop ! $
+          split ! $ move ! (1 ∷ []) $ use1 W (raw (fact 𝓤 (told a ≡ answered es places))) (answer-said a) $ heard ! (told a ≡ answered es places) (λ is. split ! $ drop ! $
           -- [the answer; obs; the borrow; the token; the ten locals]
           peeks ! S.the-row (Is S.the-row) (shows 𝓤 H A S.the-row) a (u ∷ []) (λ fine.
           land ! (from ! (stop !)) (init ! 22 refl (enum.lawful S.the-type S′.the-laws 𝓤 H A W tt .typed a _ fine .0)) $

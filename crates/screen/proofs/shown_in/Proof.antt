@@ -1,7 +1,10 @@
 -- `screen::shown_in` meets its contract: each branch's test says which case of `shownIn` holds, and `count` how many wait. Assumes nothing.
-use mathlib.Core.Path.{_≡_, sym, subst, _∙_}
-use Prim.Native.Nat.{ℕ, _≤_, _<_}
+use mathlib.Core.Path.{sym, _∙_}
+use Prim.Native.Nat.{_≤_, _<_}
+use native.Mathlib.Omega.{arith}
+use lib.ListN.{length}
 use borrow.Author.Needs.{needs}
+use Rattle.line.specs.Line.{waiting}
 use Rattle.screen.proofs.Laws.{shown-all, shown-none}
 use Rattle.screen.proofs.shown_in.Statement.{statement}
 use Rattle.screen.proofs.shown_in.Tie as tie
@@ -12,12 +15,14 @@ count-requires c κs = search needs
 returns : tie.Need-returns
 returns c =
     let e = c .before .count .ensures .0 in
-    e ∙ sym (shown-all _ _ (subst (λ (n : ℕ). n ≤ c .before .before .args .places) e (c .if1 .taken)))
+    let fits : length (waiting (c .before .before .args .line)) ≤ c .before .before .args .places = omega (arith, e, c .if1 .taken) in
+    e ∙ sym (shown-all _ _ fits)
 
 returns-2 : tie.Need-returns-2
 returns-2 c =
     let e = c .before .count .ensures .0 in
-    sym (shown-none _ _ (subst (λ (n : ℕ). c .before .before .args .places < n) e (c .if1 .left)))
+    let short : c .before .before .args .places < length (waiting (c .before .before .args .line)) = omega (arith, e, c .if1 .left) in
+    sym (shown-none _ _ short)
 
 pub shown-in-spec : {M : Type 1} → statement M
 shown-in-spec = tie.close (tie.spec count-requires returns returns-2)

@@ -1,25 +1,23 @@
-use Prim.Native.Nat.{_≤_, _-_, _+_}
+-- `thursday::show_waiting` is safe and ends: as many places of the wall screen's list are read as there are entries in line, at most fifteen.
+-- Assumes nothing.
+use Prim.Native.Nat.{_≤_, _-_}
 use mathlib.Core.Path.{_≡_}
 use lib.ListN.{length}
 use borrow.Author.Needs.{needs}
-use native.Mathlib.Omega.{arith}
 use Rattle.thursday.proofs.show_waiting.Statement.{statement}
 use Rattle.thursday.proofs.show_waiting.Tie as tie
-use Rattle.thursday.proofs.show_waiting.Reads as reads
-use Rattle.thursday.proofs.show_waiting.Lts as lts
-use Rattle.line.proofs.count.Reads as count-reads
-use Rattle.line.proofs.entry_at.Reads as entry-at-reads
-use Rattle.thursday.proofs.say.Reads as say-reads
-use Rattle.thursday.proofs.show_holder.Reads as show-holder-reads
 
 abbrev Inv-loop : tie.InvT-loop
-Inv-loop l n i₀ t6 i = (i ≤ n) × (n ≤ 15) × (length t6 ≡ 6)
+Inv-loop n entries i₀ t7 i = (i ≤ n) × (n ≤ 15) × (length entries ≡ 15) × (length t7 ≡ 6)
 
 abbrev μ-loop : tie.MeasureT-loop
-μ-loop l n i₀ t6 i = n - i
+μ-loop n entries i₀ t7 i = n - i
 
 count-requires : tie.Need-count-requires Inv-loop μ-loop
 count-requires c κs = search needs
+
+listed-requires : tie.Need-listed-requires Inv-loop μ-loop
+listed-requires c κs = search needs
 
 slice-aggregate-say : tie.Need-slice-aggregate-say Inv-loop μ-loop
 slice-aggregate-say c = search needs
@@ -30,8 +28,11 @@ say-requires c κs = search needs
 loop-holds : tie.Need-loop-holds Inv-loop μ-loop
 loop-holds c = search needs
 
-entry-at-requires : tie.Need-entry-at-requires Inv-loop μ-loop
-entry-at-requires c κs = search needs
+mul-e : tie.Need-mul-e Inv-loop μ-loop
+mul-e c = search needs
+
+array-copy-out-e : tie.Need-array-copy-out-e Inv-loop μ-loop
+array-copy-out-e c = search needs
 
 slice-aggregate-show-holder : tie.Need-slice-aggregate-show-holder Inv-loop μ-loop
 slice-aggregate-show-holder c = search needs
@@ -58,10 +59,12 @@ show-waiting-spec =
     Inv-loop
     μ-loop
     count-requires
+    listed-requires
     slice-aggregate-say
     say-requires
     loop-holds
-    entry-at-requires
+    mul-e
+    array-copy-out-e
     slice-aggregate-show-holder
     show-holder-requires
     add-i
