@@ -24,3 +24,7 @@ module _ (n : ℕ) (h : n < 2147483648) where
 
   pub minus-is : toZ w32 (ofZ w32 (toZ w32 0 -ℤ toZ w32 n)) ≡ negℤ (pos n)
   minus-is = toZ-ofZ minus-fits ∙ minus
+
+-- a signed answer that is handed on
+pub passed : {z : ℤ} → mag z < 2147483648 → toZ w32 (ofZ w32 z) ≡ z
+passed h = toZ-ofZ (record { sfits = h })

@@ -108,8 +108,11 @@ abbrev pub settings : ℕ → ℕ → ℕ → ℕ → ℕ → ℕ → Settings
 settings ssrc level limit c7 c20 duration = record { ssrc = ssrc; level = level; limit = limit; c7 = c7; c20 = c20; duration = duration }
 
 -- settings come as numbers of 32 bits: those that no octet holds are outside their range
+unfoldable pub inOctets : ℕ → ℕ → ℕ → ℕ → ℕ → Bool
+inOctets level limit c7 c20 duration = ltb level 256 && ltb limit 256 && ltb c7 256 && ltb c20 256 && ltb duration 65536
+
 unfoldable pub settable : Settings → Bool
-settable s = ltb (s .level) 256 && ltb (s .limit) 256 && ltb (s .c7) 256 && ltb (s .c20) 256 && ltb (s .duration) 65536 && inRange s
+settable s = inOctets (s .level) (s .limit) (s .c7) (s .c20) (s .duration) && inRange s
 
 abbrev pub makeOn : List ℕ → Settings → ℕ × List ℕ
 makeOn room s = if settable s then written room 0 fresh (emptyHall s) noNames else (28, room)

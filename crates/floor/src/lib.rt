@@ -28,7 +28,7 @@ ghost use Rattle.floor.specs.declared.Named.the-variants as named;
 ghost use Rattle.desk.specs.Timers.{running};
 ghost use Rattle.form.specs.Form.{kindOctet, coreAt, hallAt, namesAt, octetsOf};
 ghost use Rattle.report.specs.Report.{maskOf};
-ghost use Rattle.floor.specs.Floor.{formed, leaves, calledOn, eventOn, packetOn, timerNamed, notRunning, firedOn, leftOn, seatNumbered, leaveOn, written, settings, makeOn, loadOn, newcomer, joinOn, signed, looks, holderAnswer, bit, timerSet, seatAnswer};
+ghost use Rattle.floor.specs.Floor.{formed, leaves, calledOn, eventOn, packetOn, timerNamed, notRunning, firedOn, leftOn, seatNumbered, leaveOn, written, inOctets, settings, makeOn, loadOn, newcomer, joinOn, signed, looks, holderAnswer, bit, timerSet, seatAnswer};
 
 // A timer by its number.
 pub enum Named {
@@ -256,25 +256,41 @@ fn fresh_desk(desk: &mut [u8], settings: Settings) -> u32
     write_desk(desk, 0, core, hall, names)
 }
 
+fn in_octets(level: u32, limit: u32, c7: u32, c20: u32, duration: u32) -> bool
+    ensures { λ r. ⌜ r ≡ inOctets level limit c7 c20 duration ⌝ }
+{
+    (level < 256) & (limit < 256) & (c7 < 256) & (c20 < 256) & (duration < 65536)
+}
+
 // Makes a fresh desk.
 #[no_mangle]
-pub extern "C" fn floor_make(desk: &mut [u8], ssrc: u32, level: u32, limit: u32, c7: u32, c20: u32, duration: u32) -> u32
+pub extern "C" fn floor_make(
+    desk: &mut [u8],
+    ssrc: u32,
+    level: u32,
+    limit: u32,
+    c7: u32,
+    c20: u32,
+    duration: u32,
+) -> u32
     ensures { λ r. ⌜ (r, now (desk .exit)) ≡ makeOn (now (desk .entry)) (settings ssrc level limit c7 c20 duration) ⌝ }
 {
-    if level < 256 && limit < 256 && c7 < 256 && c20 < 256 && duration < 65536 {
-        let settings = Settings {
-            ssrc,
-            level: level as u8,
-            limit: limit as u8,
-            c7: c7 as u8,
-            c20: c20 as u8,
-            duration: duration as u16,
-        };
-        if hall::in_range(settings) {
-            return fresh_desk(desk, settings);
-        }
+    if !in_octets(level, limit, c7, c20, duration) {
+        return 28;
     }
-    28
+    let settings = Settings {
+        ssrc,
+        level: level as u8,
+        limit: limit as u8,
+        c7: c7 as u8,
+        c20: c20 as u8,
+        duration: duration as u16,
+    };
+    if hall::in_range(settings) {
+        fresh_desk(desk, settings)
+    } else {
+        28
+    }
 }
 
 // Makes a fresh desk from a sheet.
@@ -293,7 +309,14 @@ pub extern "C" fn floor_load(desk: &mut [u8], sheet: &[u8]) -> u32
 
 // Takes the lowest free seat.
 #[no_mangle]
-pub extern "C" fn floor_join(desk: &mut [u8], identity: &[u8], ssrc: u32, highest: u8, queueing: u8, receive_only: u8) -> u32
+pub extern "C" fn floor_join(
+    desk: &mut [u8],
+    identity: &[u8],
+    ssrc: u32,
+    highest: u8,
+    queueing: u8,
+    receive_only: u8,
+) -> u32
     ensures { λ r. ⌜ (r, now (desk .exit)) ≡ joinOn (now (desk .entry)) (now (identity .entry)) (newcomer ssrc highest queueing «receive_only») ⌝ }
 {
     if is_desk(desk) {
@@ -316,6 +339,8 @@ pub extern "C" fn floor_join(desk: &mut [u8], identity: &[u8], ssrc: u32, highes
     }
 }
 
+// What a function that looks something up answers: a number, or minus the number of a refusal.
+
 fn found(n: u32) -> i32
     requires { ⌜ n < 2147483648 ⌝ }
     ensures { λ r. ⌜ r ≡ pos n ⌝ }
@@ -327,4 +352,152 @@ fn refusal(n: u8) -> i32
     ensures { λ r. ⌜ r ≡ negℤ (pos n) ⌝ }
 {
     0 - (n as i32)
+}
+
+fn holder_number(phase: Phase) -> i32
+    ensures { λ r. ⌜ r ≡ signed (holderAnswer phase) ⌝ }
+{
+    match phase {
+        Phase::Stopped => refusal(22),
+        Phase::Idle(_) => refusal(22),
+        Phase::Taken(e, _) => found(256 * e.seat as u32 + e.priority as u32),
+        Phase::Revoking(e, _) => found(256 * e.seat as u32 + e.priority as u32),
+    }
+}
+
+fn bit_of(b: bool, n: u32) -> u32
+    ensures { λ r. ⌜ r ≡ bit b n ⌝ }
+    ensures { λ r. ⌜ r ≤ n ⌝ }
+{
+    if b { n } else { 0 }
+}
+
+fn timer_set(t: Running) -> u32
+    ensures { λ r. ⌜ r ≡ timerSet t ⌝ }
+    ensures { λ r. ⌜ r < 2147483648 ⌝ }
+{
+    let first = bit_of(t.t1, 2) + bit_of(t.t2, 4) + bit_of(t.t3, 8) + bit_of(t.t4, 16);
+    first + bit_of(t.t7, 128) + bit_of(t.t8, 256) + bit_of(t.t20, 1048576)
+}
+
+fn seat_number(seat: Found) -> i32
+    ensures { λ r. ⌜ r ≡ signed (seatAnswer seat) ⌝ }
+{
+    match seat {
+        Found::At(s) => found(s as u32),
+        Found::Nowhere => refusal(22),
+    }
+}
+
+#[no_mangle]
+pub extern "C" fn floor_phase(desk: &[u8]) -> i32
+    ensures { λ r. ⌜ r ≡ looks (now (desk .entry)) (result (kindOctet (coreAt (now (desk .entry)) .phase))) ⌝ }
+{
+    if is_desk(desk) {
+        let core = form::core_at(desk);
+        let phase = core.phase;
+        found(form::kind_octet(phase) as u32)
+    } else {
+        refusal(20)
+    }
+}
+
+#[no_mangle]
+pub extern "C" fn floor_holder(desk: &[u8]) -> i32
+    ensures { λ r. ⌜ r ≡ looks (now (desk .entry)) (holderAnswer (coreAt (now (desk .entry)) .phase)) ⌝ }
+{
+    if is_desk(desk) {
+        let core = form::core_at(desk);
+        let phase = core.phase;
+        holder_number(phase)
+    } else {
+        refusal(20)
+    }
+}
+
+#[no_mangle]
+pub extern "C" fn floor_running(desk: &[u8]) -> i32
+    ensures { λ r. ⌜ r ≡ looks (now (desk .entry)) (result (timerSet (running (coreAt (now (desk .entry)) .phase)))) ⌝ }
+{
+    if is_desk(desk) {
+        let core = form::core_at(desk);
+        let phase = core.phase;
+        found(timer_set(desk::running_timers(phase)))
+    } else {
+        refusal(20)
+    }
+}
+
+#[no_mangle]
+pub extern "C" fn floor_sequence(desk: &[u8]) -> i32
+    ensures { λ r. ⌜ r ≡ looks (now (desk .entry)) (result (coreAt (now (desk .entry)) .sequence)) ⌝ }
+{
+    if is_desk(desk) {
+        let core = form::core_at(desk);
+        found(core.sequence as u32)
+    } else {
+        refusal(20)
+    }
+}
+
+#[no_mangle]
+pub extern "C" fn floor_c7(desk: &[u8]) -> i32
+    ensures { λ r. ⌜ r ≡ looks (now (desk .entry)) (result (coreAt (now (desk .entry)) .c7)) ⌝ }
+{
+    if is_desk(desk) {
+        let core = form::core_at(desk);
+        found(core.c7 as u32)
+    } else {
+        refusal(20)
+    }
+}
+
+#[no_mangle]
+pub extern "C" fn floor_c20(desk: &[u8]) -> i32
+    ensures { λ r. ⌜ r ≡ looks (now (desk .entry)) (result (coreAt (now (desk .entry)) .c20)) ⌝ }
+{
+    if is_desk(desk) {
+        let core = form::core_at(desk);
+        found(core.c20 as u32)
+    } else {
+        refusal(20)
+    }
+}
+
+#[no_mangle]
+pub extern "C" fn floor_seats(desk: &[u8]) -> i32
+    ensures { λ r. ⌜ r ≡ looks (now (desk .entry)) (result (maskOf (hallAt (now (desk .entry)) .present))) ⌝ }
+{
+    if is_desk(desk) {
+        let hall = form::hall_at(desk);
+        let present = hall.present;
+        found(report::mask_of(present) as u32)
+    } else {
+        refusal(20)
+    }
+}
+
+#[no_mangle]
+pub extern "C" fn floor_seat_by_ssrc(desk: &[u8], ssrc: u32) -> i32
+    ensures { λ r. ⌜ r ≡ looks (now (desk .entry)) (seatAnswer (seatOf (hallAt (now (desk .entry))) ssrc)) ⌝ }
+{
+    if is_desk(desk) {
+        let hall = form::hall_at(desk);
+        seat_number(hall::seat_of(hall, ssrc))
+    } else {
+        refusal(20)
+    }
+}
+
+#[no_mangle]
+pub extern "C" fn floor_seat_by_identity(desk: &[u8], identity: &[u8]) -> i32
+    ensures { λ r. ⌜ r ≡ looks (now (desk .entry)) (seatAnswer (seatNamed (hallAt (now (desk .entry))) (namesAt (now (desk .entry))) (now (identity .entry)))) ⌝ }
+{
+    if is_desk(desk) {
+        let hall = form::hall_at(desk);
+        let names = form::names_at(desk);
+        seat_number(hall::seat_named(hall, names, identity))
+    } else {
+        refusal(20)
+    }
 }

@@ -323,7 +323,8 @@ fn beside_octet(beside: Beside) -> u8
     }
 }
 
-fn kind_octet(phase: Phase) -> u8
+// A phase by its number.
+pub fn kind_octet(phase: Phase) -> u8
     ensures { λ r. ⌜ r ≡ kindOctet phase ⌝ }
 {
     match phase {

@@ -16,7 +16,7 @@ use Rattle.hall.specs.Identity.{nameAt}
 use Rattle.hall.specs.Identity as identity
 use Rattle.rules.specs.declared.Core.{Core}
 use Rattle.form.specs.Columns.{column, rows, every}
-use Rattle.form.specs.Form.{flag, causeIn, phaseOctets, lineOctets, coreOctets, flagOctets, seatOctets, wordOctets, settingsOctets, hallOctets, lengthOctets, nameOctets, namesOctets, octetsOf, upTo, lettersFit, coreFits, hallFits, namesFit, canonical}
+use Rattle.form.specs.Form.{letters, flag, causeIn, phaseOctets, lineOctets, coreOctets, flagOctets, seatOctets, wordOctets, settingsOctets, hallOctets, lengthOctets, nameOctets, namesOctets, octetsOf, upTo, lettersFit, coreFits, hallFits, namesFit, canonical}
 use Rattle.form.proofs.Columns.{every-all, length-column, length-rows}
 use Rattle.form.proofs.Pieces.{length-name}
 use Rattle.forms.specs.Forms.{Shaped, Back, EveryDeskBack}
@@ -37,6 +37,9 @@ unfolding namesOctets lengthOctets
 length-names ns =
     length-append (lengthOctets ns) (rows (λ s. nameOctets (nameAt ns s)) 0 16)
     ∙ rw (length-column (λ s. length (identity.octetsOf (nameAt ns s))) 0 16, length-rows (λ s. nameOctets (nameAt ns s)) 62 0 16 (λ s. length-name (nameAt ns s)))
+
+pub length-head : (c : Core) (h : Hall) → length (letters ++ coreOctets c ++ hallOctets h) ≡ 192
+length-head c h = simp (length-append, length-core c, length-hall h)
 
 pub length-octets : (c : Core) (h : Hall) (ns : Names) → length (octetsOf c h ns) ≡ 1200
 unfolding octetsOf

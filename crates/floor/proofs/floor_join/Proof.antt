@@ -1,3 +1,6 @@
+use Rattle.floor.proofs.Desks.{has-room}
+use Rattle.words.specs.Choice.{if_then_else_, if-yes, if-no}
+use mathlib.Core.Path.{_≡_, refl, sym, _∙_, ap}
 use native.Mathlib.Omega.{arith}
 use borrow.Author.Needs.{needs}
 use Rattle.floor.proofs.floor_join.Statement.{statement}
@@ -12,49 +15,38 @@ use Rattle.form.proofs.hall_at.Reads as hall-at-reads
 use Rattle.form.proofs.names_at.Reads as names-at-reads
 use Rattle.hall.proofs.join_call.Reads as join-call-reads
 
--- src/lib.rt:299:8
 is-desk-requires : tie.Need-is-desk-requires
 is-desk-requires c κs = search needs
 
--- src/lib.rt:306:13
 core-at-requires : tie.Need-core-at-requires
-core-at-requires c κs = search needs
+core-at-requires c κs = has-room _ (sym (c .before .before .is-desk .ensures) ∙ c .before .if1 .taken)
 
--- src/lib.rt:307:13
 hall-at-requires : tie.Need-hall-at-requires
-hall-at-requires c κs = search needs
+hall-at-requires c κs = has-room _ (sym (c .before .before .before .before .is-desk .ensures) ∙ c .before .before .before .if1 .taken)
 
--- src/lib.rt:308:13
 names-at-requires : tie.Need-names-at-requires
-names-at-requires c κs = search needs
+names-at-requires c κs = has-room _ (sym (c .before .before .before .before .before .before .is-desk .ensures) ∙ c .before .before .before .before .before .if1 .taken)
 
--- src/lib.rt:309:13
 join-call-requires : tie.Need-join-call-requires
 join-call-requires c κs = search needs
 
--- src/lib.rt:313:26
 answer-number-requires : tie.Need-answer-number-requires
 answer-number-requires c κs = search needs
 
--- src/lib.rt:313:9
 write-desk-requires : tie.Need-write-desk-requires
 write-desk-requires c κs = search needs
 
--- src/lib.rt:295:1
 same-length : tie.Need-same-length
 same-length c = search needs
 
--- src/lib.rt:295:1
 returns : tie.Need-returns
-returns c = search needs
+returns c = rw (← (c .before .before .before .before .before .before .before .before .before .before .before .before .core-at .ensures), ← (c .before .before .before .before .before .before .before .before .before .before .hall-at .ensures), ← (c .before .before .before .before .before .before .before .before .names-at .ensures), ← (c .before .before .before .before .before .before .before .join-call .ensures), ← (c .before .before .before .answer-number .ensures)) (c .before .before .write-desk .ensures ∙ sym (if-yes _ _ _ (sym (c .before .before .before .before .before .before .before .before .before .before .before .before .before .before .before .is-desk .ensures) ∙ c .before .before .before .before .before .before .before .before .before .before .before .before .before .before .if1 .taken)))
 
--- src/lib.rt:295:1
 same-length-2 : tie.Need-same-length-2
 same-length-2 c = search needs
 
--- src/lib.rt:295:1
 returns-2 : tie.Need-returns-2
-returns-2 c = search needs
+returns-2 c = sym (if-no _ _ _ (sym (c .before .is-desk .ensures) ∙ c .if1 .left))
 
 pub floor-join-spec : {M : Type 1} → statement M
 floor-join-spec =

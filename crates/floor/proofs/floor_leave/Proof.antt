@@ -1,3 +1,6 @@
+use Rattle.floor.proofs.Desks.{has-room, no-desk-so}
+use Rattle.floor.specs.Floor.{leftOn}
+use mathlib.Core.Path.{_≡_, refl, sym, _∙_, ap}
 use native.Mathlib.Omega.{arith}
 use borrow.Author.Needs.{needs}
 use Rattle.floor.proofs.floor_leave.Statement.{statement}
@@ -12,53 +15,42 @@ use Rattle.form.proofs.core_at.Reads as core-at-reads
 use Rattle.form.proofs.hall_at.Reads as hall-at-reads
 use Rattle.form.proofs.names_at.Reads as names-at-reads
 
--- src/lib.rt:225:8
 is-desk-requires : tie.Need-is-desk-requires
 is-desk-requires c κs = search needs
 
--- src/lib.rt:226:13
 core-at-requires : tie.Need-core-at-requires
-core-at-requires c κs = search needs
+core-at-requires c κs = has-room _ (sym (c .before .before .is-desk .ensures) ∙ c .before .if1 .taken)
 
--- src/lib.rt:227:13
 hall-at-requires : tie.Need-hall-at-requires
-hall-at-requires c κs = search needs
+hall-at-requires c κs = has-room _ (sym (c .before .before .before .before .is-desk .ensures) ∙ c .before .before .before .if1 .taken)
 
--- src/lib.rt:228:13
 names-at-requires : tie.Need-names-at-requires
-names-at-requires c κs = search needs
+names-at-requires c κs = has-room _ (sym (c .before .before .before .before .before .before .is-desk .ensures) ∙ c .before .before .before .before .before .if1 .taken)
 
--- src/lib.rt:229:56
 seat-numbered-requires : tie.Need-seat-numbered-requires
 seat-numbered-requires c κs = search needs
 
--- src/lib.rt:229:13
 leave-call-requires : tie.Need-leave-call-requires
 leave-call-requires c κs = search needs
 
--- src/lib.rt:230:9
 settle-left-requires : tie.Need-settle-left-requires
-settle-left-requires c κs = search needs
+settle-left-requires c κs = sym (c .before .before .before .before .before .before .before .before .before .before .before .is-desk .ensures) ∙ c .before .before .before .before .before .before .before .before .before .before .if1 .taken
 
--- src/lib.rt:221:1
 same-length : tie.Need-same-length
 same-length c = search needs
 
--- src/lib.rt:221:1
 same-length-2 : tie.Need-same-length-2
 same-length-2 c = search needs
 
--- src/lib.rt:221:1
 returns : tie.Need-returns
-returns c = search needs
+returns c = rw (← (c .before .before .before .before .before .before .before .before .before .before .before .before .before .core-at .ensures), ← (c .before .before .before .before .before .before .before .before .before .before .before .hall-at .ensures), ← (c .before .before .before .before .before .before .before .before .before .names-at .ensures), ← (c .before .before .before .before .before .before .before .before .seat-numbered .ensures), ← (c .before .before .before .before .before .before .before .leave-call .ensures)) (c .before .before .before .before .settle-left .ensures)
 
--- src/lib.rt:221:1
 same-length-3 : tie.Need-same-length-3
 same-length-3 c = search needs
 
--- src/lib.rt:221:1
 returns-2 : tie.Need-returns-2
-returns-2 c = search needs
+unfolding leftOn
+returns-2 c = sym (no-desk-so _ _ _ _ _ (sym (c .before .is-desk .ensures) ∙ c .if1 .left))
 
 pub floor-leave-spec : {M : Type 1} → statement M
 floor-leave-spec =

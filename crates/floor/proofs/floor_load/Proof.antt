@@ -1,3 +1,4 @@
+use mathlib.Core.Path.{_≡_, refl, sym, _∙_, ap}
 use native.Mathlib.Omega.{arith}
 use borrow.Author.Needs.{needs}
 use Rattle.floor.proofs.floor_load.Statement.{statement}
@@ -8,25 +9,20 @@ use Rattle.floor.proofs.write_desk.Reads as write-desk-reads
 use Rattle.sheet.proofs.load.Reads as load-reads
 use Rattle.sheet.proofs.verdict_number.Reads as verdict-number-reads
 
--- src/lib.rt:285:9
 load-requires : tie.Need-load-requires
 load-requires c κs = search needs
 
--- src/lib.rt:290:9
 verdict-number-requires : tie.Need-verdict-number-requires
 verdict-number-requires c κs = search needs
 
--- src/lib.rt:291:5
 write-desk-requires : tie.Need-write-desk-requires
 write-desk-requires c κs = search needs
 
--- src/lib.rt:281:1
 same-length : tie.Need-same-length
 same-length c = search needs
 
--- src/lib.rt:281:1
 returns : tie.Need-returns
-returns c = search needs
+returns c = rw (← (c .before .before .before .before .before .before .before .before .load .ensures), ← (c .before .before .before .before .verdict-number .ensures)) (c .before .before .write-desk .ensures)
 
 pub floor-load-spec : {M : Type 1} → statement M
 floor-load-spec =

@@ -1,3 +1,9 @@
+use Rattle.report.proofs.Runs.{run}
+use Rattle.forms.proofs.Fits.{length-core, length-head}
+use Rattle.form.specs.Form.{letters, coreOctets, hallOctets, namesOctets, octetsOf}
+use Prim.Native.Nat.{zero-le}
+use mathlib.Core.List.{_++_}
+use mathlib.Core.Path.{_≡_, refl, sym, _∙_, ap}
 use native.Mathlib.Omega.{arith}
 use borrow.Author.Needs.{needs}
 use Rattle.floor.proofs.put_desk.Statement.{statement}
@@ -9,29 +15,29 @@ use Rattle.form.proofs.put_hall.Reads as put-hall-reads
 use Rattle.form.proofs.put_letters.Reads as put-letters-reads
 use Rattle.form.proofs.put_names.Reads as put-names-reads
 
--- src/lib.rt:182:5
 put-letters-requires : tie.Need-put-letters-requires
 put-letters-requires c κs = search needs
 
--- src/lib.rt:183:5
 put-core-requires : tie.Need-put-core-requires
 put-core-requires c κs = search needs
 
--- src/lib.rt:184:5
 put-hall-requires : tie.Need-put-hall-requires
 put-hall-requires c κs = search needs
 
--- src/lib.rt:185:5
 put-names-requires : tie.Need-put-names-requires
 put-names-requires c κs = search needs
 
--- src/lib.rt:178:1
 same-length : tie.Need-same-length
 same-length c = search needs
 
--- src/lib.rt:178:1
 returns : tie.Need-returns
-returns c = search needs
+unfolding octetsOf
+returns c =
+    let a = c .before .before .before .before .before .before .before .before .before .before .before .before .before .before .before .before .before .args in
+    let r = a .room .now in
+    run r _ _ 0 192 (letters ++ coreOctets (a .core) ++ hallOctets (a .hall)) (namesOctets (a .names)) zero-le (length-head (a .core) (a .hall))
+    (run r _ _ 0 48 (letters ++ coreOctets (a .core)) (hallOctets (a .hall)) zero-le (rw (length-core (a .core)))
+    (run r _ _ 0 4 letters (coreOctets (a .core)) zero-le refl (c .before .before .before .before .before .before .before .before .before .before .before .before .before .before .put-letters .ensures) (c .before .before .before .before .before .before .before .before .before .before .put-core .ensures)) (c .before .before .before .before .before .before .put-hall .ensures)) (c .before .before .put-names .ensures)
 
 pub put-desk-spec : {M : Type 1} → statement M
 put-desk-spec =

@@ -1,3 +1,7 @@
+use Rattle.floor.specs.Floor.{seatNumbered}
+use Rattle.words.specs.Choice.{if_then_else_}
+use borrow.Author.Tests.{lt-ltb, le-ltb}
+use mathlib.Core.Path.{_≡_, refl, sym, _∙_, ap}
 use native.Mathlib.Omega.{arith}
 use borrow.Author.Needs.{needs}
 use Rattle.floor.proofs.seat_numbered.Statement.{statement}
@@ -5,17 +9,16 @@ use Rattle.floor.proofs.seat_numbered.Tie as tie
 use Rattle.floor.proofs.seat_numbered.Reads as reads
 use Rattle.floor.proofs.seat_numbered.Lts as lts
 
--- src/lib.rt:217:20
 cast-result : tie.Need-cast-result
 cast-result c = search needs
 
--- src/lib.rt:214:1
 returns : tie.Need-returns
-returns c = search needs
+unfolding seatNumbered if_then_else_
+returns c = rw (lt-ltb _ _ (c .if1 .taken))
 
--- src/lib.rt:214:1
 returns-2 : tie.Need-returns-2
-returns-2 c = search needs
+unfolding seatNumbered if_then_else_
+returns-2 c = rw (le-ltb _ _ (c .if1 .left))
 
 pub seat-numbered-spec : {M : Type 1} → statement M
 seat-numbered-spec = tie.close (tie.spec cast-result returns returns-2)

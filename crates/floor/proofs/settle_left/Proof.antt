@@ -1,3 +1,7 @@
+use Rattle.floor.proofs.Desks.{fits, fits-whole, has-room, refused-so, no-room-so, done-so, over-desk}
+use Rattle.floor.specs.Floor.{leftOn}
+use borrow.Author.Tests.{ne-eqb, eq-eqb, lt-leb, le-leb}
+use mathlib.Core.Path.{_≡_, refl, sym, _∙_, ap}
 use native.Mathlib.Omega.{arith}
 use borrow.Author.Needs.{needs}
 use Rattle.floor.proofs.settle_left.Statement.{statement}
@@ -8,41 +12,38 @@ use Rattle.call.proofs.answer_number.Reads as answer-number-reads
 use Rattle.floor.proofs.put_desk.Reads as put-desk-reads
 use Rattle.report.proofs.put_report.Reads as put-report-reads
 
--- src/lib.rt:198:9
 answer-number-requires : tie.Need-answer-number-requires
 answer-number-requires c κs = search needs
 
--- src/lib.rt:200:16
 cast-result : tie.Need-cast-result
 cast-result c = search needs
 
--- src/lib.rt:200:9
 returns : tie.Need-returns
-returns c = search needs
+unfolding leftOn
+returns c = rw (← (c .before .answer-number .ensures)) (sym (refused-so _ (c .before .before .before .before .before .before .before .before .pre) _ _ _ _ (ne-eqb _ _ (c .if1 .taken))))
 
--- src/lib.rt:203:9
 returns-2 : tie.Need-returns-2
-returns-2 c = search needs
+unfolding leftOn
+returns-2 c = rw (← (c .before .before .answer-number .ensures)) (sym (no-room-so _ (c .before .before .before .before .before .before .before .before .before .pre) _ _ _ _ (eq-eqb _ _ (c .before .if1 .left)) (lt-leb _ _ (c .if2 .taken))))
 
--- src/lib.rt:208:5
 put-desk-requires : tie.Need-put-desk-requires
-put-desk-requires c κs = search needs
+put-desk-requires c κs = has-room _ (c .before .before .before .before .before .before .before .before .before .before .before .before .before .pre)
 
--- src/lib.rt:209:5
 put-report-requires : tie.Need-put-report-requires
-put-report-requires c κs = search needs
+put-report-requires c κs = c .before .before .before .before .before .before .before .before .if2 .left
 
--- src/lib.rt:189:1
 same-length : tie.Need-same-length
 same-length c = search needs
 
--- src/lib.rt:189:1
 same-length-2 : tie.Need-same-length-2
 same-length-2 c = search needs
 
--- src/lib.rt:189:1
 returns-3 : tie.Need-returns-3
-returns-3 c = search needs
+unfolding leftOn
+returns-3 c =
+    let d = c .before .before .before .before .before .before .before .before .before .before .before .before .before .before .before .before .before .before .before .before .args .desk .now in
+    rw (c .before .before .before .before .before .before .put-desk .ensures, c .before .before .put-report .ensures, over-desk d (c .before .before .before .before .before .before .before .before .before .before .before .before .before .before .before .before .before .before .before .before .args .left .core) (c .before .before .before .before .before .before .before .before .before .before .before .before .before .before .before .before .before .before .before .before .args .left .hall) (c .before .before .before .before .before .before .before .before .before .before .before .before .before .before .before .before .before .before .before .before .args .left .names) (fits-whole d (fits d (c .before .before .before .before .before .before .before .before .before .before .before .before .before .before .before .before .before .before .before .before .pre))), ← (c .before .before .before .before .before .before .before .before .before .before .before .before .before .answer-number .ensures))
+    (sym (done-so d (c .before .before .before .before .before .before .before .before .before .before .before .before .before .before .before .before .before .before .before .before .pre) _ _ _ _ (eq-eqb _ _ (c .before .before .before .before .before .before .before .before .before .before .before .before .if1 .left)) (le-leb _ _ (c .before .before .before .before .before .before .before .before .before .before .before .if2 .left))))
 
 pub settle-left-spec : {M : Type 1} → statement M
 settle-left-spec =

@@ -1,3 +1,6 @@
+use Rattle.floor.proofs.Desks.{unwritten, too-short, written-so}
+use borrow.Author.Tests.{ne-eqb, eq-eqb, lt-leb, le-leb}
+use mathlib.Core.Path.{_≡_, refl, sym, _∙_, ap}
 use native.Mathlib.Omega.{arith}
 use borrow.Author.Needs.{needs}
 use Rattle.floor.proofs.write_desk.Statement.{statement}
@@ -6,25 +9,20 @@ use Rattle.floor.proofs.write_desk.Reads as reads
 use Rattle.floor.proofs.write_desk.Lts as lts
 use Rattle.floor.proofs.put_desk.Reads as put-desk-reads
 
--- src/lib.rt:241:9
 returns : tie.Need-returns
-returns c = search needs
+returns c = sym (unwritten _ _ _ _ _ (ne-eqb _ _ (c .if1 .taken)))
 
--- src/lib.rt:244:9
 returns-2 : tie.Need-returns-2
-returns-2 c = search needs
+returns-2 c = sym (too-short _ _ _ _ _ (eq-eqb _ _ (c .before .if1 .left)) (lt-leb _ _ (c .if2 .taken)))
 
--- src/lib.rt:246:5
 put-desk-requires : tie.Need-put-desk-requires
-put-desk-requires c κs = search needs
+put-desk-requires c κs = c .before .if2 .left
 
--- src/lib.rt:237:1
 same-length : tie.Need-same-length
 same-length c = search needs
 
--- src/lib.rt:237:1
 returns-3 : tie.Need-returns-3
-returns-3 c = search needs
+returns-3 c = rw (c .before .before .put-desk .ensures) (sym (written-so _ _ _ _ _ (eq-eqb _ _ (c .before .before .before .before .before .if1 .left)) (le-leb _ _ (c .before .before .before .before .if2 .left))))
 
 pub write-desk-spec : {M : Type 1} → statement M
 write-desk-spec = tie.close (tie.spec returns returns-2 put-desk-requires same-length returns-3)

@@ -1,0 +1,18 @@
+use Rattle.floor.specs.Floor.{bit}
+use Rattle.words.specs.Choice.{if-yes, if-no}
+use mathlib.Core.Path.{_≡_, refl, sym, _∙_, ap}
+use borrow.Author.Needs.{needs}
+use native.Mathlib.Omega.{arith}
+use Rattle.floor.proofs.bit_of.Statement.{statement}
+use Rattle.floor.proofs.bit_of.Tie as tie
+use Rattle.floor.proofs.bit_of.Reads as reads
+use Rattle.floor.proofs.bit_of.Lts as lts
+
+returns : tie.Need-returns
+returns c = (sym (if-yes _ _ _ (c .if1 .taken)), omega arith)
+
+returns-2 : tie.Need-returns-2
+returns-2 c = (sym (if-no _ _ _ (c .if1 .left)), omega arith)
+
+pub bit-of-spec : {M : Type 1} → statement M
+bit-of-spec = tie.close (tie.spec returns returns-2)
