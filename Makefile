@@ -2,6 +2,7 @@
 #
 #   make             build/libfloor.a, build/floorplay, build/thursday, build/floor.pc
 #   make install     header, archive and floor.pc below PREFIX (/usr/local)
+#   make check       what the header promises, tested with cmocka
 #   make bench       instructions a call, beside the same work in plain C
 #   make clean
 #
@@ -50,7 +51,7 @@ build/libfloor.a: $(SOURCES) | build
 # plain.c under the library's names; as_plain.h has the list of them.
 build/plain/libfloor.a: build/plain.o bench/as_plain.h | build/plain
 	sed -n 's/^#define \(floor_[a-z0-9_]*\) \(plain_[a-z0-9_]*\)$$/\2 \1/p' bench/as_plain.h > build/plain/names
-	$(OBJCOPY) --redefine-syms=build/plain/names build/plain.o build/plain/floor.o
+	$(OBJCOPY) --redefine-syms=build/plain/names --localize-symbol=plain_native_packet --localize-symbol=plain_native_timer build/plain.o build/plain/floor.o
 	rm -f $@ && $(AR) rcs $@ build/plain/floor.o
 
 build/plain.o: bench/plain.c bench/plain.h bench/as_plain.h include/floor.h | build
@@ -60,6 +61,16 @@ build/plain.o: bench/plain.c bench/plain.h bench/as_plain.h include/floor.h | bu
 
 $(OUT)/floorplay $(OUT)/thursday: $(OUT)/%: bench/%.c include/floor.h $(ARCHIVE) | $(OUT)
 	$(COMPILE) $< $(ARCHIVE) -o $@
+
+# ---- tests ----
+
+TESTS = $(OUT)/floor_test $(OUT)/damage_test
+
+$(TESTS): $(OUT)/%: tests/c/%.c tests/c/scene.c tests/c/desks.c tests/c/scene.h tests/c/desks.h include/floor.h build/plain.o $(ARCHIVE) | $(OUT)
+	$(COMPILE) $< tests/c/scene.c tests/c/desks.c $(ARCHIVE) build/plain.o -lcmocka -o $@
+
+check: $(TESTS)
+	for test in $(TESTS); do $(RUN) $$test || exit 1; done
 
 # ---- installation ----
 
@@ -76,8 +87,12 @@ install: $(ARCHIVE) $(OUT)/floor.pc
 clean:
 	rm -rf build
 
+# How a test runs a program: nothing, or the emulator.
+print-run:
+	@echo $(RUN)
+
 $(sort build $(OUT)):
 	mkdir -p $@
 
 FORCE:
-.PHONY: all install clean FORCE
+.PHONY: all check install clean print-run FORCE
