@@ -11,7 +11,7 @@
 #
 # LIB=plain makes the same things over bench/plain.c instead, below build/plain/: to try a program or a test where the kit is not there.
 
-LIB = floor
+LIB ?= floor
 PREFIX = /usr/local
 VERSION = 1.0
 
@@ -28,6 +28,7 @@ ifeq ($(origin AR),default)
 AR = $(CROSS)ar
 endif
 OBJCOPY = $(CROSS)objcopy
+NM = $(CROSS)nm
 CFLAGS = -std=c99 -O2 -g -Wall -Wextra -Werror -pedantic
 
 ifeq ($(LIB),plain)
@@ -51,7 +52,8 @@ build/libfloor.a: $(SOURCES) | build
 # plain.c under the library's names; as_plain.h has the list of them.
 build/plain/libfloor.a: build/plain.o bench/as_plain.h | build/plain
 	sed -n 's/^#define \(floor_[a-z0-9_]*\) \(plain_[a-z0-9_]*\)$$/\2 \1/p' bench/as_plain.h > build/plain/names
-	$(OBJCOPY) --redefine-syms=build/plain/names --localize-symbol=plain_native_packet --localize-symbol=plain_native_timer build/plain.o build/plain/floor.o
+	$(OBJCOPY) --redefine-syms=build/plain/names --localize-symbol=plain_native_packet --localize-symbol=plain_native_timer \
+	    build/plain.o build/plain/floor.o
 	rm -f $@ && $(AR) rcs $@ build/plain/floor.o
 
 build/plain.o: bench/plain.c bench/plain.h bench/as_plain.h include/floor.h | build
@@ -87,12 +89,12 @@ install: $(ARCHIVE) $(OUT)/floor.pc
 clean:
 	rm -rf build
 
-# How a test runs a program: nothing, or the emulator.
-print-run:
-	@echo $(RUN)
+# For tests: the value of a variable, as CC, or RUN (how a program is run: nothing before it, or the emulator).
+print-%:
+	@echo $($*)
 
 $(sort build $(OUT)):
 	mkdir -p $@
 
 FORCE:
-.PHONY: all check install clean print-run FORCE
+.PHONY: all check install clean FORCE

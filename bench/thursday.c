@@ -171,7 +171,8 @@ static void open_the_call(void)
     for (unsigned seat = 0; seat < 4; seat++) {
         const struct seat *s = &class[seat];
         must("join", floor_join(desk, sizeof desk, (const uint8_t *)s->identity, strlen(s->identity), s->ssrc, 255, s->queueing, 0));
-        printf("   seat %u: %-6s  SSRC %" PRIu32 ", highest priority 255, %s\n", seat, s->identity, s->ssrc, s->queueing ? "queues" : "does not queue");
+        printf("   seat %u: %-6s  SSRC %" PRIu32 ", highest priority 255, %s\n", seat, s->identity, s->ssrc,
+               s->queueing ? "queues" : "does not queue");
     }
     printf("\n");
     must("start", floor_start(desk, sizeof desk, report, sizeof report));

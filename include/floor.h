@@ -25,7 +25,7 @@
  *         // packet has n octets: Idle, sequence number 1; report[14] and report[15] say who gets it: 0x0003, seats 0 and 1
  *     }
  *
- * Usable from C99 and C++. Link: cc bench.c -Iinclude -Lbuild -lfloor
+ * bench/thursday.c is a whole program. Usable from C99 and C++. Link: cc program.c -Iinclude -Lbuild -lfloor
  */
 #ifndef FLOOR_H
 #define FLOOR_H

@@ -448,9 +448,20 @@ static void test_room_for_reports(void **state)
         int desk;
         const char *in;
         uint32_t number;
-    } steps[] = {{"leave", TAKEN, "", 0},         {"leave", STOPPED, "", 3},  {"start", STOPPED, "", 0},         {"stop", REVOKING, "", 0},
-                 {"packet", IDLE, REQUEST_OF_0, 0}, {"packet", TWO_WAIT, RELEASE_OF_1, 0}, {"media", TAKEN, "", FIRST_SSRC}, {"media", REVOKING, "", FIRST_SSRC},
-                 {"timer", IDLE, "", 7},          {"timer", IDLE, "", 4},     {"timer", REVOKING, "", 8},        {"timer", OUT_OF_THE_LINE, "", 20}};
+    } steps[] = {
+        {"leave", TAKEN, "", 0},
+        {"leave", STOPPED, "", 3},
+        {"start", STOPPED, "", 0},
+        {"stop", REVOKING, "", 0},
+        {"packet", IDLE, REQUEST_OF_0, 0},
+        {"packet", TWO_WAIT, RELEASE_OF_1, 0},
+        {"media", TAKEN, "", FIRST_SSRC},
+        {"media", REVOKING, "", FIRST_SSRC},
+        {"timer", IDLE, "", 7},
+        {"timer", IDLE, "", 4},
+        {"timer", REVOKING, "", 8},
+        {"timer", OUT_OF_THE_LINE, "", 20},
+    };
     struct scene s;
     (void)state;
     for (size_t i = 0; i < COUNT(steps); i++) {
