@@ -64,6 +64,20 @@ build/plain.o: bench/plain.c bench/plain.h bench/as_plain.h include/floor.h | bu
 $(OUT)/floorplay $(OUT)/thursday: $(OUT)/%: bench/%.c include/floor.h $(ARCHIVE) | $(OUT)
 	$(COMPILE) $< $(ARCHIVE) -o $@
 
+# ---- speed ----
+
+# The kit compiles through LLVM, so plain.c is compiled by LLVM's compiler for the comparison, where there is one.
+BENCH_CC = $(if $(shell command -v clang),clang --target=x86_64-linux-gnu,$(CC))
+
+$(OUT)/bench: bench/bench.c bench/plain.c bench/plain.h bench/as_plain.h include/floor.h $(ARCHIVE) | $(OUT)
+	$(BENCH_CC) -std=c99 -O2 -Wall -Wextra -Werror -pedantic -Iinclude -c bench/plain.c -o $(OUT)/bench-plain.o
+	$(COMPILE) bench/bench.c $(ARCHIVE) $(OUT)/bench-plain.o -Wl,-z,now,-S -o $@
+
+bench: $(OUT)/bench
+	$(RUN) $(OUT)/bench play $(OUT)/desks
+	@$(BENCH_CC) --version | sed -n '1s/^/plain C at -O2 by /p'
+	@python3 bench/bench.py $(OUT)/bench $(OUT)/desks
+
 # ---- tests ----
 
 TESTS = $(OUT)/floor_test $(OUT)/damage_test
@@ -97,4 +111,4 @@ $(sort build $(OUT)):
 	mkdir -p $@
 
 FORCE:
-.PHONY: all check install clean FORCE
+.PHONY: all check bench install clean FORCE

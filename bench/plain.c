@@ -118,14 +118,19 @@ static int same_seat_twice(const struct plain_desk *d, int s, int t)
         || (d->length[s] == d->length[t] && memcmp(d->identity[s], d->identity[t], d->length[s]) == 0);
 }
 
+/* Each seat by itself, and against those before it that are taken. */
 static int seats_fit(const struct plain_desk *d)
 {
+    int taken[FLOOR_SEATS], n = 0;
     for (int s = 0; s < FLOOR_SEATS; s++) {
         if (!seat_fits(d, s))
             return 0;
-        for (int t = 0; t < s; t++)
-            if (d->taken[s] && d->taken[t] && same_seat_twice(d, s, t))
+        if (!d->taken[s])
+            continue;
+        for (int i = 0; i < n; i++)
+            if (same_seat_twice(d, s, taken[i]))
                 return 0;
+        taken[n++] = s;
     }
     return 1;
 }
@@ -141,8 +146,9 @@ static int is_desk(const uint8_t *desk, size_t desk_len)
 /* The table of fields: least and greatest L for each ID; a least L of 0 marks an ID that is skipped. */
 static const uint8_t least[16] = {2, 2, 2, 2, 1, 2, 1, 0, 2, 0, 2, 0, 2, 2, 6, 0};
 static const uint8_t greatest[16] = {2, 2, 255, 2, 62, 2, 62, 0, 2, 0, 2, 0, 2, 2, 6, 0};
-#define IN_THE_TABLE 0x757Fu /* bit i for ID i */
-#define LISTED 0x077Fu       /* bit i for type i */
+#define IN_THE_TABLE 0x757Fu   /* bit i for ID i */
+#define OF_FOUR_OCTETS 0x352Bu /* the same, of fields that have four octets with ID and L */
+#define LISTED 0x077Fu         /* bit i for type i */
 static const uint16_t required[16] = {[FLOOR_GRANTED] = 1 << 1, [FLOOR_TAKEN] = 1 << 4, [FLOOR_DENY] = 1 << 2, [FLOOR_IDLE] = 1 << 8,
                                       [FLOOR_REVOKE] = 1 << 2, [FLOOR_QUEUE_POSITION_INFO] = 1 << 3, [FLOOR_ACK] = 1 << 10 | 1 << 12};
 
@@ -211,16 +217,24 @@ static uint32_t judge(const uint8_t *p, size_t n, struct found *f)
     return refusal;
 }
 
-/* A part of the packet as a place and a length, into a message. */
-static void note_part(uint8_t *to, const uint8_t *p, unsigned content, unsigned passed)
+/* The first n octets of a field's content, into a message. */
+static void note(uint8_t *to, const uint8_t *p, const struct found *f, unsigned id, size_t n)
 {
-    put_two(to, content + passed);
-    put_two(to + 2, p[content - 1] - passed);
+    if (f->has >> id & 1)
+        memcpy(to, p + f->content[id], n);
+}
+
+/* A field's content without the first `passed` octets, as a place in the packet and a length. */
+static void note_part(uint8_t *to, const uint8_t *p, const struct found *f, unsigned id, unsigned passed)
+{
+    if (f->has >> id & 1) {
+        put_two(to, f->content[id] + passed);
+        put_two(to + 2, p[f->content[id] - 1] - passed);
+    }
 }
 
 uint32_t plain_read(const uint8_t *packet, size_t packet_len, uint8_t *message, size_t message_len)
 {
-    static const uint8_t pairs[][2] = {{1, 10}, {2, 12}, {3, 14}, {5, 16}, {8, 18}, {10, 20}, {13, 22}}; /* ID, place in a message */
     struct found f;
     uint32_t refusal = judge(packet, packet_len, &f);
     if (refusal)
@@ -232,21 +246,19 @@ uint32_t plain_read(const uint8_t *packet, size_t packet_len, uint8_t *message, 
     message[1] = packet[0] >> 4 & 1;
     put_two(message + 2, f.has);
     memcpy(message + 4, packet + 4, 4);
-    if (f.has >> 0 & 1)
-        message[8] = packet[f.content[0]];
-    if (f.has >> 12 & 1)
-        message[9] = packet[f.content[12]];
-    for (size_t i = 0; i < sizeof pairs / sizeof *pairs; i++)
-        if (f.has >> pairs[i][0] & 1)
-            memcpy(message + pairs[i][1], packet + f.content[pairs[i][0]], 2);
-    if (f.has >> 14 & 1)
-        memcpy(message + 24, packet + f.content[14], 4);
-    if (f.has >> 2 & 1)
-        note_part(message + 28, packet, f.content[2], 2);
-    if (f.has >> 4 & 1)
-        note_part(message + 32, packet, f.content[4], 0);
-    if (f.has >> 6 & 1)
-        note_part(message + 36, packet, f.content[6], 0);
+    note(message + 8, packet, &f, 0, 1);
+    note(message + 9, packet, &f, 12, 1);
+    note(message + 10, packet, &f, 1, 2);
+    note(message + 12, packet, &f, 2, 2);
+    note(message + 14, packet, &f, 3, 2);
+    note(message + 16, packet, &f, 5, 2);
+    note(message + 18, packet, &f, 8, 2);
+    note(message + 20, packet, &f, 10, 2);
+    note(message + 22, packet, &f, 13, 2);
+    note(message + 24, packet, &f, 14, 4);
+    note_part(message + 28, packet, &f, 2, 2);
+    note_part(message + 32, packet, &f, 4, 0);
+    note_part(message + 36, packet, &f, 6, 0);
     return 0;
 }
 
@@ -272,11 +284,10 @@ static int readable(const uint8_t *m, size_t message_len, size_t source_len)
 
 static size_t written_length(const uint8_t *m)
 {
-    static const uint8_t of_four_octets[] = {0, 1, 3, 5, 8, 10, 12, 13};
     unsigned has = two(m + 2);
     size_t n = HEADER;
-    for (size_t i = 0; i < sizeof of_four_octets; i++)
-        n += has >> of_four_octets[i] & 1 ? 4 : 0;
+    for (unsigned small = has & OF_FOUR_OCTETS; small; small &= small - 1)
+        n += 4;
     if (has >> 2 & 1)
         n += padded(4 + two(m + 30));
     if (has >> 4 & 1)
