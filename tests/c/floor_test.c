@@ -24,6 +24,21 @@ static void assert_refused_first(int refusal, const struct face *f, const struct
     }
 }
 
+/* ---- The header's example ---- */
+
+static void test_example(void **state)
+{
+    uint8_t desk[FLOOR_DESK], report[FLOOR_REPORT], packet[FLOOR_PACKET];
+    (void)state;
+    assert_int_equal(floor_make(desk, sizeof desk, 1, 200, 2, 2, 2, 30), 0);
+    assert_int_equal(floor_join(desk, sizeof desk, (const uint8_t *)"test1", 5, 10, 255, 1, 0), 0);
+    assert_int_equal(floor_join(desk, sizeof desk, (const uint8_t *)"test2", 5, 11, 255, 1, 0), 0);
+    assert_int_equal(floor_start(desk, sizeof desk, report, sizeof report), 0);
+    assert_int_equal(floor_message(desk, sizeof desk, report, sizeof report, 0, packet, sizeof packet), 16);
+    assert_octets("85 cc 00 03 00 00 00 01 4d 43 50 54 08 02 00 01", packet, 16);
+    assert_octets("00 03", report + 14, 2);
+}
+
 /* ---- Thursday's exercise ---- */
 
 /* After each event: the report (struck off, zero, placed, ended, given, how, zero; two messages of kind, seat, number, priority, zero, to), the
@@ -698,6 +713,7 @@ static void test_every_refusal_was_reached(void **state)
 int main(void)
 {
     const struct CMUnitTest tests[] = {
+        cmocka_unit_test(test_example),
         cmocka_unit_test(test_thursday),
         cmocka_unit_test(test_deny_7),
         cmocka_unit_test(test_deny_changes_nothing),
