@@ -1,5 +1,6 @@
 /* floorplay [FILE]: plays a script of events on a desk and prints one line for each, as second/FORMAT.md says.
  * A teacher writes exercises in it and keeps them as files; scripts/thursday.script is one. */
+#define _POSIX_C_SOURCE 200809L /* getline */
 #include <floor.h>
 #include <inttypes.h>
 #include <stdio.h>
@@ -12,6 +13,9 @@ static uint8_t desk[FLOOR_DESK];
 static int has_desk;
 static uint8_t *octets; /* a HEX word of the line, as octets: as long as the longest line needs */
 static size_t octets_room;
+
+static const char not_a_number[] = "not a number, or too large a one";
+static const char not_octets[] = "not octets in hexadecimal";
 
 static void malformed(const char *why)
 {
@@ -235,7 +239,7 @@ static void play_read(const char *word, int again)
     uint8_t message[FLOOR_MESSAGE], packet[FLOOR_PACKET];
     long n = hex(word, 0);
     if (n < 0) {
-        malformed("not octets in hexadecimal");
+        malformed(not_octets);
         return;
     }
     uint32_t answer = floor_read(octets, (size_t)n, message, sizeof message);
@@ -259,69 +263,78 @@ static void put_four(uint8_t *s, uint64_t n)
     put_two(s + 2, n & 0xFFFF);
 }
 
-/* Where a number of this field stands in a message, and how large it may be; 0 where the field is no single number. */
-static size_t place_of(unsigned id, uint64_t *most)
+/* Octets behind `used` of the source, as a part of the message at m. A part too long for its two octets is too long for any field. */
+static const char *put_part(const char *value, uint8_t *m, size_t *used)
 {
-    static const uint8_t places[] = {8, 10, 0, 0, 0, 16, 0, 0, 18, 0, 20, 0, 9, 22, 24};
-    *most = id == 0 || id == 12 ? 255 : id == 14 ? 4294967295u : 65535;
-    return id < sizeof places ? places[id] : 0;
+    long count = hex(value, *used);
+    if (count < 0)
+        return not_octets;
+    put_two(m, *used);
+    put_two(m + 2, (uint64_t)(count > 65535 ? 65535 : count));
+    *used += (size_t)count;
+    return NULL;
 }
 
-/* One field ID=VALUE into the message; its octets go behind `used` of the source. The reason where it is malformed. */
+/* Fields of two values: cause,phrase and position,priority. */
+static const char *put_two_values(uint64_t id, char *value, uint8_t *m, size_t *used)
+{
+    uint64_t first, second;
+    char *comma = strchr(value, ',');
+    if (!comma)
+        return "not two values";
+    *comma++ = 0;
+    if (!number(value, id == 2 ? 65535 : 255, &first))
+        return not_a_number;
+    if (id == 2) {
+        put_two(m + 12, first);
+        return put_part(comma, m + 28, used);
+    }
+    if (!number(comma, 255, &second))
+        return not_a_number;
+    m[14] = (uint8_t)first;
+    m[15] = (uint8_t)second;
+    return NULL;
+}
+
+static const char *put_number(uint64_t id, const char *value, uint8_t *m)
+{
+    static const uint8_t places[] = {8, 10, 0, 0, 0, 16, 0, 0, 18, 0, 20, 0, 9, 22, 24};
+    uint64_t n, most = id == 0 || id == 12 ? 255 : id == 14 ? 4294967295u : 65535;
+    if (!number(value, most, &n))
+        return not_a_number;
+    if (most == 255)
+        m[places[id]] = (uint8_t)n;
+    else if (most == 65535)
+        put_two(m + places[id], n);
+    else
+        put_four(m + places[id], n);
+    return NULL;
+}
+
+/* One field ID=VALUE into the message; its octets go behind `used` of the source. The reason where it is malformed. A repeated one is
+ * judged like any other, and then forgotten. */
 static const char *put_field(char *word, uint8_t *m, size_t *used)
 {
     char *value = strchr(word, '=');
-    uint64_t id, n, most;
+    uint8_t scratch[FLOOR_MESSAGE];
+    size_t unused = *used;
+    uint64_t id;
     if (!value)
         return "not a field";
     *value++ = 0;
     if (!number(word, 14, &id) || id == 7 || id == 9 || id == 11)
         return "no message has such a field";
-    int repeated = two(m + 2) >> id & 1;
-    uint8_t scratch[FLOOR_MESSAGE];
-    uint8_t *to = repeated ? scratch : m;
-    if (id == 2 || id == 3) {
-        char *comma = strchr(value, ',');
-        if (!comma)
-            return "not two values";
-        *comma++ = 0;
-        if (!number(value, id == 2 ? 65535 : 255, &n))
-            return "not a number, or too large a one";
-        if (id == 3) {
-            uint64_t p;
-            if (!number(comma, 255, &p))
-                return "not a number, or too large a one";
-            to[14] = (uint8_t)n;
-            to[15] = (uint8_t)p;
-        } else {
-            long count = hex(comma, *used);
-            if (count < 0)
-                return "not octets in hexadecimal";
-            put_two(to + 12, n);
-            put_two(to + 28, *used);
-            put_two(to + 30, (uint64_t)(count > 65535 ? 65535 : count));
-            *used += (size_t)count;
-        }
-    } else if (id == 4 || id == 6) {
-        long count = hex(value, *used);
-        if (count < 0)
-            return "not octets in hexadecimal";
-        put_two(to + (id == 4 ? 32 : 36), *used);
-        put_two(to + (id == 4 ? 34 : 38), (uint64_t)(count > 65535 ? 65535 : count));
-        *used += (size_t)count;
-    } else {
-        size_t place = place_of((unsigned)id, &most);
-        if (!number(value, most, &n))
-            return "not a number, or too large a one";
-        if (most == 255)
-            to[place] = (uint8_t)n;
-        else if (most == 65535)
-            put_two(to + place, n);
-        else
-            put_four(to + place, n);
+    if (two(m + 2) >> id & 1) {
+        m = scratch;
+        used = &unused;
+        put_two(m + 2, 0);
     }
     put_two(m + 2, two(m + 2) | 1u << id);
-    return NULL;
+    if (id == 2 || id == 3)
+        return put_two_values(id, value, m, used);
+    if (id == 4 || id == 6)
+        return put_part(value, m + (id == 4 ? 32 : 36), used);
+    return put_number(id, value, m);
 }
 
 static void play_write(char **word, int words)
@@ -331,7 +344,7 @@ static void play_write(char **word, int words)
     size_t used = 0;
     if (!number(word[1], 4294967295u, &room) || !number(word[2], 255, &type) || !number(word[3], 1, &ack) || strlen(word[3]) != 1
         || !number(word[4], 4294967295u, &ssrc)) {
-        malformed("not a number, or too large a one");
+        malformed(not_a_number);
         return;
     }
     for (int i = 5; i < words; i++) {
@@ -351,17 +364,9 @@ static void play_write(char **word, int words)
 
 /* ---- commands ---- */
 
-static void play_make(char **word)
+/* A desk that was made or loaded takes the place of the one there was; a refusal keeps that one. */
+static void take_desk(uint32_t answer, const uint8_t *made)
 {
-    uint64_t n[6];
-    uint8_t made[FLOOR_DESK];
-    for (int i = 0; i < 6; i++)
-        if (!number(word[1 + i], 4294967295u, &n[i])) {
-            malformed("not a number, or too large a one");
-            return;
-        }
-    uint32_t answer = floor_make(made, sizeof made, (uint32_t)n[0], (uint32_t)n[1], (uint32_t)n[2], (uint32_t)n[3], (uint32_t)n[4],
-                                 (uint32_t)n[5]);
     if (answer != 0) {
         printf("R %" PRIu32 "\n", answer);
         return;
@@ -369,6 +374,20 @@ static void play_make(char **word)
     memcpy(desk, made, sizeof desk);
     has_desk = 1;
     printf("OK\n");
+}
+
+static void play_make(char **word)
+{
+    uint64_t n[6];
+    uint8_t made[FLOOR_DESK];
+    for (int i = 0; i < 6; i++)
+        if (!number(word[1 + i], 4294967295u, &n[i])) {
+            malformed(not_a_number);
+            return;
+        }
+    uint32_t answer = floor_make(made, sizeof made, (uint32_t)n[0], (uint32_t)n[1], (uint32_t)n[2], (uint32_t)n[3], (uint32_t)n[4],
+                                 (uint32_t)n[5]);
+    take_desk(answer, made);
 }
 
 static void play_load(const char *word)
@@ -376,17 +395,11 @@ static void play_load(const char *word)
     uint8_t made[FLOOR_DESK];
     long n = hex(word, 0);
     if (n < 0) {
-        malformed("not octets in hexadecimal");
+        malformed(not_octets);
         return;
     }
     uint32_t answer = floor_load(made, sizeof made, octets, (size_t)n);
-    if (answer != 0) {
-        printf("R %" PRIu32 "\n", answer);
-        return;
-    }
-    memcpy(desk, made, sizeof desk);
-    has_desk = 1;
-    printf("OK\n");
+    take_desk(answer, made);
 }
 
 static void play_screen(const char *word)
@@ -394,7 +407,7 @@ static void play_screen(const char *word)
     uint64_t room;
     uint8_t entries[2 * FLOOR_SEATS];
     if (!number(word, 4294967295u, &room)) {
-        malformed("not a number, or too large a one");
+        malformed(not_a_number);
         return;
     }
     if (room > FLOOR_SEATS)
@@ -414,7 +427,7 @@ static void play_join(char **word)
     uint64_t ssrc, highest, queueing, receive_only;
     long n = hex(word[1], 0);
     if (n < 0 || !number(word[2], 4294967295u, &ssrc) || !number(word[3], 255, &highest)) {
-        malformed("not a number, or too large a one");
+        malformed(not_a_number);
         return;
     }
     if (strlen(word[4]) != 1 || strlen(word[5]) != 1 || !number(word[4], 1, &queueing) || !number(word[5], 1, &receive_only)) {
@@ -436,7 +449,7 @@ static void play_numbered(const char *name, const char *word)
     uint64_t n;
     uint32_t answer;
     if (!number(word, 4294967295u, &n)) {
-        malformed("not a number, or too large a one");
+        malformed(not_a_number);
         return;
     }
     if (!has_desk) {
@@ -457,7 +470,7 @@ static void play_packet(const char *word)
     uint8_t report[FLOOR_REPORT];
     long n = hex(word, 0);
     if (n < 0)
-        malformed("not octets in hexadecimal");
+        malformed(not_octets);
     else if (!has_desk)
         malformed("no desk");
     else

@@ -22,10 +22,10 @@
  *     floor_join(desk, sizeof desk, (const uint8_t *)"test2", 5, 11, 255, 1, 0);
  *     if (floor_start(desk, sizeof desk, report, sizeof report) == 0) {
  *         int32_t n = floor_message(desk, sizeof desk, report, sizeof report, 0, packet, sizeof packet);
- *         // packet has n octets: Idle, sequence number 1; floor_receivers(report, sizeof report, 0) is who gets it: 0x0003
+ *         // packet has n octets: Idle, sequence number 1; report[14] and report[15] say who gets it: 0x0003, seats 0 and 1
  *     }
  *
- * Usable from C99 and C++. Link: cc bench.c -Iinclude -Lbuild -lfloor
+ * bench/thursday.c is a whole program. Usable from C99 and C++. Link: cc program.c -Iinclude -Lbuild -lfloor
  */
 #ifndef FLOOR_H
 #define FLOOR_H
@@ -151,8 +151,8 @@ uint32_t floor_timer(uint8_t *desk, size_t desk_len, uint32_t timer, uint8_t *re
  */
 
 /* Writes message 0 or 1 of a report as its packet; for Taken the seat's identity is looked up in the desk as it is now, so call it before the
- * next step. Answers the packet's length (0 where the report has no such message), -20, -12 (the octets are no report's message, or Taken
- * names a free seat), -13. */
+ * next step. Answers the packet's length (0 where the report has no such message, and for any other which), -20, -12 (the report is not
+ * FLOOR_REPORT octets, the octets are no report's message, or Taken names a free seat), -13. */
 int32_t floor_message(const uint8_t *desk, size_t desk_len, const uint8_t *report, size_t report_len, uint32_t which, uint8_t *room,
                       size_t room_len);
 

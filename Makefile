@@ -1,0 +1,114 @@
+# The C side: the library as an archive for C programs, the programs over it, the header's and the library's installation.
+#
+#   make             build/libfloor.a, build/floorplay, build/thursday, build/floor.pc
+#   make install     header, archive and floor.pc below PREFIX (/usr/local)
+#   make check       what the header promises, tested with cmocka
+#   make bench       instructions a call, beside the same work in plain C
+#   make clean
+#
+# The archive is proved and compiled by the Rattle kit (`rt staticlib floor`) and links into x86-64 programs. On an x86-64 machine they
+# are compiled by its own compiler; on any other by Debian's cross compiler, and run under the emulator.
+#
+# LIB=plain makes the same things over bench/plain.c instead, below build/plain/: to try a program or a test where the kit is not there.
+
+LIB ?= floor
+PREFIX = /usr/local
+VERSION = 1.0
+
+ifeq ($(shell uname -m),x86_64)
+RUN =
+else
+CROSS = x86_64-linux-gnu-
+RUN = qemu-x86_64
+endif
+ifeq ($(origin CC),default)
+CC = $(CROSS)gcc
+endif
+ifeq ($(origin AR),default)
+AR = $(CROSS)ar
+endif
+OBJCOPY = $(CROSS)objcopy
+NM = $(CROSS)nm
+CFLAGS = -std=c99 -O2 -g -Wall -Wextra -Werror -pedantic
+
+ifeq ($(LIB),plain)
+OUT = build/plain
+else
+OUT = build
+endif
+ARCHIVE = $(OUT)/libfloor.a
+COMPILE = $(CC) $(CFLAGS) -Iinclude
+
+all: $(ARCHIVE) $(OUT)/floorplay $(OUT)/thursday $(OUT)/floor.pc
+
+# ---- the archive ----
+
+SOURCES = $(shell find crates -name '*.rt' -o -name '*.antt') crates.txt
+
+build/libfloor.a: $(SOURCES) | build
+	rt staticlib floor
+	cp target/staticlib/libfloor.a $@
+
+# plain.c under the library's names; as_plain.h has the list of them.
+build/plain/libfloor.a: build/plain.o bench/as_plain.h | build/plain
+	sed -n 's/^#define \(floor_[a-z0-9_]*\) \(plain_[a-z0-9_]*\)$$/\2 \1/p' bench/as_plain.h > build/plain/names
+	$(OBJCOPY) --redefine-syms=build/plain/names --localize-symbol=plain_native_packet --localize-symbol=plain_native_timer \
+	    build/plain.o build/plain/floor.o
+	rm -f $@ && $(AR) rcs $@ build/plain/floor.o
+
+build/plain.o: bench/plain.c bench/plain.h bench/as_plain.h include/floor.h | build
+	$(COMPILE) -c $< -o $@
+
+# ---- programs ----
+
+$(OUT)/floorplay $(OUT)/thursday: $(OUT)/%: bench/%.c include/floor.h $(ARCHIVE) | $(OUT)
+	$(COMPILE) $< $(ARCHIVE) -o $@
+
+# ---- speed ----
+
+# The kit compiles through LLVM, so plain.c is compiled by LLVM's compiler for the comparison, where there is one.
+BENCH_CC = $(if $(shell command -v clang),clang --target=x86_64-linux-gnu,$(CC))
+
+$(OUT)/bench: bench/bench.c bench/plain.c bench/plain.h bench/as_plain.h include/floor.h $(ARCHIVE) | $(OUT)
+	$(BENCH_CC) -std=c99 -O2 -Wall -Wextra -Werror -pedantic -Iinclude -c bench/plain.c -o $(OUT)/bench-plain.o
+	$(COMPILE) bench/bench.c $(ARCHIVE) $(OUT)/bench-plain.o -Wl,-z,now,-S -o $@
+
+bench: $(OUT)/bench
+	$(RUN) $(OUT)/bench play $(OUT)/desks
+	@$(BENCH_CC) --version | sed -n '1s/^/plain C at -O2 by /p'
+	@python3 bench/bench.py $(OUT)/bench $(OUT)/desks
+
+# ---- tests ----
+
+TESTS = $(OUT)/floor_test $(OUT)/damage_test
+
+$(TESTS): $(OUT)/%: tests/c/%.c tests/c/scene.c tests/c/desks.c tests/c/scene.h tests/c/desks.h include/floor.h build/plain.o $(ARCHIVE) | $(OUT)
+	$(COMPILE) $< tests/c/scene.c tests/c/desks.c $(ARCHIVE) build/plain.o -lcmocka -o $@
+
+check: $(TESTS)
+	for test in $(TESTS); do $(RUN) $$test || exit 1; done
+
+# ---- installation ----
+
+# Made again at each call, since PREFIX may differ.
+$(OUT)/floor.pc: bench/floor.pc.in FORCE | $(OUT)
+	sed -e 's|@PREFIX@|$(PREFIX)|' -e 's|@VERSION@|$(VERSION)|' $< > $@
+
+install: $(ARCHIVE) $(OUT)/floor.pc
+	install -d $(DESTDIR)$(PREFIX)/include $(DESTDIR)$(PREFIX)/lib/pkgconfig
+	install -m 644 include/floor.h $(DESTDIR)$(PREFIX)/include/
+	install -m 644 $(ARCHIVE) $(DESTDIR)$(PREFIX)/lib/
+	install -m 644 $(OUT)/floor.pc $(DESTDIR)$(PREFIX)/lib/pkgconfig/
+
+clean:
+	rm -rf build
+
+# For tests: the value of a variable, as CC, or RUN (how a program is run: nothing before it, or the emulator).
+print-%:
+	@echo $($*)
+
+$(sort build $(OUT)):
+	mkdir -p $@
+
+FORCE:
+.PHONY: all check bench install clean FORCE

@@ -1,0 +1,744 @@
+/* What floor.h promises, function by function. play() of scene.c holds every call to what is promised of all of them. */
+#include "scene.h"
+#include "desks.h"
+#include <string.h>
+
+#define COUNT(array) (sizeof array / sizeof *array)
+
+static void assert_octets(const char *expected, const uint8_t *octets, size_t n)
+{
+    struct lent l;
+    lend_hex(&l, expected);
+    assert_int_equal(n, l.n);
+    assert_memory_equal(octets, l.octets, n);
+}
+
+/* Refused, and with no room for a result too: 13 is tested last. */
+static void assert_refused_first(int refusal, const struct face *f, const struct scene *s)
+{
+    struct scene no_room = *s;
+    assert_refused(refusal, f, s);
+    if (f->room) {
+        lend_null(&no_room.lent[2]);
+        assert_refused(refusal, f, &no_room);
+    }
+}
+
+/* ---- The header's example ---- */
+
+static void test_example(void **state)
+{
+    uint8_t desk[FLOOR_DESK], report[FLOOR_REPORT], packet[FLOOR_PACKET];
+    (void)state;
+    assert_int_equal(floor_make(desk, sizeof desk, 1, 200, 2, 2, 2, 30), 0);
+    assert_int_equal(floor_join(desk, sizeof desk, (const uint8_t *)"test1", 5, 10, 255, 1, 0), 0);
+    assert_int_equal(floor_join(desk, sizeof desk, (const uint8_t *)"test2", 5, 11, 255, 1, 0), 0);
+    assert_int_equal(floor_start(desk, sizeof desk, report, sizeof report), 0);
+    assert_int_equal(floor_message(desk, sizeof desk, report, sizeof report, 0, packet, sizeof packet), 16);
+    assert_octets("85 cc 00 03 00 00 00 01 4d 43 50 54 08 02 00 01", packet, 16);
+    assert_octets("00 03", report + 14, 2);
+}
+
+/* ---- Thursday's exercise ---- */
+
+/* After each event: the report (struck off, zero, placed, ended, given, how, zero; two messages of kind, seat, number, priority, zero, to), the
+ * line (seat, priority), phase, sequence number and the timers that run. */
+static const struct row {
+    const char *report, *line;
+    int phase, sequence, running;
+} rows[EVENTS] = {
+    {"0000 00 ff ff ff 00 00  05 00 0001 00 00 000f  ff 00 0000 00 00 0000", "", 1, 1, 1 << 4 | 1 << 7},
+    {"0000 00 ff ff 00 01 00  01 00 0000 05 00 0001  02 00 0002 00 00 000e", "", 2, 2, 1 << 1},
+    {"0000 00 01 ff ff 00 00  09 00 0001 05 00 0002  ff 00 0000 00 00 0000", "01 05", 2, 2, 1 << 1},
+    {"0000 00 02 ff ff 00 00  09 00 0001 06 00 0004  ff 00 0000 00 00 0000", "02 06 01 05", 2, 2, 1 << 1},
+    {"0000 00 ff ff ff 00 00  09 00 0002 06 00 0002  ff 00 0000 00 00 0000", "02 06 01 06", 2, 2, 1 << 1},
+    {"0000 00 ff ff ff 00 00  03 00 0001 00 00 0008  ff 00 0000 00 00 0000", "02 06 01 06", 2, 2, 1 << 1},
+    {"0000 00 ff ff ff 00 00  03 00 0007 00 00 0008  ff 00 0000 00 00 0000", "02 06 01 06", 2, 2, 1 << 1},
+    {"0004 00 ff ff ff 00 00  ff 00 0000 00 00 0000  ff 00 0000 00 00 0000", "01 06", 2, 2, 1 << 1},
+    {"0000 00 03 ff ff 00 00  06 00 0004 00 00 0001  ff 00 0000 00 00 0000", "03 c8 01 06", 3, 2, 1 << 1 | 1 << 3 | 1 << 8},
+    {"0000 00 ff 00 03 02 00  01 00 0000 c8 00 0008  02 03 0003 00 00 0007", "01 06", 2, 3, 1 << 1 | 1 << 20},
+    {"0000 00 ff ff ff 00 00  01 00 0000 c8 00 0008  ff 00 0000 00 00 0000", "01 06", 2, 3, 1 << 1 | 1 << 20},
+    {"0000 00 ff 03 01 02 00  01 00 0000 06 00 0002  02 01 0004 00 00 000d", "", 2, 4, 1 << 1 | 1 << 20},
+    {"0000 00 ff 01 ff 00 00  05 00 0005 00 00 000d  ff 00 0000 00 00 0000", "", 1, 5, 1 << 4 | 1 << 7},
+};
+
+static void test_thursday(void **state)
+{
+    uint8_t desk[FLOOR_DESK], report[FLOOR_REPORT], line[2 * FLOOR_SEATS];
+    (void)state;
+    memcpy(desk, thursday_desk(STOPPED), sizeof desk);
+    for (int i = 0; i < EVENTS; i++) {
+        print_message("%s", thursday[i].row);
+        assert_int_equal(happen(desk, &thursday[i], report), 0);
+        assert_octets(rows[i].report, report, sizeof report);
+        int32_t waiting = floor_screen(desk, sizeof desk, line, sizeof line);
+        assert_octets(rows[i].line, line, 2 * (size_t)waiting);
+        assert_int_equal(floor_phase(desk, sizeof desk), rows[i].phase);
+        assert_int_equal(floor_sequence(desk, sizeof desk), rows[i].sequence);
+        assert_int_equal(floor_running(desk, sizeof desk), rows[i].running);
+    }
+    print_message("\n");
+    assert_int_equal(floor_seats(desk, sizeof desk), 0xD);
+    assert_int_equal(floor_c7(desk, sizeof desk), 1);
+    assert_int_equal(floor_c20(desk, sizeof desk), 1);
+}
+
+/* The packet of row g's Deny, and the same with the Ack bit. */
+static void test_deny_7(void **state)
+{
+    uint8_t desk[FLOOR_DESK], report[FLOOR_REPORT], packet[FLOOR_PACKET], message[FLOOR_MESSAGE], asking[FLOOR_PACKET];
+    (void)state;
+    memcpy(desk, thursday_desk(6), sizeof desk);
+    assert_int_equal(happen(desk, &thursday[6], report), 0);
+    assert_int_equal(floor_message(desk, sizeof desk, report, sizeof report, 0, packet, sizeof packet), 16);
+    assert_octets("83 CC 00 03 00 00 00 01 4D 43 50 54 02 02 00 07", packet, 16);
+    assert_int_equal(floor_read(packet, 16, message, sizeof message), 0);
+    message[1] = 1;
+    assert_int_equal(floor_write(message, sizeof message, packet, 16, asking, sizeof asking), 16);
+    assert_octets("93 CC 00 03 00 00 00 01 4D 43 50 54 02 02 00 07", asking, 16);
+}
+
+/* A Deny leaves the desk as it was, octet for octet. */
+static void test_deny_changes_nothing(void **state)
+{
+    uint8_t desk[FLOOR_DESK], report[FLOOR_REPORT];
+    (void)state;
+    for (int i = 5; i <= 6; i++) {
+        memcpy(desk, thursday_desk(i), sizeof desk);
+        assert_int_equal(happen(desk, &thursday[i], report), 0);
+        assert_memory_equal(desk, thursday_desk(i), sizeof desk);
+    }
+}
+
+/* ---- Refusals ---- */
+
+static const struct {
+    int refusal;
+    const char *packet;
+} bad_packets[] = {
+    {1, ""},
+    {1, "80cc0002 0000000a 4d4350"},
+    {3, "40cc0002 0000000a 4d435054"},
+    {3, "e0cd0000 0000000a 00000000"},
+    {4, "a0cd0000 0000000a 00000000"},
+    {5, "80cd0000 0000000a 00000000"},
+    {6, "87cc0003 0000000a 00000000"},
+    {6, "80cc0002 0000000a 4d435054 00020500"},
+    {7, "87cc0002 0000000a 4d435055"},
+    {8, "87cc0002 0000000a 4d435054"},
+    {8, "8bcc0003 0000000a 4d435054 00ff0000"},
+    {9, "80cc0003 0000000a 4d435054 00030500"},
+    {9, "80cc0003 0000000a 4d435054 07030000"},
+    {10, "80cc0003 0000000a 4d435054 c0ff0000"},
+    {10, "80cc0003 0000000a 4d435054 00010500"},
+    {10, "80cc0004 0000000a 4d435054 00020500 00000000"},
+    {10, "80cc0003 0000000a 4d435054 04000000"},
+    {10, "80cc0003 0000000a 4d435054 05020100"},
+    {10, "80cc0003 0000000a 4d435054 0a020004"},
+    {11, "81cc0002 0000000a 4d435054"},
+    {11, "8acc0003 0000000a 4d435054 0a020000"},
+};
+
+/* The same from the reader and from the desk, in a stopped call too. */
+static void test_packet_refusals(void **state)
+{
+    struct scene s;
+    (void)state;
+    for (size_t i = 0; i < COUNT(bad_packets); i++) {
+        set_scene(&s, face("read"), NULL, bad_packets[i].packet);
+        assert_refused_first(bad_packets[i].refusal, face("read"), &s);
+        for (int n = STOPPED; n <= IDLE; n++) {
+            set_scene(&s, face("packet"), thursday_desk(n), bad_packets[i].packet);
+            assert_refused_first(bad_packets[i].refusal, face("packet"), &s);
+        }
+    }
+    set_scene(&s, face("read"), NULL, "");
+    for (s.lent[1].n = 1025; s.lent[1].n <= MOST; s.lent[1].n += 341)
+        assert_refused_first(2, face("read"), &s);
+}
+
+#define REQUEST_OF_0 "80cc0003 0000000a 4d435054 00020500"
+#define RELEASE_OF_1 "84cc0002 0000000b 4d435054"
+#define RELEASE_OF_2 "84cc0002 0000000c 4d435054"
+#define ACK_OF_0 "8acc0004 0000000a 4d435054 0a020000 0c020100"
+#define ACK_OF_NOBODY "8acc0004 0000000e 4d435054 0a020000 0c020100"
+#define GRANTED_BY_THE_DESK "81cc0003 00000001 4d435054 0102001e"
+
+static const struct {
+    int refusal;
+    const char *face;
+    int desk; /* Thursday's, before this event */
+    const char *in;
+    uint32_t number;
+} refused_steps[] = {
+    {21, "stop", STOPPED, "", 0},
+    {21, "packet", STOPPED, REQUEST_OF_0, 0},
+    {21, "packet", STOPPED, ACK_OF_NOBODY, 0},
+    {21, "media", STOPPED, "", 9999},
+    {21, "timer", STOPPED, "", 4},
+    {21, "timer", STOPPED, "", 99},
+    {22, "leave", STOPPED, "", 4},
+    {22, "leave", IDLE, "", 16},
+    {22, "leave", IDLE, "", UINT32_MAX},
+    {22, "packet", IDLE, ACK_OF_NOBODY, 0},
+    {22, "packet", IDLE, GRANTED_BY_THE_DESK, 0},
+    {22, "media", IDLE, "", DESK_SSRC},
+    {22, "media", TAKEN, "", 0},
+    {22, "holder", IDLE, "", 0},
+    {22, "holder", STOPPED, "", 0},
+    {22, "seat_by_ssrc", TAKEN, "", DESK_SSRC},
+    {22, "seat_by_ssrc", TAKEN, "", 0},
+    {22, "seat_by_identity", TAKEN, "", 0},
+    {22, "seat_by_identity", TAKEN, "74657374", 0},
+    {22, "seat_by_identity", TAKEN, "746573743100", 0},
+    {23, "start", IDLE, "", 0},
+    {23, "start", REVOKING, "", 0},
+    {23, "packet", IDLE, ACK_OF_0, 0},
+    {23, "packet", IDLE, RELEASE_OF_1, 0},
+    {23, "packet", TAKEN, RELEASE_OF_1, 0},
+    {23, "packet", REVOKING, REQUEST_OF_0, 0},
+    {23, "packet", REVOKING, RELEASE_OF_2, 0},
+    {23, "media", IDLE, "", FIRST_SSRC},
+    {23, "media", REVOKING, "", FIRST_SSRC + 1},
+    {23, "timer", IDLE, "", 1},
+    {23, "timer", IDLE, "", 0},
+    {23, "timer", IDLE, "", 21},
+    {23, "timer", IDLE, "", 36}, /* 4 and a whole turn of 32 bits: no shift may wrap */
+    {23, "timer", IDLE, "", UINT32_MAX},
+    {23, "timer", TAKEN, "", 20},
+    {23, "timer", REVOKING, "", 2},
+};
+
+static void test_step_refusals(void **state)
+{
+    struct scene s;
+    (void)state;
+    for (size_t i = 0; i < COUNT(refused_steps); i++) {
+        const struct face *f = face(refused_steps[i].face);
+        set_scene(&s, f, thursday_desk(refused_steps[i].desk), refused_steps[i].in);
+        s.number[0] = refused_steps[i].number;
+        assert_refused_first(refused_steps[i].refusal, f, &s);
+    }
+}
+
+/* Join tests 25, 26, 27, 24. */
+static void test_join_refusals(void **state)
+{
+    const struct face *join = face("join");
+    struct scene s;
+    (void)state;
+    set_scene(&s, join, full_desk(), "");
+    s.number[0] = DESK_SSRC;
+    assert_refused(25, join, &s);
+    s.lent[1].n = FLOOR_IDENTITY + 1;
+    assert_refused(25, join, &s);
+    memcpy(s.lent[1].octets, "aaaaaaaaaa", s.lent[1].n = 10);
+    assert_refused(27, join, &s); /* the desk's SSRC */
+    s.number[0] = FIRST_SSRC + 15;
+    assert_refused(27, join, &s);
+    lend_hex(&s.lent[1], "69"); /* "i": seat 8's identity */
+    assert_refused(26, join, &s);
+    lend_hex(&s.lent[1], "41");
+    s.number[0] = FIRST_SSRC + 16;
+    assert_refused(24, join, &s);
+}
+
+/* A setting outside its range, before the room for the desk. */
+static void test_making_refusals(void **state)
+{
+    static const uint32_t outside[][6] = {{1, 0, 2, 2, 2, 30},     {1, 256, 2, 2, 2, 30}, {1, 200, 16, 2, 2, 30}, {1, 200, 2, 0, 2, 30},
+                                          {1, 200, 2, 256, 2, 30}, {1, 200, 2, 2, 0, 30}, {1, 200, 2, 2, 256, 30}, {1, 200, 2, 2, 2, 0},
+                                          {1, 200, 2, 2, 2, 65536}, {1, UINT32_MAX, 2, 2, 2, 30}, {1, 200, UINT32_MAX, 2, 2, 30}};
+    const struct face *make = face("make");
+    struct scene s;
+    (void)state;
+    for (size_t i = 0; i < COUNT(outside); i++) {
+        set_scene(&s, make, thursday_desk(TAKEN), "");
+        memcpy(s.number, outside[i], sizeof s.number);
+        assert_refused(28, make, &s);
+        lend_null(&s.lent[0]);
+        assert_refused(28, make, &s);
+    }
+}
+
+#define SEAT "01 ff 00000065 05 7465737431 "
+#define SEAT_AGAIN "00 07 00000066 05 7465737431 "
+#define SSRC_AGAIN "00 07 00000065 05 7465737432 "
+#define SETTINGS "00000001 c8 02 02 02 001e 0000 "
+
+static const struct {
+    int refusal;
+    const char *sheet;
+} bad_sheets[] = {
+    {41, ""},
+    {41, "000001 c8 02 02 02 001e 0000 0000 0000 00 01 4653"},
+    {41, SEAT SETTINGS "000c 0000 01 02 4654"},
+    {42, SEAT SETTINGS "000c 0000 11 02 4653"},
+    {43, SEAT SETTINGS "000c 0000 11 01 4653"},
+    {43, SEAT SETTINGS "000b 0000 01 01 4653"},
+    {43, SEAT "00000001 00 02 02 02 001e 0000 000c 0001 01 01 4653"},
+    {44, SEAT "00000001 00 02 02 02 001e 0000 000c 0000 00 01 4653"},
+    {44, SEAT "00000001 c8 10 02 02 001e 0000 000c 0000 01 01 4653"},
+    {44, SEAT "00000001 c8 02 00 02 001e 0000 000c 0000 01 01 4653"},
+    {44, SEAT "00000001 c8 02 02 00 001e 0000 000c 0000 01 01 4653"},
+    {44, SEAT "00000001 c8 02 02 02 0000 0000 000c 0000 01 01 4653"},
+    {44, SEAT "00000001 c8 02 02 02 001e 0001 000c 0000 01 01 4653"},
+    {45, SEAT SETTINGS "000c 0000 00 01 4653"},
+    {45, SEAT SETTINGS "000c 0000 02 01 4653"},
+    {45, SETTINGS "0000 0000 01 01 4653"},
+    {45, "04 ff 00000065 05 7465737431 " SETTINGS "000c 0000 01 01 4653"},
+    {45, "01 ff 00000065 00 7465737431 " SETTINGS "000c 0000 01 01 4653"},
+    {45, "01 ff 00000065 04 7465737431 " SETTINGS "000c 0000 01 01 4653"},
+    {45, "01 ff 00000065 06 7465737431 " SETTINGS "000c 0000 01 01 4653"},
+    {45, "01 ff 00000001 05 7465737431 " SETTINGS "000c 0000 01 01 4653"},
+    {45, SEAT SEAT_AGAIN SETTINGS "0018 0000 02 01 4653"},
+    {45, SEAT SSRC_AGAIN SETTINGS "0018 0000 02 01 4653"},
+};
+
+static void test_sheet_refusals(void **state)
+{
+    const struct face *load = face("load");
+    struct scene s;
+    (void)state;
+    for (size_t i = 0; i < COUNT(bad_sheets); i++) {
+        set_scene(&s, load, thursday_desk(TAKEN), bad_sheets[i].sheet);
+        assert_refused(bad_sheets[i].refusal, load, &s);
+        lend_null(&s.lent[0]);
+        assert_refused(bad_sheets[i].refusal, load, &s);
+    }
+}
+
+/* A message of floor_write: type, Ack bit, fields, SSRC, then 32 octets of the fields. */
+#define TAKEN_BY(from, count) "02 00 0010 00000001 00 00 0000 0000 0000 0000 0000 0000 0000 00000000 0000 0000 " from count " 0000 0000"
+#define BARE(type, ack, fields) type ack fields "00000001 00 00 0000 0000 0000 0002 0000 0004 0000 00000000 0000 00fe 0000 003f 0000 0000"
+
+static const char *const unreadable[] = {
+    BARE("07", "00", "0000"),     /* a type that is not listed */
+    BARE("10", "00", "0000"),
+    BARE("00", "02", "0000"),     /* an Ack bit above 1 */
+    BARE("00", "00", "0080"),     /* a field that is not in the table */
+    BARE("00", "00", "8000"),
+    BARE("01", "00", "0000"),     /* a required field is missing */
+    BARE("0a", "00", "0400"),
+    BARE("00", "00", "0004"),     /* a phrase of 254 octets */
+    BARE("00", "00", "0010"),     /* identities of 63 and of no octets */
+    BARE("00", "00", "0040"),
+    BARE("00", "00", "0020"),     /* permission 2, source 4 */
+    BARE("00", "00", "0400"),
+    TAKEN_BY("0000", "0005"),     /* a part that is not in the source, which has 4 octets */
+    TAKEN_BY("0004", "0001"),
+    TAKEN_BY("ffff", "0001"),
+    TAKEN_BY("0000", "0004") "00", /* 41 octets */
+    "",
+};
+
+static void test_writer_refusals(void **state)
+{
+    const struct face *write = face("write");
+    struct scene s;
+    (void)state;
+    for (size_t i = 0; i < COUNT(unreadable); i++) {
+        set_scene(&s, write, NULL, "74657374");
+        lend_hex(&s.lent[0], unreadable[i]);
+        assert_refused_first(12, write, &s);
+    }
+    set_scene(&s, write, NULL, "74657374");
+    lend_hex(&s.lent[0], TAKEN_BY("0000", "0004"));
+    s.lent[0].n = FLOOR_MESSAGE - 1;
+    assert_refused_first(12, write, &s);
+    s.lent[0].n = FLOOR_MESSAGE;
+    assert_int_equal(play(write, &s), 20);
+}
+
+/* Reports that are none, and what there is no packet for. */
+#define FIRST(message) "0000 00 ff ff ff 00 00 " message " ff 00 0000 00 00 0000"
+
+static const struct {
+    int32_t answer;
+    const char *report;
+} messages[] = {
+    {16, FIRST("05 00 ffff 00 00 ffff")},
+    {16, FIRST("03 00 ffff 00 00 0000")},
+    {16, FIRST("09 00 00ff ff 00 8000")},
+    {20, FIRST("01 00 0000 ff 00 0001")},
+    {28, FIRST("02 00 0000 00 00 0000")},
+    {0, FIRST("ff 00 0000 00 00 0000")},
+    {-12, FIRST("00 00 0000 00 00 0001")}, /* kinds that the desk does not send */
+    {-12, FIRST("04 00 0000 00 00 0001")},
+    {-12, FIRST("0a 00 0000 00 00 0001")},
+    {-12, FIRST("fe 00 0000 00 00 0001")},
+    {-12, FIRST("02 04 0001 00 00 0001")}, /* a free seat, and no seat */
+    {-12, FIRST("02 10 0001 00 00 0001")},
+    {-12, FIRST("05 01 0001 00 00 0001")}, /* what the kind has no use for */
+    {-12, FIRST("05 00 0001 01 00 0001")},
+    {-12, FIRST("05 00 0001 00 01 0001")},
+    {-12, FIRST("01 00 0001 05 00 0001")},
+    {-12, FIRST("02 00 0001 01 00 0001")},
+    {-12, FIRST("03 01 0001 00 00 0001")},
+    {-12, FIRST("06 00 0004 01 00 0001")},
+    {-12, FIRST("09 00 0100 05 00 0001")},
+    {-12, FIRST("ff 00 0001 00 00 0000")},
+    {-12, FIRST("ff 01 0000 00 00 0000")},
+    {-12, FIRST("05 00 0001 00 00 0001") "00"}, /* 25 octets */
+    {-12, ""},
+};
+
+static void test_report_messages(void **state)
+{
+    const struct face *message = face("message");
+    struct scene s;
+    (void)state;
+    for (size_t i = 0; i < COUNT(messages); i++) {
+        set_scene(&s, message, thursday_desk(TAKEN), messages[i].report);
+        if (messages[i].answer == -12)
+            assert_refused_first(12, message, &s);
+        else
+            assert_int_equal(play(message, &s), messages[i].answer);
+    }
+    for (uint32_t which = 1; which != 0; which *= 2) { /* there is no second message, nor any other */
+        set_scene(&s, message, thursday_desk(TAKEN), FIRST("05 00 0001 00 00 000f"));
+        s.number[0] = which;
+        assert_int_equal(play(message, &s), 0);
+    }
+}
+
+/* ---- 20, before all else ---- */
+
+/* With nothing that is right beside the desk. */
+static void assert_not_a_desk(const struct scene *with_desk)
+{
+    for (size_t i = 0; i < face_count; i++) {
+        struct scene s = *with_desk;
+        if (!takes_desk(&faces[i]))
+            continue;
+        lend_null(&s.lent[1]);
+        lend_null(&s.lent[2]);
+        s.number[0] = UINT32_MAX;
+        assert_refused(20, &faces[i], &s);
+    }
+}
+
+static void test_not_a_desk(void **state)
+{
+    struct scene s;
+    (void)state;
+    set_scene(&s, face("phase"), thursday_desk(REVOKING), "");
+    s.lent[0].n = FLOOR_DESK - 1;
+    assert_not_a_desk(&s);
+    s.lent[0].n = FLOOR_DESK + 1; /* a zero behind it */
+    assert_not_a_desk(&s);
+    s.lent[0].n = 0;
+    assert_not_a_desk(&s);
+    lend_null(&s.lent[0]);
+    assert_not_a_desk(&s);
+    lend_room(&s.lent[0], FLOOR_DESK);
+    assert_not_a_desk(&s);
+    memset(s.lent[0].octets, 0, FLOOR_DESK);
+    assert_not_a_desk(&s);
+}
+
+/* ---- Room ---- */
+
+/* A scene with a result of n octets in lent buffer b: with room for exactly n, for more, and for one less. */
+static void assert_room(const struct face *f, const struct scene *s, int b, size_t n)
+{
+    struct scene exact = *s, more = *s, less = *s;
+    lend_room(&exact.lent[b], n);
+    assert_true(play(f, &exact) >= 0);
+    lend_room(&more.lent[b], n + 100);
+    assert_true(play(f, &more) >= 0);
+    assert_memory_equal(exact.lent[b].octets, more.lent[b].octets, n);
+    if (n > 0) {
+        lend_room(&less.lent[b], n - 1);
+        assert_refused(13, f, &less);
+        lend_null(&less.lent[b]);
+        assert_refused(13, f, &less);
+    }
+}
+
+static void test_room_for_reports(void **state)
+{
+    static const struct {
+        const char *face;
+        int desk;
+        const char *in;
+        uint32_t number;
+    } steps[] = {
+        {"leave", TAKEN, "", 0},
+        {"leave", STOPPED, "", 3},
+        {"start", STOPPED, "", 0},
+        {"stop", REVOKING, "", 0},
+        {"packet", IDLE, REQUEST_OF_0, 0},
+        {"packet", TWO_WAIT, RELEASE_OF_1, 0},
+        {"media", TAKEN, "", FIRST_SSRC},
+        {"media", REVOKING, "", FIRST_SSRC},
+        {"timer", IDLE, "", 7},
+        {"timer", IDLE, "", 4},
+        {"timer", REVOKING, "", 8},
+        {"timer", OUT_OF_THE_LINE, "", 20},
+    };
+    struct scene s;
+    (void)state;
+    for (size_t i = 0; i < COUNT(steps); i++) {
+        const struct face *f = face(steps[i].face);
+        set_scene(&s, f, thursday_desk(steps[i].desk), steps[i].in);
+        s.number[0] = steps[i].number;
+        assert_room(f, &s, 2, FLOOR_REPORT);
+    }
+}
+
+static void test_room_for_packets(void **state)
+{
+    struct scene s;
+    (void)state;
+    set_scene(&s, face("read"), NULL, REQUEST_OF_0);
+    assert_room(face("read"), &s, 2, FLOOR_MESSAGE);
+    set_scene(&s, face("write"), NULL, "74657374");
+    lend_hex(&s.lent[0], TAKEN_BY("0000", "0004"));
+    assert_room(face("write"), &s, 2, 20);
+    set_scene(&s, face("message"), thursday_desk(TAKEN), FIRST("02 01 0002 00 00 0001"));
+    assert_room(face("message"), &s, 2, 28);
+    s.number[0] = 1;
+    assert_room(face("message"), &s, 2, 0);
+}
+
+static void test_room_for_desks(void **state)
+{
+    struct scene s;
+    (void)state;
+    set_scene(&s, face("make"), NULL, "");
+    memcpy(s.number, (const uint32_t[]){1, 200, 2, 2, 2, 30}, sizeof s.number);
+    assert_room(face("make"), &s, 0, FLOOR_DESK);
+    set_scene(&s, face("load"), NULL, SEAT SETTINGS "000c 0000 01 01 4653");
+    assert_room(face("load"), &s, 0, FLOOR_DESK);
+}
+
+static void test_room_for_sheet_and_screen(void **state)
+{
+    struct scene s;
+    (void)state;
+    set_scene(&s, face("save"), thursday_desk(STOPPED), "");
+    assert_room(face("save"), &s, 2, 20 + 4 * 7 + 5 + 6 + 5 + 5);
+    set_scene(&s, face("screen"), thursday_desk(REVOKING), "");
+    assert_room(face("screen"), &s, 2, 4);
+    set_scene(&s, face("screen"), full_desk(), "");
+    assert_room(face("screen"), &s, 2, 30);
+    set_scene(&s, face("screen"), thursday_desk(STOPPED), "");
+    assert_room(face("screen"), &s, 2, 0);
+}
+
+/* A null pointer with a length of 0, in every place: the answer with nothing lent at [0], [1], [2]. */
+static const struct {
+    const char *face;
+    int desk;
+    const char *in;
+    int32_t answers[3];
+} nulls[] = {
+    {"make", STOPPED, "", {-13, 0, 0}},
+    {"load", STOPPED, SETTINGS "0000 0000 00 01 4653", {-13, -41, 0}},
+    {"join", STOPPED, "41", {-20, -25, 0}},
+    {"leave", STOPPED, "", {-20, 0, -13}},
+    {"start", STOPPED, "", {-20, 0, -13}},
+    {"stop", IDLE, "", {-20, 0, -13}},
+    {"packet", IDLE, REQUEST_OF_0, {-20, -1, -13}},
+    {"media", TAKEN, "", {-20, -22, -22}},
+    {"timer", TAKEN, "", {-20, -23, -23}},
+    {"read", STOPPED, REQUEST_OF_0, {0, -1, -13}},
+    {"message", STOPPED, FIRST("05 00 0001 00 00 0001"), {-20, -12, -13}},
+    {"save", STOPPED, "", {-20, 69, -13}},
+    {"screen", STOPPED, "", {-20, 0, 0}},
+    {"phase", IDLE, "", {-20, 1, 1}},
+    {"holder", IDLE, "", {-20, -22, -22}},
+    {"running", IDLE, "", {-20, 0x90, 0x90}},
+    {"sequence", IDLE, "", {-20, 1, 1}},
+    {"c7", IDLE, "", {-20, 1, 1}},
+    {"c20", IDLE, "", {-20, 0, 0}},
+    {"seats", IDLE, "", {-20, 15, 15}},
+    {"seat_by_ssrc", IDLE, "", {-20, -22, -22}},
+    {"seat_by_identity", IDLE, "7465737431", {-20, -22, 0}},
+};
+
+static void test_null(void **state)
+{
+    struct scene s;
+    (void)state;
+    for (size_t i = 0; i < COUNT(nulls); i++)
+        for (int b = 0; b < 3; b++) {
+            const struct face *f = face(nulls[i].face);
+            set_scene(&s, f, thursday_desk(nulls[i].desk), nulls[i].in);
+            memcpy(s.number, (const uint32_t[]){0, 200, 2, 2, 2, 30}, sizeof s.number);
+            lend_null(&s.lent[b]);
+            int32_t answer = play(f, &s);
+            if (answer != nulls[i].answers[b])
+                fail_msg("%s answered %d with nothing lent at %d", f->name, (int)answer, b);
+        }
+}
+
+/* A message with no parts needs no source. */
+static void test_null_source(void **state)
+{
+    const struct face *write = face("write");
+    struct scene s;
+    (void)state;
+    set_scene(&s, write, NULL, "");
+    lend_hex(&s.lent[0], BARE("00", "01", "0003"));
+    lend_null(&s.lent[1]);
+    assert_int_equal(play(write, &s), 20);
+    lend_hex(&s.lent[0], TAKEN_BY("0000", "0001"));
+    assert_refused_first(12, write, &s);
+    lend_null(&s.lent[0]);
+    assert_refused_first(12, write, &s);
+}
+
+/* ---- Results ---- */
+
+/* Whatever is not 0 is yes, and is kept as 1. */
+static void test_yes_and_no(void **state)
+{
+    uint8_t desk[FLOOR_DESK], other[FLOOR_DESK];
+    (void)state;
+    memcpy(desk, thursday_desk(IDLE), sizeof desk);
+    memcpy(other, desk, sizeof other);
+    assert_int_equal(floor_join(desk, sizeof desk, (const uint8_t *)"x", 1, 99, 7, 255, 2), 0);
+    assert_int_equal(floor_join(other, sizeof other, (const uint8_t *)"x", 1, 99, 7, 1, 1), 0);
+    assert_memory_equal(desk, other, sizeof desk);
+    assert_int_equal(floor_seat_by_ssrc(desk, sizeof desk, 99), 4);
+    assert_int_equal(floor_seat_by_identity(desk, sizeof desk, (const uint8_t *)"x", 1), 4);
+    assert_int_equal(floor_seat_by_identity(desk, sizeof desk, (const uint8_t *)"test10", 6), 1);
+    assert_int_equal(floor_seat_by_identity(desk, sizeof desk, (const uint8_t *)"test1", 5), 0);
+}
+
+/* A message with every field of the table: its packet, padding and spare octets zero; and the message read back, with its parts now in the
+ * packet. */
+static void test_every_field(void **state)
+{
+    struct scene s;
+    (void)state;
+    set_scene(&s, face("write"), NULL, "78 616263 61626364");
+    lend_hex(&s.lent[0], "0a 01 757f ffffffff 05 04 1234 0102 01 02 0001 ffff 0003 8000 deadbeef 0000 0001 0001 0003 0004 0004");
+    assert_int_equal(play(face("write"), &s), 76);
+    assert_octets("9acc0012 ffffffff 4d435054 00020500 01021234 02030102 78000000 03020102 04036162 63000000 05020001 06046162 63640000 "
+                  "0802ffff 0a020003 0c020400 0d028000 0e06dead beef0000", s.lent[2].octets, 76);
+    s.lent[1] = s.lent[2];
+    s.lent[1].n = 76;
+    lend_room(&s.lent[2], FLOOR_MESSAGE);
+    assert_int_equal(play(face("read"), &s), 0);
+    assert_octets("0a 01 757f ffffffff 05 04 1234 0102 01 02 0001 ffff 0003 8000 deadbeef 0018 0001 0022 0003 002e 0004", s.lent[2].octets, 40);
+}
+
+/* Any order, spare octets and padding with something in them, a field again with other content, skipped fields. */
+static void test_what_a_reader_passes_over(void **state)
+{
+    struct scene s;
+    (void)state;
+    set_scene(&s, face("read"), NULL, "80cc0009 0000000a 4d435054 0e060000 0065eeee 07057777 77777777 000205ee 00020600 0401ee55");
+    assert_int_equal(play(face("read"), &s), 0);
+    assert_octets("00 00 4011 0000000a 05 00 0000 0000 00 00 0000 0000 0000 0000 00000065 0000 0000 0026 0001 0000 0000", s.lent[2].octets, 40);
+}
+
+/* Who asks again at the same priority keeps its place; at another one it goes behind all of at least that priority. */
+static void test_asking_again(void **state)
+{
+    static const struct event same = {"", ASK, 2, 6}, lower = {"", ASK, 2, 5}, higher = {"", ASK, 1, 7};
+    uint8_t desk[FLOOR_DESK], report[FLOOR_REPORT], line[4];
+    (void)state;
+    memcpy(desk, thursday_desk(5), sizeof desk);
+    assert_int_equal(happen(desk, &same, report), 0);
+    assert_memory_equal(desk, thursday_desk(5), sizeof desk);
+    assert_octets("0000 00 ff ff ff 00 00  09 00 0001 06 00 0004  ff 00 0000 00 00 0000", report, sizeof report);
+    assert_int_equal(happen(desk, &lower, report), 0);
+    assert_int_equal(floor_screen(desk, sizeof desk, line, sizeof line), 2);
+    assert_octets("01 06 02 05", line, sizeof line);
+    assert_int_equal(happen(desk, &higher, report), 0);
+    assert_int_equal(floor_screen(desk, sizeof desk, line, sizeof line), 2);
+    assert_octets("01 07 02 05", line, sizeof line);
+}
+
+/* Identities of 61, 62 and 63 octets, packets of 12 and of 1,024. */
+static void test_lengths(void **state)
+{
+    uint8_t desk[FLOOR_DESK], name[63], packet[1024] = {0x80, 204, 0, 255, 0, 0, 0, 10, 'M', 'C', 'P', 'T'}, message[FLOOR_MESSAGE];
+    (void)state;
+    memcpy(desk, thursday_desk(STOPPED), sizeof desk);
+    memset(name, 'n', sizeof name);
+    assert_int_equal(floor_join(desk, sizeof desk, name, 61, 61, 0, 0, 0), 0);
+    assert_int_equal(floor_join(desk, sizeof desk, name, 62, 62, 0, 0, 0), 0);
+    assert_int_equal(floor_join(desk, sizeof desk, name, 63, 63, 0, 0, 0), FLOOR_IDENTITY_LENGTH);
+    for (size_t at = 12; at < sizeof packet; at += 4)
+        packet[at] = 7; /* a skipped field with nothing in it */
+    assert_int_equal(floor_read(packet, sizeof packet, message, sizeof message), 0);
+    packet[3] = 2;
+    assert_int_equal(floor_read(packet, 12, message, sizeof message), 0);
+}
+
+/* Every start sends an Idle, and each adds 1: 65,535 goes on with 0. */
+static void test_sequence_turns_over(void **state)
+{
+    uint8_t desk[FLOOR_DESK], report[FLOOR_REPORT];
+    (void)state;
+    memcpy(desk, thursday_desk(STOPPED), sizeof desk);
+    for (unsigned n = 1; n <= 65537; n++) {
+        assert_int_equal(floor_start(desk, sizeof desk, report, sizeof report), 0);
+        assert_int_equal(floor_sequence(desk, sizeof desk), n % 65536);
+        assert_int_equal(256u * report[10] + report[11], n % 65536);
+        assert_int_equal(floor_stop(desk, sizeof desk, report, sizeof report), 0);
+    }
+}
+
+/* What was saved loads to a desk that saves the same octets, from any phase. */
+static void test_saved_again(void **state)
+{
+    (void)state;
+    for (int n = 0; n <= EVENTS + 1; n++) {
+        const uint8_t *desk = n <= EVENTS ? thursday_desk(n) : full_desk();
+        uint8_t sheet[FLOOR_SHEET], again[FLOOR_SHEET], loaded[FLOOR_DESK];
+        int32_t length = floor_save(desk, FLOOR_DESK, sheet, sizeof sheet);
+        assert_true(length >= 20);
+        assert_int_equal(floor_load(loaded, sizeof loaded, sheet, (size_t)length), 0);
+        assert_int_equal(floor_phase(loaded, sizeof loaded), FLOOR_PHASE_STOPPED);
+        assert_int_equal(floor_save(loaded, sizeof loaded, again, sizeof again), length);
+        assert_memory_equal(sheet, again, (size_t)length);
+    }
+}
+
+/* Every refusal of the header, by some function: the tests above saw them. */
+static void test_every_refusal_was_reached(void **state)
+{
+    (void)state;
+    for (int n = 1; n <= 45; n++)
+        if ((n <= 13 || (n >= 20 && n <= 28) || n >= 41) && !reached[n])
+            fail_msg("no call was refused with %d", n);
+}
+
+int main(void)
+{
+    const struct CMUnitTest tests[] = {
+        cmocka_unit_test(test_example),
+        cmocka_unit_test(test_thursday),
+        cmocka_unit_test(test_deny_7),
+        cmocka_unit_test(test_deny_changes_nothing),
+        cmocka_unit_test(test_packet_refusals),
+        cmocka_unit_test(test_step_refusals),
+        cmocka_unit_test(test_join_refusals),
+        cmocka_unit_test(test_making_refusals),
+        cmocka_unit_test(test_sheet_refusals),
+        cmocka_unit_test(test_writer_refusals),
+        cmocka_unit_test(test_report_messages),
+        cmocka_unit_test(test_not_a_desk),
+        cmocka_unit_test(test_room_for_reports),
+        cmocka_unit_test(test_room_for_packets),
+        cmocka_unit_test(test_room_for_desks),
+        cmocka_unit_test(test_room_for_sheet_and_screen),
+        cmocka_unit_test(test_null),
+        cmocka_unit_test(test_null_source),
+        cmocka_unit_test(test_yes_and_no),
+        cmocka_unit_test(test_every_field),
+        cmocka_unit_test(test_what_a_reader_passes_over),
+        cmocka_unit_test(test_asking_again),
+        cmocka_unit_test(test_lengths),
+        cmocka_unit_test(test_sequence_turns_over),
+        cmocka_unit_test(test_saved_again),
+        cmocka_unit_test(test_every_refusal_was_reached),
+    };
+    return cmocka_run_group_tests(tests, NULL, NULL);
+}
