@@ -19,10 +19,10 @@ use Rattle.rules.specs.Request.{waits}
 use Rattle.desk.specs.Events.{fresh}
 use Rattle.history.specs.Doing.{Desk}
 use Rattle.marks.specs.Marks.{one, LineCounts, FloorCounts}
-use Rattle.marks.specs.InLine.{in-nil, in-cons}
+use Rattle.marks.proofs.InLine.{in-nil, in-cons}
 use Rattle.reach.specs.Sound.{Sound, Once}
-use Rattle.reach.specs.InLine.{clash}
-use Rattle.reach.specs.Reach.{sound-made, sound-kept, marks-counted}
+use Rattle.reach.proofs.InLine.{clash}
+use Rattle.reach.proofs.Reach.{sound-made, sound-kept, marks-counted}
 use Rattle.line.proofs.Laws.{waiting-lineOf}
 use Rattle.demands.specs.Demands.{Happening, Heard, unread, doing, heard, happens, outcome, History, deskAfter, sheet, times, standing, isPlaced, isStruck, isGivenOut, isGivenAny, isEnded, NobodyDropsOut, GivenAndEnded, NothingUnseen}
 

@@ -42,10 +42,10 @@ use Rattle.desk.specs.declared.Timer.the-variants as timer
 use Rattle.desk.specs.Timers.{halted, stops, endsIn, revokesIn, idleAgain, revokesAgain, grantsOrEnds, grantsAgain, fires, isStopped, runs, running, expires}
 use Rattle.desk.specs.Events.{starts, sitting, callerOf, heard, struckOff, releases, asksPlace, talks, step, leaves, leave}
 use Rattle.history.specs.Doing.{Desk, Doing, event, leaves as leaves-now, joins, does}
-use Rattle.marks.specs.InLine.{in-nil, only-at, without-less}
+use Rattle.marks.proofs.InLine.{in-nil, only-at, without-less}
 use Rattle.reach.specs.Sound.{HallOk, CoreOk, Sound, isBusy}
-use Rattle.reach.specs.InLine.{clash, present-below}
-use Rattle.reach.specs.Hall.{hall-ok}
+use Rattle.reach.proofs.InLine.{clash, present-below}
+use Rattle.reach.proofs.Hall.{hall-ok}
 use Rattle.demands.specs.Demands.{Asking, nobody, asks, fromSeat, asking, priorityOf, moves, isMoved, isFound, isT4, reasonOf}
 
 abbrev pub marksOf : Mark → List Bool → Mark → Given → Marks

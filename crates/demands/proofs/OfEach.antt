@@ -19,8 +19,8 @@ use Rattle.rules.specs.declared.Marks.{Marks}
 use Rattle.rules.specs.Floor.{holds}
 use Rattle.desk.specs.Timers.{isStopped}
 use Rattle.marks.specs.Marks.{isSeat}
-use Rattle.marks.specs.InLine.{in-nil, in-cons, only-at, in-added}
-use Rattle.reach.specs.InLine.{clash}
+use Rattle.marks.proofs.InLine.{in-nil, in-cons, only-at, in-added}
+use Rattle.reach.proofs.InLine.{clash}
 use Rattle.demands.specs.Demands.{Asking, nobody, asks, moves, comesIn, goesOut, heldAfter, isPlaced, isStruck, isEnded}
 use Rattle.demands.proofs.Counts.{none}
 use Rattle.demands.proofs.Did.{Did, rests, gives, places, shifts, strikes, passes, frees, halts, closes, Still}

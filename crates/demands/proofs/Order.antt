@@ -17,9 +17,9 @@ use Rattle.hall.specs.Seats.{inRange, only}
 use Rattle.rules.specs.declared.Core.{Core}
 use Rattle.rules.specs.declared.Marks.{Marks}
 use Rattle.rules.specs.Request.{entry, waits}
-use Rattle.marks.specs.InLine.{in-nil, in-cons, in-without, only-at}
+use Rattle.marks.proofs.InLine.{in-nil, in-cons, in-without, only-at}
 use Rattle.reach.specs.Sound.{AtMost, Sorted, ListOk}
-use Rattle.reach.specs.InLine.{clash, without-ok}
+use Rattle.reach.proofs.InLine.{clash, without-ok}
 use Rattle.demands.specs.Demands.{Asking, nobody, Row, happens, History, deskAfter, sheet, rowOf, isPlaced, priorityOf, moves, isMoved, lineFrom, latest, ComesFirst, GoesToTheFirst}
 use Rattle.demands.proofs.Counts.{sound-after}
 use Rattle.demands.proofs.Did.{Did, rests, gives, places, shifts, strikes, passes, frees, halts, closes, and-no}

@@ -28,11 +28,11 @@ use Rattle.desk.specs.declared.Left.{Left}
 use Rattle.desk.specs.Events.{fresh, leave}
 use Rattle.history.specs.Doing.{Desk, Doing, event, leaves, joins, made, does, after}
 use Rattle.marks.specs.Marks.{isSeat}
-use Rattle.marks.specs.InLine.{in-nil}
+use Rattle.marks.proofs.InLine.{in-nil}
 use Rattle.reach.specs.Sound.{Sound}
-use Rattle.reach.specs.InLine.{clash, present-below}
-use Rattle.reach.specs.Hall.{found-holds, stored, hall-ok}
-use Rattle.reach.specs.Reach.{marks-counted}
+use Rattle.reach.proofs.InLine.{clash, present-below}
+use Rattle.reach.proofs.Hall.{found-holds, stored, hall-ok}
+use Rattle.reach.proofs.Reach.{marks-counted}
 use Rattle.demands.specs.Demands.{Happening, Heard, unread, doing, heard, outcome, happens, History, deskAfter, asks, asking, asked, sheet, isPlaced, isStruck, isGivenOut, changed, lineFrom, holderFrom, reason, StruckForAReason, WorkedOut}
 use Rattle.demands.proofs.Counts.{sound-after, comes-by}
 use Rattle.demands.proofs.Did.{Did, rests, Deaf, did}

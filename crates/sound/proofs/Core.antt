@@ -22,7 +22,7 @@ use Rattle.rules.specs.declared.Phase.the-variants.{Stopped, Idle, Taken, Revok
 use Rattle.rules.specs.declared.Core.{Core}
 use Rattle.rules.specs.Floor.{holds}
 use Rattle.reach.specs.Sound.{ListOk, LineOk, FloorOk, CoreOk}
-use Rattle.reach.specs.InLine.{clash}
+use Rattle.reach.proofs.InLine.{clash}
 use Rattle.sound.specs.Test.{inOrder, isFirst, placeSound, isEmpty, placeBehind, lineSound, holderSound, floorSound, coreSound}
 use Rattle.sound.proofs.Laws.{and-both, and-three, and-four, both, three, four, all-below, or-behind, or-within, or-right, filled-behind, behind-filled}
 use Rattle.sound.proofs.InLine.{sorted-from, sorted-at, once-from, once-at, place-in, found-seat, found-place, none-in}

@@ -10,9 +10,9 @@ use borrow.Author.Tests.{eqb-true, eq-eqb, ltb-true, lt-ltb}
 use Rattle.words.specs.Choice.{if_then_else_, by-test}
 use Rattle.line.specs.declared.Entry.{Entry}
 use Rattle.line.specs.Line.{empty, before, isIn}
-use Rattle.marks.specs.InLine.{in-nil, in-cons}
+use Rattle.marks.proofs.InLine.{in-nil, in-cons}
 use Rattle.reach.specs.Sound.{AtMost, Sorted, Once}
-use Rattle.reach.specs.InLine.{clash}
+use Rattle.reach.proofs.InLine.{clash}
 use Rattle.sound.proofs.Laws.{or-behind}
 
 -- highest first: the next place has no higher priority

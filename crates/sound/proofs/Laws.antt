@@ -13,7 +13,7 @@ use Rattle.words.specs.Choice.{by-test}
 use Rattle.words.specs.Below.{allBelow, and-left, and-right}
 use Rattle.words.specs.Table.{padded, padded-is, padded-at}
 use Rattle.hall.specs.Identity.{lengthAllowed}
-use Rattle.reach.specs.InLine.{clash}
+use Rattle.reach.proofs.InLine.{clash}
 
 -- an `&&` of two to five tests, and a test of every number below n, from both sides
 pub and-both : (p q : Bool) → (p && q) ≡ true → (p ≡ true) × (q ≡ true)

@@ -18,8 +18,8 @@ use Rattle.hall.specs.declared.Found.the-variants.{At, Nowhere}
 use Rattle.hall.specs.Seats.{isPresent, queues, receivesOnly, hasSsrc, seatOf, firstFrom, inRange}
 use Rattle.hall.specs.Identity.{octetsOf, nameOf, noName, nameAt, same, hasName, seatNamed, lengthAllowed}
 use Rattle.reach.specs.Sound.{SeatsOk}
-use Rattle.reach.specs.InLine.{clash}
-use Rattle.reach.specs.Hall.{found-holds, none-holds}
+use Rattle.reach.proofs.InLine.{clash}
+use Rattle.reach.proofs.Hall.{found-holds, none-holds}
 use Rattle.sound.specs.Test.{octetBehind, nameSound, finds, ssrcAt, takenSound, freeSound, seatSound, seatsSound}
 use Rattle.sound.specs.Shaped.{ShapedSeats}
 use Rattle.sound.proofs.Laws.{and-both, and-four, and-five, both, four, five, all-below, or-behind, or-within, or-right, filled-behind, behind-filled, within-column}

@@ -8,8 +8,8 @@ use Rattle.hall.specs.Seats.{inRange}
 use Rattle.hall.specs.Identity.{nameAt}
 use Rattle.history.specs.Doing.{Desk, Doing, made, after, afterAll}
 use Rattle.reach.specs.Sound.{Sound}
-use Rattle.reach.specs.Hall.{hall-ok}
-use Rattle.reach.specs.Reach.{sound-kept, sound-reached}
+use Rattle.reach.proofs.Hall.{hall-ok}
+use Rattle.reach.proofs.Reach.{sound-kept, sound-reached}
 use Rattle.sound.specs.Test.{seatsSound, coreSound, isSound}
 use Rattle.sound.specs.Shaped.{Shaped}
 use Rattle.sound.proofs.Laws.{and-both, both}

@@ -35,9 +35,9 @@ use Rattle.desk.specs.declared.Timer.{Timer}
 use Rattle.desk.specs.declared.Timer.the-variants as timer
 use Rattle.desk.specs.Timers.{halted, stops, endsIn, revokesIn, idleAgain, revokesAgain, grantsOrEnds, grantsAgain, fires, isStopped, runs, running, expires}
 use Rattle.desk.specs.Events.{starts, sitting, callerOf, heard, struckOff, releases, asksPlace, talks, step}
-use Rattle.marks.specs.InLine.{in-nil, in-cons, in-enter, in-without, only-at, without-less}
+use Rattle.marks.proofs.InLine.{in-nil, in-cons, in-enter, in-without, only-at, without-less}
 use Rattle.reach.specs.Sound.{ListOk, LineOk, FloorOk, NumbersOk, HallOk, CoreOk, isBusy, causeOk}
-use Rattle.reach.specs.InLine.{clash, none-ok, without-ok, enter-ok, line-ok, present-below}
+use Rattle.reach.proofs.InLine.{clash, none-ok, without-ok, enter-ok, line-ok, present-below}
 
 unfoldable pub Ok : Hall → Step → Type 0
 Ok h r = CoreOk h (r .core)

@@ -18,7 +18,7 @@ use Rattle.hall.specs.declared.Found.the-variants.{At, Nowhere}
 use Rattle.hall.specs.Seats.{isPresent, firstFrom, withSeat}
 use Rattle.hall.specs.Identity.{octetsOf, nameOf, noName, nameAt, withName, same, lengthAllowed}
 use Rattle.hall.specs.Seats.{noOne, inRange}
-use Rattle.reach.specs.InLine.{clash}
+use Rattle.reach.proofs.InLine.{clash}
 use Rattle.reach.specs.Sound.{HallOk, SeatsOk}
 
 -- what a search for the lowest seat says of the seats: of the one it finds, and of all where it finds none

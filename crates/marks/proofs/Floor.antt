@@ -34,8 +34,8 @@ use Rattle.desk.specs.declared.Timer.{Timer}
 use Rattle.desk.specs.declared.Timer.the-variants as timer
 use Rattle.desk.specs.Timers.{halted, stops, endsIn, revokesIn, idleAgain, revokesAgain, grantsOrEnds, grantsAgain, fires, isStopped, runs, running, expires}
 use Rattle.desk.specs.Events.{starts, callerOf, heard, struckOff, releases, asksPlace, talks, step, leaves, leave}
-use Rattle.history.specs.Doing.{Desk, Doing, event, leaves as leaves-now, joins, does}
-use Rattle.marks.specs.Marks.{one, isGiven, FloorCounts}
+use Rattle.history.specs.Doing.{event, leaves as leaves-now, joins, does}
+use Rattle.marks.specs.Marks.{one, isGiven, FloorCounts, EveryFloorCounts}
 
 -- a step's account of one seat, from the core it began with
 unfoldable pub Counts : Core → ℕ → Step → Type 0
@@ -262,7 +262,7 @@ module _ (s : ℕ) (c : Core) where
       (λ _. by-if (Counts c s) (waits c t) (λ _. strikes t) (λ _. refuses _))
 
 -- the law: whatever happens to whatever desk, for every seat
-pub floor-counts : (d : Desk) (x : Doing) (s : ℕ) → FloorCounts (d .core) (does d x .core) (does d x .report .marks) s
+pub floor-counts : EveryFloorCounts
 unfolding does leave Counts
 floor-counts d (event e) s = steps s (d .core) (d .hall) e
 floor-counts d (leaves-now t) s =

@@ -19,7 +19,6 @@ use Rattle.hall.specs.declared.Answer.{Answer}
 use Rattle.hall.specs.declared.Answer.the-variants.{NoSuchSeat}
 use Rattle.hall.specs.Seats.{only, alone, queues, receivesOnly, effective, isPresent, vacated}
 use Rattle.hall.specs.Join.{join}
-use Rattle.rules.specs.declared.Beside.the-variants.{T2, T20}
 use Rattle.rules.specs.declared.Mark.the-variants.{NoSeat, Seat}
 use Rattle.rules.specs.declared.Marks.{Marks}
 use Rattle.rules.specs.declared.Phase.{Phase}
@@ -38,16 +37,11 @@ use Rattle.desk.specs.declared.Timer.{Timer}
 use Rattle.desk.specs.declared.Timer.the-variants as timer
 use Rattle.desk.specs.Timers.{halted, stops, endsIn, revokesIn, idleAgain, revokesAgain, grantsOrEnds, grantsAgain, fires, isStopped, runs, running, expires}
 use Rattle.desk.specs.Events.{starts, callerOf, heard, struckOff, releases, asksPlace, talks, step, leaves, leave}
-use Rattle.history.specs.Doing.{Desk, Doing, event, leaves as leaves-now, joins, does}
-use Rattle.marks.specs.Marks.{one, isOut, LineCounts}
-use Rattle.marks.specs.InLine.{in-nil, in-cons, in-enter, in-without, only-at, without-less, in-added}
+use Rattle.history.specs.Doing.{event, leaves as leaves-now, joins, does}
+use Rattle.marks.specs.Marks.{one, isOut, LineCounts, Fit, EveryLineCounts}
+use Rattle.marks.proofs.InLine.{in-nil, in-cons, in-enter, in-without, only-at, without-less, in-added}
 
--- what the account asks of a desk: fifteen places, a limit that they hold, and seats that there are
-pub record Fit (c : Core) (h : Hall) : Type 0 where
-  pub room : length (waiting (c .line)) ≤ 15
-  pub limit : h .settings .limit ≤ 15
-  pub seats : (t : ℕ) → isIn t (waiting (c .line)) ≡ true → t < 16
-
+-- a step's account of one seat, from the core it began with
 unfoldable pub Kept : Core → ℕ → Step → Type 0
 Kept c s r = LineCounts c (r .core) (r .report .marks) s
 
@@ -339,7 +333,7 @@ module _ (s : ℕ) (c : Core) (h₀ : Hall) (f : Fit c h₀) where
       (λ _. by-if (Kept c s) (waits c t) (λ w. strikes t w) (λ _. refuses _))
 
 -- the law: whatever happens to a desk whose line fits, for every seat
-pub line-counts : (d : Desk) (x : Doing) (s : ℕ) → Fit (d .core) (d .hall) → LineCounts (d .core) (does d x .core) (does d x .report .marks) s
+pub line-counts : EveryLineCounts
 unfolding does leave Kept
 line-counts d (event e) s f = steps s (d .core) (d .hall) f e
 line-counts d (leaves-now t) s f =

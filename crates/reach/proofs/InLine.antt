@@ -14,7 +14,7 @@ use Rattle.line.specs.Line.{waiting, lineOf, isIn, enter, ahead, without}
 use Rattle.line.proofs.Laws.{waiting-lineOf, without-le, put-length, ahead-le}
 use Rattle.hall.specs.declared.Hall.{Hall}
 use Rattle.hall.specs.Seats.{isPresent}
-use Rattle.marks.specs.InLine.{in-nil, in-cons, in-enter, in-without}
+use Rattle.marks.proofs.InLine.{in-nil, in-cons, in-enter, in-without}
 use Rattle.reach.specs.Sound.{AtMost, Sorted, Once, ListOk, LineOk, HallOk}
 
 pub clash {ℓ} : {A : Type ℓ} {b : Bool} → b ≡ true → b ≡ false → A
