@@ -1,15 +1,15 @@
 -- A fresh desk is sound, and whatever happens keeps it so. Assumes nothing.
-use Prim.Native.Nat.{ℕ, zero, suc, _≤_, _<_}
+use Prim.Native.Nat.{ℕ, _<_}
 use mathlib.Core.Path.{_≡_, refl, ap, sym, _∙_}
-use mathlib.Core.Bool.{Bool, true, false, not, _&&_}
-use mathlib.Core.List.{List, [], _∷_, _++_}
+use mathlib.Core.Bool.{true, false, not, and-false}
+use mathlib.Core.List.{List, [], _∷_}
 use native.Mathlib.Omega.{arith}
-use lib.Dec.{eqb, leb}
-use lib.ListN.{length, getD, replicate}
-use lib.Seq.{take-take, take-append-seam}
-use borrow.Author.Tests.{eqb-true, eqb-false, eq-eqb, ne-eqb, leb-true, not-false}
-use Rattle.words.specs.Choice.{if_then_else_, if-yes, if-no, by-test}
-use Rattle.history.specs.Cases.{by-if}
+use lib.Dec.{eqb}
+use lib.ListN.{length, getD}
+use borrow.Author.Tests.{eqb-true, eq-eqb, ne-eqb, not-false}
+use Rattle.words.specs.Choice.{if-yes, if-no, by-test, by-if}
+use Rattle.words.specs.Table.{getD-fill}
+use Rattle.words.proofs.Tests.{clash}
 use Rattle.line.specs.Line.{waiting, lineOf, isIn, without}
 use Rattle.line.proofs.Laws.{waiting-lineOf}
 use Rattle.hall.specs.declared.Settings.{Settings}
@@ -22,6 +22,7 @@ use Rattle.hall.specs.declared.Found.the-variants.{At, Nowhere}
 use Rattle.hall.specs.Seats.{inRange, emptyHall, isPresent, only, hasSsrc, seatOf, freeSeat, withSeat, vacated, noOne}
 use Rattle.hall.specs.Identity.{octetsOf, nameOf, noName, noNames, nameAt, withName, same, hasName, seatNamed, lengthAllowed}
 use Rattle.hall.specs.Join.{isAt, ssrcTaken, seated, join}
+use Rattle.hall.proofs.Laws.{not-at, found-holds, none-holds, allowed-short, name-octets, no-name-whole, same-sym}
 use Rattle.rules.specs.declared.Phase.{Phase}
 use Rattle.rules.specs.declared.Core.{Core}
 use Rattle.rules.specs.declared.Step.{Step}
@@ -36,28 +37,18 @@ use Rattle.marks.proofs.InLine.{in-without, only-at}
 use Rattle.history.specs.Doing.{Desk, Doing, event, leaves as leaves-now, joins, made, does, deskOf, after, afterAll}
 use Rattle.reach.specs.Sound.{ListOk, LineOk, NumbersOk, HallOk, CoreOk, SeatsOk, Sound}
 use Rattle.reach.specs.Reach.{SoundMade, SoundKept, SoundReached, MarksCounted}
-use Rattle.reach.proofs.InLine.{clash, none-ok, line-ok, without-ok, present-below}
+use Rattle.reach.proofs.InLine.{none-ok, line-ok, without-ok, present-below}
 use Rattle.reach.proofs.Steps.{Ok, ends, strikes, steps}
-use Rattle.reach.proofs.Hall.{found-holds, none-holds, hall-ok, seats-kept, present-there, present-else}
-
--- a column that is one value throughout
-all {ℓ} : {A : Type ℓ} (a : A) (n i : ℕ) → getD (replicate n a) i a ≡ a
-all a zero i = refl
-all a (suc n) zero = refl
-all a (suc n) (suc i) = all a n i
-
-no-name-whole : noName ≡ nameOf (octetsOf noName)
-unfolding octetsOf nameOf
-no-name-whole = refl
+use Rattle.reach.proofs.Hall.{hall-ok, seats-kept, present-there, present-else}
 
 module _ (g : Settings) (r : inRange g ≡ true) where
   nobody-there : (s : ℕ) → isPresent (emptyHall g) s ≡ false
   unfolding emptyHall
-  nobody-there s = all false 16 s
+  nobody-there s = getD-fill false 16 s
 
   no-name-there : (s : ℕ) → nameAt noNames s ≡ noName
   unfolding noNames
-  no-name-there s = all noName 16 s
+  no-name-there s = getD-fill noName 16 s
 
   fresh-seats : SeatsOk (emptyHall g) noNames
   unfolding emptyHall noNames
@@ -70,7 +61,7 @@ module _ (g : Settings) (r : inRange g ≡ true) where
         lengths = λ s p. clash p (nobody-there s);
         behind = λ s. rw (no-name-there s) no-name-whole;
         identities = λ s t p q e. clash p (nobody-there s);
-        free = λ s p. (all 0 16 s, all 0 16 s, all false 16 s, all false 16 s, no-name-there s);
+        free = λ s p. (getD-fill 0 16 s, getD-fill 0 16 s, getD-fill false 16 s, getD-fill false 16 s, no-name-there s);
       }
 
   fresh-core : CoreOk (emptyHall g) fresh
@@ -140,11 +131,7 @@ module _ (h : Hall) (ns : Names) (k : SeatsOk h ns) (t : ℕ) (p : isPresent h t
       let x = without (only t) (waiting (c .line)) in
       let y : ListOk h x = without-ok h (only t) (waiting (c .line)) (o .line .list) in
       let w : waiting (lineOf x) ≡ x = waiting-lineOf x (omega (arith, y .within, hall-ok h ns k .limit)) in
-      ap (isIn t) w ∙ in-without t (only t) (waiting (c .line)) ∙ rw (only-at t t below, eq-eqb t t refl) (no (isIn t (waiting (c .line))))
-    where
-      no : (b : Bool) → (b && false) ≡ false
-      no true = refl
-      no false = refl
+      ap (isIn t) w ∙ in-without t (only t) (waiting (c .line)) ∙ rw (only-at t t below, eq-eqb t t refl) (and-false (isIn t (waiting (c .line))))
 
   struck-phase : (c : Core) → struckOff c t .core .phase ≡ c .phase
   unfolding struckOff
@@ -160,32 +147,6 @@ module _ (h : Hall) (ns : Names) (k : SeatsOk h ns) (t : ℕ) (p : isPresent h t
       (λ n. core-left c o n f))
 
 -- join
-and-both : (p q : Bool) → (p && q) ≡ true → (p ≡ true) × (q ≡ true)
-and-both true q h = (refl, h)
-and-both false q h = clash h refl
-
-same-sym : (a b : List ℕ) → same a b ≡ same b a
-unfolding same if_then_else_
-same-sym [] [] = refl
-same-sym [] (y ∷ b) = refl
-same-sym (x ∷ a) [] = refl
-same-sym (x ∷ a) (y ∷ b) =
-    by-test (eqb x y)
-    (λ q. rw (q, eq-eqb y x (sym (eqb-true x y q))) (same-sym a b))
-    (λ q. rw (q, ne-eqb y x (λ e. eqb-false x y q (sym e))))
-
-allowed-short : (o : List ℕ) → lengthAllowed o ≡ true → length o ≤ 62
-unfolding lengthAllowed
-allowed-short o q = leb-true _ _ (and-both (leb 1 (length o)) (leb (length o) 62) q .1)
-
-name-octets : (o : List ℕ) → length o ≤ 62 → octetsOf (nameOf o) ≡ o
-unfolding octetsOf nameOf
-name-octets o h = rw (take-take (length o) 62 (o ++ replicate 62 0) h) (take-append-seam o (replicate 62 0))
-
-not-at : (f : Found) → isAt f ≡ false → f ≡ Nowhere
-not-at (At s) q = clash refl q
-not-at Nowhere q = refl
-
 module _ (h : Hall) (ns : Names) (k : SeatsOk h ns) (c : Core) (v : CoreOk h c) (o : List ℕ) (n : Newcomer) where
   abbrev Kept : Joined → Type 0
   Kept j = SeatsOk (j .hall) (j .names) × CoreOk (j .hall) c

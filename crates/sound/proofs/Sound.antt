@@ -1,11 +1,11 @@
 -- A desk passes the test exactly if it is sound: the seats' half and the core's half together. Assumes nothing.
+use Rattle.words.proofs.Tests.{and-both, both}
 use Rattle.hall.specs.Identity.{nameAt}
 use Rattle.history.specs.Doing.{made, after, afterAll}
 use Rattle.reach.proofs.Hall.{hall-ok}
 use Rattle.reach.proofs.Reach.{sound-kept, sound-reached}
 use Rattle.sound.specs.Test.{seatsSound, coreSound, isSound}
 use Rattle.sound.specs.Passes.{SoundTest, TestSound, SoundShaped, ReachedPasses, PassesKept}
-use Rattle.sound.proofs.Laws.{and-both, both}
 use Rattle.sound.proofs.Core.{core-from, core-test, fifteen}
 use Rattle.sound.proofs.Seats.{seats-from, seats-test, sixty-two}
 
