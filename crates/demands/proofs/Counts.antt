@@ -1,28 +1,26 @@
 -- Statements 1, 4 and the first half of 5. Assumes nothing.
-use Prim.Native.Nat.{ℕ, zero, suc, _+_}
+use Prim.Native.Nat.{ℕ, _+_}
 use mathlib.Core.Path.{_≡_, refl, ap, sym, _∙_}
 use mathlib.Core.Bool.{Bool, true, false, _||_}
 use mathlib.Core.List.{List, [], _∷_}
 use native.Mathlib.Omega.{arith}
 use lib.Dec.{eqb}
-use lib.ListN.{getD, replicate}
 use borrow.Author.Tests.{eqb-true}
 use Rattle.words.specs.Choice.{by-test}
+use Rattle.words.specs.Table.{getD-fill}
 use Rattle.line.specs.declared.Entry.{Entry}
 use Rattle.line.specs.Line.{isIn}
 use Rattle.hall.specs.declared.Settings.{Settings}
 use Rattle.hall.specs.Seats.{inRange}
-use Rattle.rules.specs.declared.Phase.{Phase}
-use Rattle.rules.specs.declared.Phase.the-variants.{Stopped, Idle, Taken, Revoking}
 use Rattle.rules.specs.Floor.{holds}
 use Rattle.rules.specs.Request.{waits}
 use Rattle.desk.specs.Events.{fresh}
 use Rattle.history.specs.Doing.{Desk}
 use Rattle.marks.specs.Marks.{one, LineCounts, FloorCounts}
-use Rattle.marks.specs.InLine.{in-nil, in-cons}
+use Rattle.marks.proofs.InLine.{in-nil, in-cons}
+use Rattle.marks.proofs.Floor.{holds-one}
 use Rattle.reach.specs.Sound.{Sound, Once}
-use Rattle.reach.specs.InLine.{clash}
-use Rattle.reach.specs.Reach.{sound-made, sound-kept, marks-counted}
+use Rattle.reach.proofs.Reach.{sound-made, sound-kept, marks-counted}
 use Rattle.line.proofs.Laws.{waiting-lineOf}
 use Rattle.demands.specs.Demands.{Happening, Heard, unread, doing, heard, happens, outcome, History, deskAfter, sheet, times, standing, isPlaced, isStruck, isGivenOut, isGivenAny, isEnded, NobodyDropsOut, GivenAndEnded, NothingUnseen}
 
@@ -37,18 +35,13 @@ sound-after g r (x ∷ past) = go (deskAfter happens g past) (heard x) (sound-af
     go d (doing x) k = sound-kept d x k
 
 -- in each step the marks are what the line and the holder did; a packet that was not read has no mark, and did nothing
-pub none : (n i : ℕ) → getD (replicate n false) i false ≡ false
-none zero i = refl
-none (suc n) zero = refl
-none (suc n) (suc i) = none n i
-
 pub counted : (d : Desk) (x : Happening) (s : ℕ) → Sound d →
     LineCounts (d .core) (happens d x .desk .core) (happens d x .report .marks) s × FloorCounts (d .core) (happens d x .desk .core) (happens d x .report .marks) s
 unfolding happens
 counted d x s k = go (heard x)
   where
     go : (x : Heard) → LineCounts (d .core) (outcome d x .desk .core) (outcome d x .report .marks) s × FloorCounts (d .core) (outcome d x .desk .core) (outcome d x .report .marks) s
-    go (unread n) = (rw (none 16 s) (omega arith), refl)
+    go (unread n) = (rw (getD-fill false 16 s) (omega arith), refl)
     go (doing x) = marks-counted d x s k
 
 -- 1
@@ -80,14 +73,9 @@ unfolding fresh
 floor-account g r [] s = refl
 floor-account g r (x ∷ past) s = omega (arith, floor-account g r past s, counted (deskAfter happens g past) x s (sound-after g r past) .1)
 
-holds-one : (p : Phase) (s t : ℕ) → holds p s ≡ true → holds p t ≡ true → s ≡ t
-holds-one Stopped s t a b = clash a refl
-holds-one (Idle t7) s t a b = clash a refl
-holds-one (Taken e x) s t a b = sym (eqb-true (e .seat) s a) ∙ eqb-true (e .seat) t b
-holds-one (Revoking e n) s t a b = sym (eqb-true (e .seat) s a) ∙ eqb-true (e .seat) t b
-
 pub given-and-ended : GivenAndEnded happens
-given-and-ended g r past s = (floor-account g r past s, holds-one (deskAfter happens g past .core .phase) s)
+given-and-ended g r past s =
+    (floor-account g r past s, λ t a b. eqb-true s t (sym (holds-one (deskAfter happens g past .core .phase) s t a) ∙ b))
 
 -- 5, first half: a seat's account in one step leaves no change without a mark
 pub comes-by : (old mark new a b : Bool) → one old + one mark ≡ one new + one a + one b → old ≡ false → new ≡ true → mark ≡ true

@@ -7,11 +7,11 @@ use native.Mathlib.Omega.{arith}
 use lib.Dec.{eqb, ltb}
 use lib.ListN.{length}
 use borrow.Author.Tests.{eq-eqb, leb-false}
-use Rattle.words.specs.Choice.{by-test}
-use Rattle.history.specs.Cases.{by-if}
+use Rattle.words.specs.Choice.{by-test, by-if}
+use Rattle.words.proofs.Tests.{clash, and-no}
 use Rattle.line.specs.declared.Entry.{Entry}
-use Rattle.line.specs.Line.{waiting, lineOf, isIn, enter, ahead, without, seatsOf, nobody as no-one}
-use Rattle.line.proofs.Laws.{waiting-lineOf, without-le, put-length, ahead-le}
+use Rattle.line.specs.Line.{waiting, lineOf, isIn, enter, without, seatsOf, nobody as no-one}
+use Rattle.line.proofs.Laws.{waiting-lineOf, without-le, enter-length}
 use Rattle.hall.specs.declared.Hall.{Hall}
 use Rattle.hall.specs.declared.Asked.{Asked}
 use Rattle.hall.specs.declared.Found.{Found}
@@ -19,7 +19,7 @@ use Rattle.hall.specs.declared.Found.the-variants.{At, Nowhere}
 use Rattle.hall.specs.declared.Answer.the-variants.{Done, NotExpected}
 use Rattle.hall.specs.Seats.{only, alone, queues, receivesOnly, effective, isPresent, seatOf, vacated}
 use Rattle.rules.specs.declared.Beside.{Beside}
-use Rattle.rules.specs.declared.Beside.the-variants.{NoMore, T2, T20}
+use Rattle.rules.specs.declared.Beside.the-variants.{T2}
 use Rattle.rules.specs.declared.Phase.{Phase}
 use Rattle.rules.specs.declared.Phase.the-variants.{Stopped, Idle, Taken, Revoking}
 use Rattle.rules.specs.declared.Core.{Core}
@@ -42,10 +42,12 @@ use Rattle.desk.specs.declared.Timer.the-variants as timer
 use Rattle.desk.specs.Timers.{halted, stops, endsIn, revokesIn, idleAgain, revokesAgain, grantsOrEnds, grantsAgain, fires, isStopped, runs, running, expires}
 use Rattle.desk.specs.Events.{starts, sitting, callerOf, heard, struckOff, releases, asksPlace, talks, step, leaves, leave}
 use Rattle.history.specs.Doing.{Desk, Doing, event, leaves as leaves-now, joins, does}
-use Rattle.marks.specs.InLine.{in-nil, only-at, without-less}
+use Rattle.marks.proofs.InLine.{in-nil, only-at, without-less}
+use Rattle.marks.proofs.Floor.{t7-none}
 use Rattle.reach.specs.Sound.{HallOk, CoreOk, Sound, isBusy}
-use Rattle.reach.specs.InLine.{clash, present-below}
-use Rattle.reach.specs.Hall.{hall-ok}
+use Rattle.reach.proofs.InLine.{present-below}
+use Rattle.reach.proofs.Steps.{idle-quiet}
+use Rattle.reach.proofs.Hall.{hall-ok}
 use Rattle.demands.specs.Demands.{Asking, nobody, asks, fromSeat, asking, priorityOf, moves, isMoved, isFound, isT4, reasonOf}
 
 abbrev pub marksOf : Mark → List Bool → Mark → Given → Marks
@@ -73,33 +75,11 @@ pub data Did (a : Asking) (why : ℕ → Bool) (h : Hall) (c d : Core) (m : Mark
   closes : a ≡ nobody → ((s : ℕ) → why s ≡ true) → ((s : ℕ) → isIn s (waiting (c .line)) ≡ true → s < 16) → ((s : ℕ) → holds (c .phase) s ≡ false) → waiting (d .line) ≡ [] → d .phase ≡ Stopped →
       m ≡ marksOf NoSeat (seatsOf (waiting (c .line))) NoSeat NotGiven → Did a why h c d m
 
-pub and-no : (b c : Bool) → c ≡ false → (b && c) ≡ false
-and-no true c q = q
-and-no false c q = refl
-
-idle-quiet : (p : Phase) → isIdle p ≡ true → isBusy p ≡ false
-idle-quiet Stopped q = refl
-idle-quiet (Idle t7) q = refl
-idle-quiet (Taken e b) q = clash q refl
-idle-quiet (Revoking e n) q = clash q refl
-
 stopped-quiet : (p : Phase) → isStopped p ≡ true → isBusy p ≡ false
 stopped-quiet Stopped q = refl
 stopped-quiet (Idle t7) q = refl
 stopped-quiet (Taken e b) q = clash q refl
 stopped-quiet (Revoking e n) q = clash q refl
-
-t7-none : (p : Phase) (s : ℕ) → running p .t7 ≡ true → holds p s ≡ false
-t7-none Stopped s h = refl
-t7-none (Idle t7) s h = refl
-t7-none (Taken e NoMore) s h = clash h refl
-t7-none (Taken e T2) s h = clash h refl
-t7-none (Taken e T20) s h = clash h refl
-t7-none (Revoking e n) s h = clash h refl
-
-entered-length : (e : Entry) (es : List Entry) → length (enter e es) ≡ length es + 1
-unfolding enter
-entered-length e es = put-length es (ahead (e .priority) es) e (ahead-le (e .priority) es)
 
 -- who does not wait moves nobody, and so does one who asks at the same priority
 out-still : (t p : ℕ) (es : List Entry) → isIn t es ≡ false → Still (asks t p) es
@@ -201,7 +181,7 @@ module _ (h : Hall) (k : HallOk h) (c : Core) (o : CoreOk h c) (deaf : (s : ℕ)
     shifted press w q =
         let x = without (only t) line in
         let l : length x < length line = without-less t (only t) line (only-at t t (below t w) ∙ eq-eqb t t refl) w in
-        let m : length (enter (entry t p) x) ≤ 15 = rw (entered-length (entry t p) x) (omega (arith, room)) in
+        let m : length (enter (entry t p) x) ≤ 15 = rw (enter-length (entry t p) x) (omega (arith, room)) in
         let z = six (c withLine moved (c .line) (entry t p)) h t press in
         shifts t p (below t w) refl (rw (w, q)) (ap waiting (z .0) ∙ waiting-lineOf (enter (entry t p) x) m) (z .1) (z .2)
 
@@ -216,7 +196,7 @@ module _ (h : Hall) (k : HallOk h) (c : Core) (o : CoreOk h c) (deaf : (s : ℕ)
     unfolding placed full Plain
     comes press w v f =
         let l : length line < h .settings .limit = leb-false _ _ f in
-        let m : length (enter (entry t p) line) ≤ 15 = rw (entered-length (entry t p) line) (omega (arith, k .limit)) in
+        let m : length (enter (entry t p) line) ≤ 15 = rw (enter-length (entry t p) line) (omega (arith, k .limit)) in
         let z = six (c withLine lineOf (enter (entry t p) line)) h t press in
         places t p refl w v (ap waiting (z .0) ∙ waiting-lineOf (enter (entry t p) line) m) (z .1)
         (ap (λ (x : Marks). marksOf (Seat t) (x .struck) (x .ended) (x .given)) (z .2))

@@ -1,12 +1,14 @@
 -- What the nine things that a step can do say of one seat, of the line and of the holder. Assumes nothing.
 use Prim.Native.Nat.{ℕ, _<_}
 use mathlib.Core.Path.{_≡_, refl, ap, sym, _∙_}
-use mathlib.Core.Bool.{Bool, true, false, _||_}
+use mathlib.Core.Bool.{Bool, true, false, or-true}
 use mathlib.Core.List.{List, [], _∷_}
 use lib.Dec.{eqb}
 use lib.ListN.{getD}
 use borrow.Author.Tests.{eqb-true, eq-eqb}
 use Rattle.words.specs.Choice.{if-yes, if-no}
+use Rattle.words.specs.Table.{getD-fill}
+use Rattle.words.proofs.Tests.{clash}
 use Rattle.line.specs.declared.Entry.{Entry}
 use Rattle.line.specs.Line.{waiting, isIn, without, seatsOf, nobody as no-one}
 use Rattle.hall.specs.declared.Hall.{Hall}
@@ -19,20 +21,14 @@ use Rattle.rules.specs.declared.Marks.{Marks}
 use Rattle.rules.specs.Floor.{holds}
 use Rattle.desk.specs.Timers.{isStopped}
 use Rattle.marks.specs.Marks.{isSeat}
-use Rattle.marks.specs.InLine.{in-nil, in-cons, only-at, in-added}
-use Rattle.reach.specs.InLine.{clash}
+use Rattle.marks.proofs.InLine.{in-nil, in-cons, only-at, in-added}
 use Rattle.demands.specs.Demands.{Asking, nobody, asks, moves, comesIn, goesOut, heldAfter, isPlaced, isStruck, isEnded}
-use Rattle.demands.proofs.Counts.{none}
 use Rattle.demands.proofs.Did.{Did, rests, gives, places, shifts, strikes, passes, frees, halts, closes, Still}
-
-pub or-true : (b : Bool) → (b || true) ≡ true
-or-true true = refl
-or-true false = refl
 
 without-none : (es : List Entry) → without no-one es ≡ es
 unfolding without
 without-none [] = refl
-without-none (e ∷ es) = if-no _ _ _ (none 16 (e .seat)) ∙ ap (λ (l : List Entry). e ∷ l) (without-none es)
+without-none (e ∷ es) = if-no _ _ _ (getD-fill false 16 (e .seat)) ∙ ap (λ (l : List Entry). e ∷ l) (without-none es)
 
 without-all : (seats : List Bool) (es : List Entry) → ((s : ℕ) → isIn s es ≡ true → getD seats s false ≡ true) → without seats es ≡ []
 unfolding without
@@ -64,13 +60,13 @@ module _ {a : Asking} {why : ℕ → Bool} {h : Hall} {c d : Core} {m : Marks} w
 
   -- 2: who is struck off has a reason
   pub struck-why : Did a why h c d m → (s : ℕ) → isStruck s m ≡ true → why s ≡ true
-  struck-why (rests q l f e) s z = clash z (ap (isStruck s) e ∙ none 16 s)
-  struck-why (gives t q l f e) s z = clash z (ap (isStruck s) e ∙ none 16 s)
-  struck-why (places t p q w v l f e) s z = clash z (ap (isStruck s) e ∙ none 16 s)
-  struck-why (shifts t p b q w l f e) s z = clash z (ap (isStruck s) e ∙ none 16 s)
+  struck-why (rests q l f e) s z = clash z (ap (isStruck s) e ∙ getD-fill false 16 s)
+  struck-why (gives t q l f e) s z = clash z (ap (isStruck s) e ∙ getD-fill false 16 s)
+  struck-why (places t p q w v l f e) s z = clash z (ap (isStruck s) e ∙ getD-fill false 16 s)
+  struck-why (shifts t p b q w l f e) s z = clash z (ap (isStruck s) e ∙ getD-fill false 16 s)
   struck-why (strikes t b q y l f e) s z = ap why (sym (eqb-true t s (sym (ap (isStruck s) e ∙ only-at t s b) ∙ z))) ∙ y
-  struck-why (passes t x es q w l f e) s z = clash z (ap (isStruck s) e ∙ none 16 s)
-  struck-why (frees t q w l f e) s z = clash z (ap (isStruck s) e ∙ none 16 s)
+  struck-why (passes t x es q w l f e) s z = clash z (ap (isStruck s) e ∙ getD-fill false 16 s)
+  struck-why (frees t q w l f e) s z = clash z (ap (isStruck s) e ∙ getD-fill false 16 s)
   struck-why (halts t q y b l f e) s z = y s
   struck-why (closes q y b n l f e) s z = y s
 

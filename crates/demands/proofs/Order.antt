@@ -1,29 +1,30 @@
 -- Statement 3: of two who wait at one priority, the one in front was placed or moved before the other. Assumes nothing.
 use Prim.Native.Nat.{ℕ, suc, _≤_, _<_}
 use mathlib.Core.Path.{_≡_, refl, ap, sym, subst, _∙_}
-use mathlib.Core.Bool.{Bool, true, false, not, _&&_, _||_}
+use mathlib.Core.Bool.{Bool, true, false, not, _&&_, _||_, or-true}
 use mathlib.Core.List.{List, [], _∷_}
 use native.Mathlib.Omega.{arith}
 use lib.Dec.{eqb, leb}
 use lib.ListN.{length, getD}
 use borrow.Author.Tests.{eqb-true, eq-eqb, ne-eqb, leb-false}
-use Rattle.words.specs.Choice.{if_then_else_, if-yes, if-no, by-test}
-use Rattle.history.specs.Cases.{by-if}
+use Rattle.words.specs.Choice.{if_then_else_, if-yes, if-no, by-test, by-if}
+use Rattle.words.proofs.Tests.{clash, and-no, or-left, or-right, neither}
 use Rattle.line.specs.declared.Entry.{Entry}
-use Rattle.line.specs.Line.{waiting, isIn, before, empty, enter, ahead, without}
+use Rattle.line.specs.Line.{waiting, isIn, empty, enter, without}
+use Rattle.line.proofs.Laws.{enter-nil, enter-cons, before-here, before-later}
 use Rattle.hall.specs.declared.Settings.{Settings}
 use Rattle.hall.specs.declared.Hall.{Hall}
 use Rattle.hall.specs.Seats.{inRange, only}
 use Rattle.rules.specs.declared.Core.{Core}
 use Rattle.rules.specs.declared.Marks.{Marks}
 use Rattle.rules.specs.Request.{entry, waits}
-use Rattle.marks.specs.InLine.{in-nil, in-cons, in-without, only-at}
+use Rattle.marks.proofs.InLine.{in-nil, in-cons, in-without, only-at}
 use Rattle.reach.specs.Sound.{AtMost, Sorted, ListOk}
-use Rattle.reach.specs.InLine.{clash, without-ok}
+use Rattle.reach.proofs.InLine.{without-ok}
 use Rattle.demands.specs.Demands.{Asking, nobody, Row, happens, History, deskAfter, sheet, rowOf, isPlaced, priorityOf, moves, isMoved, lineFrom, latest, ComesFirst, GoesToTheFirst}
 use Rattle.demands.proofs.Counts.{sound-after}
-use Rattle.demands.proofs.Did.{Did, rests, gives, places, shifts, strikes, passes, frees, halts, closes, and-no}
-use Rattle.demands.proofs.OfEach.{or-true, goes-to-head}
+use Rattle.demands.proofs.Did.{Did, rests, gives, places, shifts, strikes, passes, frees, halts, closes}
+use Rattle.demands.proofs.OfEach.{goes-to-head}
 use Rattle.demands.proofs.Steps.{step-did, line-worked-out}
 
 -- all that stand behind an entry at its priority have a later time
@@ -34,15 +35,6 @@ Later at e (x ∷ xs) = (x .priority ≡ e .priority → at (e .seat) < at (x .s
 abbrev pub InOrder : (ℕ → ℕ) → List Entry → Type 0
 InOrder at [] = Unit
 InOrder at (e ∷ es) = Later at e es × InOrder at es
-
--- going in, place by place
-enter-cons : (e x : Entry) (xs : List Entry) → enter e (x ∷ xs) ≡ (if leb (e .priority) (x .priority) then x ∷ enter e xs else e ∷ x ∷ xs)
-unfolding enter ahead if_then_else_
-enter-cons e x xs = by-test (leb (e .priority) (x .priority)) (λ q. rw q) (λ q. rw q)
-
-enter-nil : (e : Entry) → enter e [] ≡ e ∷ []
-unfolding enter ahead
-enter-nil e = refl
 
 first-in : (x : Entry) (xs : List Entry) → isIn (x .seat) (x ∷ xs) ≡ true
 first-in x xs = in-cons (x .seat) x xs ∙ rw (eq-eqb (x .seat) (x .seat) refl)
@@ -100,14 +92,6 @@ order-same at to (x ∷ xs) f k =
 abbrev stamp : Marks → Asking → List Entry → ℕ → (ℕ → ℕ) → ℕ → ℕ
 stamp m a es n at s = if isPlaced s m || isMoved s a es then suc n else at s
 
-or-no : (p q : Bool) → p ≡ false → q ≡ false → (p || q) ≡ false
-or-no true q a b = a
-or-no false q a b = b
-
-or-left : (p q : Bool) → p ≡ true → (p || q) ≡ true
-or-left true q a = refl
-or-left false q a = clash a refl
-
 apart : (t s : ℕ) (es : List Entry) → isIn t es ≡ false → isIn s es ≡ true → eqb t s ≡ false
 apart t s es w i = by-test (eqb t s) (λ z. clash i (ap (λ (x : ℕ). isIn x es) (sym (eqb-true t s z)) ∙ w)) (λ z. z)
 
@@ -119,7 +103,7 @@ module _ (a : Asking) (why : ℕ → Bool) (h : Hall) (c d : Core) (m : Marks) (
   to = stamp m a line n at
 
   kept : (s : ℕ) → isPlaced s m ≡ false → isMoved s a line ≡ false → to s ≡ at s
-  kept s p q = if-no _ _ _ (or-no _ _ p q)
+  kept s p q = if-no _ _ _ (neither _ _ p q)
 
   comes : (t p : ℕ) (es : List Entry) → isIn t es ≡ false → to t ≡ suc n → ((s : ℕ) → eqb t s ≡ false → to s ≡ at s) → Sorted es → InOrder at es → InOrder to (enter (entry t p) es)
   comes t p es w z f o i =
@@ -140,10 +124,6 @@ module _ (a : Asking) (why : ℕ → Bool) (h : Hall) (c d : Core) (m : Marks) (
       (if-yes (isPlaced t m || isMoved t a line) (suc n) (at t) (or-right (isPlaced t m) (isMoved t a line) (ap (λ (x : Asking). isMoved t x line) q ∙ rw (eq-eqb t t refl, w))))
       (λ s z. kept s (ap (isPlaced s) e) (ap (λ (x : Asking). isMoved s x line) q ∙ ap (λ (x : Bool). x && moves t p line) z))
       (without-ok h (only t) line ok .sorted) (order-without at (only t) line k))
-    where
-      or-right : (x y : Bool) → y ≡ true → (x || y) ≡ true
-      or-right true y z = refl
-      or-right false y z = z
   order-kept (strikes t b q y l f e) = rw l (quiet (without (only t) line) q (λ s. ap (isPlaced s) e) (order-without at (only t) line k))
   order-kept (passes t x es q w l f e) =
       rw l (quiet (without (only (x .seat)) (x ∷ es)) q (λ s. ap (isPlaced s) e) (rw w at (order-without at (only (x .seat)) line k)))
@@ -167,20 +147,12 @@ in-order g r (x ∷ past) =
     (order-kept _ _ _ _ _ _ (λ s. latest s rows) (length rows) (λ s. latest-past s rows) (sound-after g r past .core .line .list) (rw (sym w) at (in-order g r past)) (step-did g r past x)))
 
 -- the priority at which a seat waits, place by place
-before-first : (s : ℕ) (x : Entry) (xs : List Entry) → eqb (x .seat) s ≡ true → before s (x ∷ xs) ≡ 0
-unfolding before
-before-first s x xs q = if-no _ _ _ (ap not q)
-
-before-next : (s : ℕ) (x : Entry) (xs : List Entry) → eqb (x .seat) s ≡ false → before s (x ∷ xs) ≡ suc (before s xs)
-unfolding before
-before-next s x xs q = if-yes _ _ _ (ap not q)
-
 priority-cons : (s : ℕ) (x : Entry) (xs : List Entry) → priorityOf s (x ∷ xs) ≡ (if eqb (x .seat) s then x .priority else priorityOf s xs)
 unfolding priorityOf
 priority-cons s x xs =
     by-test (eqb (x .seat) s)
-    (λ q. ap (λ (n : ℕ). getD (x ∷ xs) n empty .priority) (before-first s x xs q) ∙ sym (if-yes _ _ _ q))
-    (λ q. ap (λ (n : ℕ). getD (x ∷ xs) n empty .priority) (before-next s x xs q) ∙ sym (if-no _ _ _ q))
+    (λ q. ap (λ (n : ℕ). getD (x ∷ xs) n empty .priority) (before-here x xs s q) ∙ sym (if-yes _ _ _ q))
+    (λ q. ap (λ (n : ℕ). getD (x ∷ xs) n empty .priority) (before-later x xs s q) ∙ sym (if-no _ _ _ q))
 
 priority-most : (p s : ℕ) (es : List Entry) → AtMost p es → isIn s es ≡ true → priorityOf s es ≤ p
 priority-most p s [] k i = clash i (in-nil s)

@@ -8,8 +8,8 @@ use lib.Dec.{eqb}
 use lib.ListN.{length}
 use lib.Seq.{getD-set-other}
 use borrow.Author.Tests.{not-true}
-use Rattle.words.specs.Choice.{by-test}
-use Rattle.history.specs.Cases.{by-if}
+use Rattle.words.specs.Choice.{by-test, by-if}
+use Rattle.words.proofs.Tests.{clash}
 use Rattle.line.specs.Line.{waiting, isIn}
 use Rattle.line.proofs.Laws.{waiting-lineOf}
 use Rattle.hall.specs.declared.Settings.{Settings}
@@ -22,17 +22,18 @@ use Rattle.hall.specs.declared.Found.the-variants.{At, Nowhere}
 use Rattle.hall.specs.Seats.{inRange, isPresent, receivesOnly, freeSeat, withSeat, vacated}
 use Rattle.hall.specs.Identity.{seatNamed, lengthAllowed}
 use Rattle.hall.specs.Join.{isAt, ssrcTaken, seated, join}
+use Rattle.hall.proofs.Laws.{found-holds}
 use Rattle.rules.specs.Floor.{holds}
 use Rattle.rules.specs.Request.{waits}
 use Rattle.desk.specs.declared.Left.{Left}
 use Rattle.desk.specs.Events.{fresh, leave}
 use Rattle.history.specs.Doing.{Desk, Doing, event, leaves, joins, made, does, after}
 use Rattle.marks.specs.Marks.{isSeat}
-use Rattle.marks.specs.InLine.{in-nil}
+use Rattle.marks.proofs.InLine.{in-nil}
 use Rattle.reach.specs.Sound.{Sound}
-use Rattle.reach.specs.InLine.{clash, present-below}
-use Rattle.reach.specs.Hall.{found-holds, stored, hall-ok}
-use Rattle.reach.specs.Reach.{marks-counted}
+use Rattle.reach.proofs.InLine.{present-below}
+use Rattle.reach.proofs.Hall.{stored, hall-ok}
+use Rattle.reach.proofs.Reach.{marks-counted}
 use Rattle.demands.specs.Demands.{Happening, Heard, unread, doing, heard, outcome, happens, History, deskAfter, asks, asking, asked, sheet, isPlaced, isStruck, isGivenOut, changed, lineFrom, holderFrom, reason, StruckForAReason, WorkedOut}
 use Rattle.demands.proofs.Counts.{sound-after, comes-by}
 use Rattle.demands.proofs.Did.{Did, rests, Deaf, did}

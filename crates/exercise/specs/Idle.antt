@@ -1,10 +1,10 @@
 -- The idle versions of document 01, "How strictly it is stated": desks that do nothing, or nothing right, and where each is stopped. A version
 -- is any function from a desk and an event to a step; it keeps row b of Thursday's exercise if what is seen of its step there is the table's.
 -- Assumes nothing.
-use Prim.Native.Nat.{ℕ}
 use mathlib.Core.Path.{_≡_, refl, ap, _∙_}
 use mathlib.Core.Bool.{Bool, true, false}
 use native.Mathlib.Omega.{arith}
+use Rattle.words.proofs.Tests.{clash}
 use Rattle.hall.specs.declared.Hall.{Hall}
 use Rattle.hall.specs.declared.Asked.the-variants.{Priority}
 use Rattle.hall.specs.declared.Answer.the-variants.{Done}
@@ -50,11 +50,8 @@ isDeny (say.Idle n) = false
 isDeny (say.Revoke n) = false
 isDeny (say.Info k p) = false
 
-different : {a : Bool} → a ≡ true → a ≡ false → ⊥
-different p q = let z : _≡_ {A = ℕ} 0 1 = cc in omega arith
-
 pub always-denies : (v : Version) → ((c : Core) (h : Hall) (e : Event) → isDeny (v c h e .report .first .kind) ≡ true) → KeepsB v → ⊥
-always-denies v f k = different (f (desk-a .core) (desk-a .hall) ask-b) (ap (λ (s : Seen). isDeny (s .first .kind)) k)
+always-denies v f k = clash (f (desk-a .core) (desk-a .hall) ask-b) (ap (λ (s : Seen). isDeny (s .first .kind)) k)
 
 -- a desk that never changes: the sequence number is 1 before b and 2 after it
 number-a : desk-a .core .sequence ≡ 1
@@ -70,7 +67,7 @@ never-changes v f k =
 -- one that works for the first event, and then only answers 0
 pub works-once : (v : Version) → ((h : Hall) (e : Event) → v (desk-a .core) h e ≡ done (desk-a .core)) → KeepsB v → ⊥
 works-once v f k =
-    different
+    clash
     (ap (λ (r : Step). isNothing (r .report .first .kind)) (f (desk-a .hall) ask-b))
     (ap (λ (s : Seen). isNothing (s .first .kind)) k)
 

@@ -6,6 +6,7 @@ use mathlib.Core.Bool.{Bool, true, false, _&&_}
 use mathlib.Core.List.{List, [], _∷_}
 use native.Mathlib.Omega.{arith}
 use lib.ListN.{take}
+use Rattle.words.proofs.Tests.{clash}
 use Rattle.words.specs.Choice.{if_then_else_}
 use Rattle.line.specs.declared.Entry.{Entry}
 use Rattle.line.specs.Line.{waiting, lineOf, before, isIn, ahead, enter, anotherAtLeast, without}
@@ -138,11 +139,8 @@ invented : (isStruck 1 (invents (deskAfter invents settings []) begins .report .
 unfolding invents happens heard
 invented = (refl, refl)
 
-different : {a : Bool} → a ≡ true → a ≡ false → ⊥
-different p q = let z : _≡_ {A = ℕ} 0 1 = cc in omega arith
-
 pub invents-a-mark : StruckForAReason invents → ⊥
-invents-a-mark k = different (k settings in-range [] begins 1 (invented .0)) (invented .1)
+invents-a-mark k = clash (k settings in-range [] begins 1 (invented .0)) (invented .1)
 
 invented-counts : (times (isPlaced 1) (sheet invents settings (begins ∷ [])) ≡ 0) × (times (isStruck 1) (sheet invents settings (begins ∷ [])) ≡ 1)
 unfolding invents happens heard does step starts entersIdle fresh next

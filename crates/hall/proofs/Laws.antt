@@ -1,17 +1,22 @@
--- Laws of the hall's definitions that the proofs of its functions cite. Assumes nothing.
+-- Laws of the hall's definitions that the proofs of its functions, and those above them, cite. Assumes nothing.
 use Prim.Native.Nat.{ℕ, zero, suc, _+_, _-_, _≤_, _<_}
-use mathlib.Core.Path.{_≡_, refl, ap}
+use mathlib.Core.Path.{_≡_, refl, ap, sym, _∙_}
 use mathlib.Core.Bool.{Bool, true, false}
-use mathlib.Core.List.{List, [], _∷_}
+use mathlib.Core.List.{List, [], _∷_, _++_}
 use native.Mathlib.Numerals.{add-one}
 use native.Mathlib.Omega.{arith}
-use lib.Dec.{eqb}
-use lib.ListN.{length, drop, getD, drop-of-length-le}
-use lib.Seq.{drop-cons}
-use Rattle.words.specs.Choice.{if-yes, if-no, by-test}
+use lib.Dec.{eqb, leb}
+use lib.ListN.{length, drop, getD, replicate, drop-of-length-le}
+use lib.Seq.{drop-cons, take-take, take-append-seam}
+use borrow.Author.Tests.{eqb-true, eqb-false, eq-eqb, ne-eqb, leb-true}
+use Rattle.words.specs.Choice.{if_then_else_, if-yes, if-no, by-test}
+use Rattle.words.specs.Below.{and-right}
+use Rattle.words.proofs.Tests.{clash}
+use Rattle.hall.specs.declared.Found.{Found}
 use Rattle.hall.specs.declared.Found.the-variants.{At, Nowhere}
 use Rattle.hall.specs.Seats.{firstFrom, someone}
-use Rattle.hall.specs.Identity.{same}
+use Rattle.hall.specs.Identity.{octetsOf, nameOf, noName, same, lengthAllowed}
+use Rattle.hall.specs.Join.{isAt}
 
 -- within a list the value past its end does not matter
 pub getD-any {ℓ} : {A : Type ℓ} (l : List A) (i : ℕ) (d e : A) → i < length l → getD l i d ≡ getD l i e
@@ -33,6 +38,30 @@ module _ (test : ℕ → Bool) (s : ℕ) where
   pub lowest-ends : 16 ≤ s → firstFrom test (16 - s) s ≡ Nowhere
   lowest-ends h = let z : 16 - s ≡ 0 = omega arith in rw z
 
+-- what it says of the seats: of the one it finds, and of all where it finds none
+pub at-same : {s t : ℕ} → At s ≡ At t → s ≡ t
+at-same q = cc
+
+pub not-at : (f : Found) → isAt f ≡ false → f ≡ Nowhere
+not-at (At s) q = clash refl q
+not-at Nowhere q = refl
+
+pub found-holds : (test : ℕ → Bool) (n s t : ℕ) → firstFrom test n s ≡ At t → (test t ≡ true) × (t < s + n)
+found-holds test zero s t q = let z : _≡_ {A = ℕ} 0 1 = cc in absurd (omega arith)
+found-holds test (suc n) s t q =
+    by-test (test s)
+    (λ e. let m : s ≡ t = at-same (sym (if-yes (test s) (At s) (firstFrom test n (suc s)) e) ∙ q) in (ap test (sym m) ∙ e, omega arith))
+    (λ e. let r = found-holds test n (suc s) t (sym (if-no (test s) (At s) (firstFrom test n (suc s)) e) ∙ q) in (r .0, (let z = r .1 in omega arith)))
+
+pub none-holds : (test : ℕ → Bool) (n s t : ℕ) → firstFrom test n s ≡ Nowhere → s ≤ t → t < s + n → test t ≡ false
+none-holds test zero s t q a b = absurd (omega arith)
+none-holds test (suc n) s t q a b =
+    by-test (test s)
+    (λ e. let z : _≡_ {A = ℕ} 0 1 = cc (if-yes (test s) (At s) (firstFrom test n (suc s)) e) in absurd (omega arith))
+    (λ e. by-test (eqb s t)
+    (λ m. ap test (sym (eqb-true s t m)) ∙ e)
+    (λ m. none-holds test n (suc s) t (sym (if-no (test s) (At s) (firstFrom test n (suc s)) e) ∙ q) (omega (arith, eqb-false s t m)) (omega arith)))
+
 -- whether someone is in a set, seat by seat
 module _ (seats : List Bool) (s : ℕ) where
   pub someone-on : s < length seats → getD seats s false ≡ false → someone (drop s seats) ≡ someone (drop (s + 1) seats)
@@ -44,7 +73,30 @@ module _ (seats : List Bool) (s : ℕ) where
   pub someone-ends : length seats ≤ s → someone (drop s seats) ≡ false
   someone-ends h = rw (drop-of-length-le seats h)
 
+-- an identity of an allowed length comes out of its name as it went in
+pub allowed-short : (o : List ℕ) → lengthAllowed o ≡ true → length o ≤ 62
+unfolding lengthAllowed
+allowed-short o q = leb-true (length o) 62 (and-right (leb 1 (length o)) (leb (length o) 62) q)
+
+pub name-octets : (o : List ℕ) → length o ≤ 62 → octetsOf (nameOf o) ≡ o
+unfolding octetsOf nameOf
+name-octets o h = rw (take-take (length o) 62 (o ++ replicate 62 0) h) (take-append-seam o (replicate 62 0))
+
+pub no-name-whole : noName ≡ nameOf (octetsOf noName)
+unfolding octetsOf nameOf
+no-name-whole = refl
+
 -- two identities compared octet by octet
+pub same-sym : (a b : List ℕ) → same a b ≡ same b a
+unfolding same if_then_else_
+same-sym [] [] = refl
+same-sym [] (y ∷ b) = refl
+same-sym (x ∷ a) [] = refl
+same-sym (x ∷ a) (y ∷ b) =
+    by-test (eqb x y)
+    (λ q. rw (q, eq-eqb y x (sym (eqb-true x y q))) (same-sym a b))
+    (λ q. rw (q, ne-eqb y x (λ e. eqb-false x y q (sym e))))
+
 pub same-lengths : (a b : List ℕ) → (length a ≡ length b → ⊥) → same a b ≡ false
 unfolding same
 same-lengths [] [] h = absurd (h refl)

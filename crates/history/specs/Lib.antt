@@ -1,2 +1,1 @@
 pub mod Doing
-pub mod Cases

@@ -1,17 +1,18 @@
--- Laws of the line's definitions that the proofs of its functions cite. Assumes nothing.
+-- Laws of the line's definitions that the proofs of its functions, and those above them, cite. Assumes nothing.
 use Prim.Native.Nat.{ℕ, zero, suc, _+_, _≤_, _<_, _-_, min}
 use mathlib.Core.Path.{_≡_, refl, ap, sym, _∙_}
 use mathlib.Core.Bool.{Bool, true, false}
 use mathlib.Core.List.{List, [], _∷_, _++_, append-nil}
 use native.Mathlib.Numerals.{add-one}
 use native.Mathlib.Omega.{arith}
+use lib.Dec.{eqb, leb}
 use lib.ListN.{length, take, drop, getD, set, replicate, length-take, length-append, length-drop, drop-of-length-le, List·getD-append}
 use lib.Seq.{drop-cons, take-suc, take-all, take-take, take-append-seam, take-set-lt, getD-append-add, getD-take, getD-drop, getD-at}
 use Rattle.words.specs.Choice.{if_then_else_, if-yes, if-no, by-test}
 use Rattle.words.specs.Table as table
 use Rattle.line.specs.declared.Entry.{Entry}
 use Rattle.line.specs.declared.Line.{Line}
-use Rattle.line.specs.Line.{waiting, lineOf, empty, leading, ahead, atLeast, anyone, without, added}
+use Rattle.line.specs.Line.{waiting, lineOf, empty, leading, before, ahead, enter, atLeast, anyone, without, added}
 
 -- a search from the front: what is left of it at a place
 module _ (test : Entry → Bool) (es : List Entry) (i : ℕ) where
@@ -104,6 +105,28 @@ module _ (es : List Entry) (k : ℕ) (e : Entry) (h : k ≤ length es) where
 
   pub put-length : length (take k es ++ e ∷ drop k es) ≡ length es + 1
   put-length = simp (length-append, length-take, length-drop) (omega arith)
+
+-- an entry goes in, place by place
+pub enter-nil : (e : Entry) → enter e [] ≡ e ∷ []
+unfolding enter ahead
+enter-nil e = refl
+
+pub enter-cons : (e x : Entry) (xs : List Entry) → enter e (x ∷ xs) ≡ (if leb (e .priority) (x .priority) then x ∷ enter e xs else e ∷ x ∷ xs)
+unfolding enter ahead if_then_else_
+enter-cons e x xs = by-test (leb (e .priority) (x .priority)) (λ q. rw q) (λ q. rw q)
+
+pub enter-length : (e : Entry) (es : List Entry) → length (enter e es) ≡ length es + 1
+unfolding enter
+enter-length e es = put-length es (ahead (e .priority) es) e (ahead-le (e .priority) es)
+
+-- how many stand before a seat, place by place
+pub before-here : (e : Entry) (es : List Entry) (s : ℕ) → eqb (e .seat) s ≡ true → before s (e ∷ es) ≡ 0
+unfolding before if_then_else_
+before-here e es s t = rw t
+
+pub before-later : (e : Entry) (es : List Entry) (s : ℕ) → eqb (e .seat) s ≡ false → before s (e ∷ es) ≡ suc (before s es)
+unfolding before if_then_else_
+before-later e es s t = rw t
 
 -- the line with an entry put in, from its array and its count
 pub line-put : (a es : List Entry) (n k : ℕ) (e : Entry) → k ≤ length es → length a ≡ 15 → ((i : ℕ) → i < 15 → getD a i empty ≡ getD (take k es ++ e ∷ drop k es) i empty) →

@@ -1,4 +1,1 @@
 pub mod Marks
-pub mod Floor
-pub mod InLine
-pub mod Line

@@ -1,9 +1,13 @@
--- What a report's marks say of a seat, and what a step does to it: the two accounts that have to agree. Assumes nothing.
-use Prim.Native.Nat.{ℕ, _+_}
+-- "Each step reports .. four marks: placed (a seat), struck off (a set), ended (a seat), given (a seat, at once or out of the line)." What a
+-- report's marks say of a seat and what the step did to it are two accounts, and they agree: in every step, of every desk, for every seat. Each
+-- statement here is proved in proofs/, in the file named beside it. Assumes nothing.
+use Prim.Native.Nat.{ℕ, _+_, _≤_, _<_}
 use mathlib.Core.Path.{_≡_}
 use mathlib.Core.Bool.{Bool, true, false}
 use lib.Dec.{eqb}
-use lib.ListN.{getD}
+use lib.ListN.{length, getD}
+use Rattle.line.specs.Line.{waiting, isIn}
+use Rattle.hall.specs.declared.Hall.{Hall}
 use Rattle.rules.specs.declared.Core.{Core}
 use Rattle.rules.specs.declared.Mark.{Mark}
 use Rattle.rules.specs.declared.Mark.the-variants.{NoSeat, Seat}
@@ -12,6 +16,7 @@ use Rattle.rules.specs.declared.Given.the-variants.{NotGiven, AtOnce, OutOfLine
 use Rattle.rules.specs.declared.Marks.{Marks}
 use Rattle.rules.specs.Floor.{holds}
 use Rattle.rules.specs.Request.{waits}
+use Rattle.history.specs.Doing.{Desk, Doing, does}
 
 abbrev pub one : Bool → ℕ
 one true = 1
@@ -31,11 +36,25 @@ isOut NotGiven s = false
 isOut (AtOnce t) s = false
 isOut (OutOfLine t) s = eqb t s
 
--- who held the floor, or was given it, holds it now or has ended
-abbrev pub FloorCounts : Core → Core → Marks → ℕ → Type 0
-FloorCounts c d m s = one (holds (c .phase) s) + one (isGiven (m .given) s) ≡ one (holds (d .phase) s) + one (isSeat (m .ended) s)
-
 -- who waited, or was placed, waits now, or was struck off, or was given the floor out of the line
 abbrev pub LineCounts : Core → Core → Marks → ℕ → Type 0
 LineCounts c d m s =
     one (waits c s) + one (isSeat (m .placed) s) ≡ one (waits d s) + one (getD (m .struck) s false) + one (isOut (m .given) s)
+
+-- who held the floor, or was given it, holds it now or has ended
+abbrev pub FloorCounts : Core → Core → Marks → ℕ → Type 0
+FloorCounts c d m s = one (holds (c .phase) s) + one (isGiven (m .given) s) ≡ one (holds (d .phase) s) + one (isSeat (m .ended) s)
+
+-- what the line's account asks of a desk: fifteen places, a limit that they hold, and seats that there are
+pub record Fit (c : Core) (h : Hall) : Type 0 where
+  pub room : length (waiting (c .line)) ≤ 15
+  pub limit : h .settings .limit ≤ 15
+  pub seats : (t : ℕ) → isIn t (waiting (c .line)) ≡ true → t < 16
+
+-- The line's account (proofs/Line): whatever happens to a desk whose line fits, for every seat.
+abbrev pub EveryLineCounts : Type 0
+EveryLineCounts = (d : Desk) (x : Doing) (s : ℕ) → Fit (d .core) (d .hall) → LineCounts (d .core) (does d x .core) (does d x .report .marks) s
+
+-- The floor's account (proofs/Floor): whatever happens to whatever desk, for every seat.
+abbrev pub EveryFloorCounts : Type 0
+EveryFloorCounts = (d : Desk) (x : Doing) (s : ℕ) → FloorCounts (d .core) (does d x .core) (does d x .report .marks) s

@@ -1,6 +1,3 @@
 pub mod Sound
-pub mod InLine
-pub mod Steps
-pub mod Hall
 pub mod Reach
 pub mod Count

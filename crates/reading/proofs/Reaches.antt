@@ -1,21 +1,21 @@
 -- The fields that a walk found lie in the packet, and their lengths are the table's: so what the message reads at their starts is there.
 -- Assumes nothing.
-use Prim.Native.Nat.{ℕ, zero, suc, _+_, _-_, _<_, _≤_}
+use Prim.Native.Nat.{ℕ, zero, suc, _+_, _-_, _≤_}
 use native.Mathlib.Omega.{arith}
-use mathlib.Core.Bool.{Bool, true, false, _||_}
+use mathlib.Core.Bool.{false}
 use mathlib.Core.List.{List, [], _∷_}
-use mathlib.Core.Logic.{_⊎_, inl, inr, ⊎-elim}
 use mathlib.Core.Path.{_≡_, refl, sym, ap, subst, _∙_}
 use lib.Dec.{ltb, eqb, lit<}
 use lib.ListN.{length, getD, List·getD-eq-default}
 use borrow.Author.Tests.{ltb-true, ltb-false, eqb-true}
+use Rattle.words.proofs.Tests.{neither-left}
 use Rattle.words.specs.Choice.{if_then_else_, by-test}
-use Rattle.message.specs.Table.{rowIn, rowOf, against, atFault, padded}
+use Rattle.message.specs.Table.{rowIn, rowOf, against, atFault}
 use Rattle.reading.specs.declared.Found.{Found}
 use Rattle.reading.specs.declared.Step.{Step}
 use Rattle.reading.specs.declared.Step.the-variants.{Field, End, PastTheEnd, AgainstTheTable}
-use Rattle.reading.specs.Fields.{idAt, lengthAt, fieldAt, stepAt, Fields, whole, fault, infront, stepThen, fieldsFrom, fieldsIn, startOf}
-use Rattle.message.specs.Answers.{Answer, refused, result, number}
+use Rattle.reading.specs.Fields.{idAt, lengthAt, stepAt, Fields, whole, fault, infront, stepThen, fieldsFrom, fieldsIn, startOf}
+use Rattle.message.specs.Answers.{refused, result, number}
 use Rattle.message.specs.Message.{said, complete}
 use Rattle.message.specs.declared.Message.{Message}
 use Rattle.message.specs.declared.Kind.{Kind}
@@ -33,13 +33,9 @@ pub record Lies (s : List ℕ) (f : Found) : Type 0 where
   pub least : rowOf (f .id) .least ≤ f .len
   pub before : getD s (f .start - 1) 0 ≡ f .len
 
-or-false-left : (a b : Bool) → (a || b) ≡ false → a ≡ false
-or-false-left true b e = e
-or-false-left false b e = refl
-
 not-short : (i l n : ℕ) → against i l n ≡ false → rowOf i .least ≤ l
 unfolding against
-not-short i l n e = ltb-false l (rowOf i .least) (or-false-left _ _ (or-false-left _ (atFault i n) e))
+not-short i l n e = ltb-false l (rowOf i .least) (neither-left _ _ (neither-left _ (atFault i n) e))
 
 sound-lies : (s : List ℕ) (at : ℕ) (f : Found) → Sound s at f → Lies s f
 sound-lies s at f k =

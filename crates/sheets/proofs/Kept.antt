@@ -3,12 +3,13 @@
 use Prim.Native.Nat.{ℕ, zero, suc, _+_, _≤_, _<_}
 use native.Mathlib.Omega.{arith}
 use mathlib.Core.Bool.{Bool, true, false}
-use mathlib.Core.List.{List, [], _∷_}
+use mathlib.Core.List.{List}
 use mathlib.Core.Path.{_≡_, refl, sym, ap, subst, _∙_}
 use lib.Dec.{eqb}
 use lib.ListN.{getD-replicate}
-use borrow.Author.Tests.{eqb-true, eqb-false, eq-eqb, ne-eqb}
+use borrow.Author.Tests.{eqb-true, eqb-false, ne-eqb}
 use Rattle.words.specs.Choice.{if_then_else_, by-test}
+use Rattle.words.proofs.Tests.{clash}
 use Rattle.hall.specs.declared.Settings.{Settings}
 use Rattle.hall.specs.declared.Newcomer.{Newcomer}
 use Rattle.hall.specs.declared.Name.{Name}
@@ -16,12 +17,13 @@ use Rattle.hall.specs.declared.Names.{Names}
 use Rattle.hall.specs.declared.Hall.{Hall}
 use Rattle.hall.specs.declared.Found.{Found}
 use Rattle.hall.specs.declared.Found.the-variants.{At, Nowhere}
-use Rattle.hall.specs.Seats.{inRange, emptyHall, isPresent, firstFrom, hasSsrc, seatOf, freeSeat, withSeat, noOne}
-use Rattle.hall.specs.Identity.{octetsOf, nameOf, noName, noNames, withName, same, hasName, seatNamed}
+use Rattle.hall.specs.Seats.{inRange, emptyHall, isPresent, hasSsrc, seatOf, freeSeat, withSeat, noOne}
+use Rattle.hall.specs.Identity.{octetsOf, nameOf, noName, noNames, withName, hasName, seatNamed}
 use Rattle.hall.specs.Join.{isAt, ssrcTaken, join, seated}
+use Rattle.hall.proofs.Laws.{not-at, none-holds, allowed-short, name-octets, same-sym}
 use Rattle.sheet.specs.Layout.{Seat, seatAt, seatsFrom, seatsOf}
 use Rattle.sheets.specs.Reached.{Reached, made, joins, leaves}
-use Rattle.sheets.proofs.Rows.{name-again, allowed, Sixteen, sixteen-with, present-other, present-same, seat-other, seat-same}
+use Rattle.sheets.proofs.Rows.{Sixteen, sixteen-with, present-other, present-same, seat-other, seat-same}
 use Rattle.sheets.proofs.Joins.{Passes, join-cases, SeatOk, Apart, Ahead, Fine}
 
 pub record Kept (h : Hall) (ns : Names) : Type 0 where
@@ -30,46 +32,13 @@ pub record Kept (h : Hall) (ns : Names) : Type 0 where
   pub seat : (s : ℕ) → s < 16 → isPresent h s ≡ true → SeatOk (h .settings) (seatAt h ns s)
   pub apart : (s t : ℕ) → s < t → t < 16 → isPresent h s ≡ true → isPresent h t ≡ true → Apart (seatAt h ns s) (seatAt h ns t)
 
-clash : {P : Type 0} {b : Bool} → b ≡ true → b ≡ false → P
-clash p q = let z : _≡_ {A = ℕ} 0 1 = cc in absurd (omega arith)
-
--- sameness of numbers and of identities goes both ways
+-- two seats that differ, told the other way round
 eqb-turned : (a b : ℕ) → eqb a b ≡ false → eqb b a ≡ false
 eqb-turned a b e = ne-eqb b a (λ q. eqb-false a b e (sym q))
 
-same-turned : (a b : List ℕ) → same a b ≡ same b a
-unfolding same if_then_else_
-same-turned [] [] = refl
-same-turned [] (y ∷ b) = refl
-same-turned (x ∷ a) [] = refl
-same-turned (x ∷ a) (y ∷ b) =
-    by-test (eqb x y)
-    (λ e. rw (e, eq-eqb y x (sym (eqb-true x y e))) (same-turned a b)) (λ e. rw (e, eqb-turned x y e))
-
 apart-turned : (x y : Seat) → Apart x y → Apart y x
 apart-turned x y a =
-    record { ssrcs = eqb-turned (x .who .ssrc) (y .who .ssrc) (a .ssrcs); identities = same-turned (y .identity) (x .identity) ∙ a .identities }
-
--- a search that finds a place, and one that finds none
-found-below : (test : ℕ → Bool) (n s k : ℕ) → firstFrom test n s ≡ At k → k < s + n
-unfolding if_then_else_
-found-below test zero s k e = absurd (let z : _≡_ {A = ℕ} 0 1 = cc in omega arith)
-found-below test (suc n) s k e =
-    by-test (test s)
-    (λ t. let q : s ≡ k = at-same s k (rw t at e) in omega arith)
-    (λ t. let q : k < suc s + n = found-below test n (suc s) k (rw t at e) in omega arith)
-  where
-    at-same : (a b : ℕ) → At a ≡ At b → a ≡ b
-    at-same a b p = cc
-
-not-found : (test : ℕ → Bool) (n s i : ℕ) → isAt (firstFrom test n s) ≡ false → s ≤ i → i < s + n → test i ≡ false
-unfolding if_then_else_
-not-found test zero s i e l h = absurd (omega arith)
-not-found test (suc n) s i e l h =
-    by-test (test s) (λ t. clash refl (rw t at e))
-    (λ t.
-    by-test (eqb s i) (λ q. ap test (sym (eqb-true s i q)) ∙ t)
-    (λ q. not-found test n (suc s) i (rw t at e) (omega (arith, eqb-false s i q)) (omega arith)))
+    record { ssrcs = eqb-turned (x .who .ssrc) (y .who .ssrc) (a .ssrcs); identities = same-sym (y .identity) (x .identity) ∙ a .identities }
 
 -- a newcomer that passes may sit with all who are there
 module _ (h : Hall) (ns : Names) (o : List ℕ) (n : Newcomer) (p : Passes h ns o n) where
@@ -88,8 +57,8 @@ module _ (h : Hall) (ns : Names) (o : List ℕ) (n : Newcomer) (p : Passes h ns 
   unfolding seatNamed seatOf
   with-all s w here =
       record {
-        ssrcs = rw here at (not-found (hasSsrc h (n .ssrc)) 16 0 s no-seat-of (omega arith) (omega arith));
-        identities = rw here at (not-found (hasName h ns o) 16 0 s (p .unnamed) (omega arith) (omega arith));
+        ssrcs = rw here at (none-holds (hasSsrc h (n .ssrc)) 16 0 s (not-at (seatOf h (n .ssrc)) no-seat-of) (omega arith) (omega arith));
+        identities = rw here at (none-holds (hasName h ns o) 16 0 s (not-at (seatNamed h ns o) (p .unnamed)) (omega arith) (omega arith));
       }
 
 -- one seat set, taken or free, and the others as they were
@@ -174,7 +143,7 @@ kept-seated : (h : Hall) (ns : Names) (o : List ℕ) (n : Newcomer) (f : Found) 
 unfolding seated
 kept-seated h ns o n Nowhere p k = k
 kept-seated h ns o n (At s) p k =
-    let q : octetsOf (nameOf o) ≡ o = name-again o (allowed o (p .long)) in
+    let q : octetsOf (nameOf o) ≡ o = name-octets o (allowed-short o (p .long)) in
     kept-with h ns s true n (nameOf o) k (λ w e. rw q (record { long = p .long; notDesk = not-desk h ns o n p }))
     (λ t w e here. rw q (with-all h ns o n p t w here))
 

@@ -8,15 +8,15 @@ use Rattle.words.specs.Choice.{if_then_else_, by-test}
 use Rattle.hall.specs.declared.Names.{Names}
 use Rattle.hall.specs.declared.Hall.{Hall}
 use Rattle.hall.specs.Seats.{isPresent}
+use Rattle.hall.proofs.Laws.{allowed-short}
 use Rattle.sheet.specs.Layout.{seatOctets, seatsOctets, seatAt, seatsFrom, seatsOf}
 use Rattle.sheet.proofs.Walks.{length-seat, length-sheetOf}
 use Rattle.sheets.specs.Sheets.{Lengths}
-use Rattle.sheets.proofs.Rows.{allowed}
 use Rattle.sheets.proofs.Kept.{Kept, kept}
 
 module _ (h : Hall) (ns : Names) (k : Kept h ns) where
   one-long : (s : ℕ) → s < 16 → isPresent h s ≡ true → length (seatOctets (seatAt h ns s)) ≤ 69
-  one-long s w e = omega (arith, length-seat (seatAt h ns s), allowed (seatAt h ns s .identity) (k .seat s w e .long))
+  one-long s w e = omega (arith, length-seat (seatAt h ns s), allowed-short (seatAt h ns s .identity) (k .seat s w e .long))
 
   all-long : (n s : ℕ) → s + n ≤ 16 → length (seatsOctets (seatsFrom h ns n s)) ≤ 69 * n
   unfolding if_then_else_ seatsOctets

@@ -3,14 +3,13 @@
 use Prim.Native.Nat.{ℕ, zero, suc, _+_, _≤_, _<_}
 use native.Mathlib.Omega.{arith}
 use mathlib.Core.Bool.{Bool, true, false, not}
-use mathlib.Core.List.{List, [], _++_}
+use mathlib.Core.List.{List, []}
 use mathlib.Core.Path.{_≡_, refl, sym, ap, _∙_}
-use lib.Dec.{leb, ltb, eqb}
-use lib.ListN.{length, getD, take, drop, replicate, length-set, getD-replicate, drop-of-length-le}
-use lib.Seq.{getD-set-same, getD-set-other, drop-cons, take-take, take-append-seam}
-use borrow.Author.Tests.{eqb-true, eqb-false, lt-ltb, le-ltb, ltb-true, ltb-false, leb-true}
+use lib.Dec.{ltb, eqb}
+use lib.ListN.{length, getD, drop, length-set, getD-replicate, drop-of-length-le}
+use lib.Seq.{getD-set-same, getD-set-other, drop-cons}
+use borrow.Author.Tests.{eqb-true, eqb-false, lt-ltb, le-ltb, ltb-true, ltb-false}
 use Rattle.words.specs.Choice.{if_then_else_, by-test}
-use Rattle.words.specs.Below.{and-right}
 use Rattle.hall.specs.declared.Settings.{Settings}
 use Rattle.hall.specs.declared.Newcomer.{Newcomer}
 use Rattle.hall.specs.declared.Name.{Name}
@@ -19,19 +18,8 @@ use Rattle.hall.specs.declared.Hall.{Hall}
 use Rattle.hall.specs.declared.Found.the-variants.{At, Nowhere}
 use Rattle.hall.specs.Seats.{emptyHall, isPresent, firstFrom, freeSeat, withSeat}
 use Rattle.hall.specs.Identity.{octetsOf, nameOf, noName, noNames, withName, lengthAllowed}
+use Rattle.hall.proofs.Laws.{allowed-short, name-octets}
 use Rattle.sheet.specs.Layout.{Seat, seatAt, seatsFrom, seatsOf}
-
--- an identity comes out of its name as it went in
-prefix-length : (o z : List ℕ) (n : ℕ) → length o ≤ n → take (length o) (take n (o ++ z)) ≡ o
-prefix-length o z n h = take-take (length o) n (o ++ z) h ∙ take-append-seam o z
-
-pub name-again : (o : List ℕ) → length o ≤ 62 → octetsOf (nameOf o) ≡ o
-unfolding octetsOf nameOf
-name-again o h = prefix-length o (replicate 62 0) 62 h
-
-pub allowed : (o : List ℕ) → lengthAllowed o ≡ true → length o ≤ 62
-unfolding lengthAllowed
-allowed o e = leb-true (length o) 62 (and-right (leb 1 (length o)) (leb (length o) 62) e)
 
 -- a search: the lowest seat where a test holds, and none where it holds nowhere
 pub first-at : (test : ℕ → Bool) (n s k : ℕ) → s ≤ k → k < s + n → ((i : ℕ) → i < k → test i ≡ false) → test k ≡ true → firstFrom test n s ≡ At k
@@ -150,7 +138,7 @@ module _ (h : Hall) (ns : Names) (zs : List Seat) (k : ℕ) (row : Row h ns zs k
             let q : i ≡ k = eqb-true i k e in
             rw q
             (seat-same h ns k true (x .who) name (row .long) w
-            ∙ ap (λ (o : List ℕ). record { who = x .who; identity = o }) (name-again (x .identity) (allowed (x .identity) a))))
+            ∙ ap (λ (o : List ℕ). record { who = x .who; identity = o }) (name-octets (x .identity) (allowed-short (x .identity) a))))
             (λ e.
             let d = eqb-false i k e in
             seat-other h ns k true (x .who) name i d ∙ row .seats i (omega (arith, d)));

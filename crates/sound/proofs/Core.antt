@@ -11,6 +11,7 @@ use borrow.Author.Tests.{eqb-true, eq-eqb, leb-true, le-leb, not-true}
 use Rattle.words.specs.Choice.{by-test}
 use Rattle.words.specs.Below.{allBelow, below}
 use Rattle.words.specs.Table.{padded, padded-length}
+use Rattle.words.proofs.Tests.{clash, and-both, and-three, and-four, both, three, four, or-left, or-right, or-else}
 use Rattle.line.specs.declared.Entry.{Entry}
 use Rattle.line.specs.declared.Line.{Line}
 use Rattle.line.specs.Line.{waiting, lineOf, empty, before, isIn}
@@ -22,9 +23,8 @@ use Rattle.rules.specs.declared.Phase.the-variants.{Stopped, Idle, Taken, Revok
 use Rattle.rules.specs.declared.Core.{Core}
 use Rattle.rules.specs.Floor.{holds}
 use Rattle.reach.specs.Sound.{ListOk, LineOk, FloorOk, CoreOk}
-use Rattle.reach.specs.InLine.{clash}
 use Rattle.sound.specs.Test.{inOrder, isFirst, placeSound, isEmpty, placeBehind, lineSound, holderSound, floorSound, coreSound}
-use Rattle.sound.proofs.Laws.{and-both, and-three, and-four, both, three, four, all-below, or-behind, or-within, or-right, filled-behind, behind-filled}
+use Rattle.sound.proofs.Laws.{all-below, filled-behind, behind-filled}
 use Rattle.sound.proofs.InLine.{sorted-from, sorted-at, once-from, once-at, place-in, found-seat, found-place, none-in}
 
 -- those who wait
@@ -76,7 +76,7 @@ module _ (l : Line) (h : length (l .entries) ≡ 15) where
   behind-from q r =
       line-is (l .entries) (waiting l) (l .len)
       (filled-behind empty 15 (l .len) (l .entries) h
-      (λ i b t. empty-is (getD (l .entries) i empty) (or-behind (ltb i (length (waiting l))) (isEmpty (getD (l .entries) i empty)) t (below (placeBehind l) 15 r i b))))
+      (λ i b t. empty-is (getD (l .entries) i empty) (or-else (ltb i (length (waiting l))) (isEmpty (getD (l .entries) i empty)) t (below (placeBehind l) 15 r i b))))
       (eqb-true _ _ q ∙ ap length (sym (take-all 15 (waiting l) few)))
 
 module _ (l : Line) (k : l ≡ lineOf (waiting l)) where
@@ -96,8 +96,8 @@ module _ (l : Line) (k : l ≡ lineOf (waiting l)) where
   behind-test =
       all-below (placeBehind l) 15
       (λ i b. by-test (ltb i (length (waiting l)))
-      (λ t. or-within (ltb i (length (waiting l))) (isEmpty (getD (l .entries) i empty)) t)
-      (λ t. or-right (ltb i (length (waiting l))) (isEmpty (getD (l .entries) i empty)) t
+      (λ t. or-left (ltb i (length (waiting l))) (isEmpty (getD (l .entries) i empty)) t)
+      (λ t. or-right (ltb i (length (waiting l))) (isEmpty (getD (l .entries) i empty))
       (ap isEmpty (behind-filled empty 15 (l .len) (l .entries) entries-are i b t))))
 
 -- the floor

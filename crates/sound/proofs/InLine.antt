@@ -7,19 +7,16 @@ use native.Mathlib.Omega.{arith}
 use lib.Dec.{eqb}
 use lib.ListN.{length, getD}
 use borrow.Author.Tests.{eqb-true, eq-eqb, ltb-true, lt-ltb}
-use Rattle.words.specs.Choice.{if_then_else_, by-test}
+use Rattle.words.specs.Choice.{by-test}
+use Rattle.words.proofs.Tests.{clash, or-else}
 use Rattle.line.specs.declared.Entry.{Entry}
 use Rattle.line.specs.Line.{empty, before, isIn}
-use Rattle.marks.specs.InLine.{in-nil, in-cons}
-use Rattle.reach.specs.Sound.{AtMost, Sorted, Once}
-use Rattle.reach.specs.InLine.{clash}
-use Rattle.sound.proofs.Laws.{or-behind}
+use Rattle.line.proofs.Laws.{before-here, before-later}
+use Rattle.marks.proofs.InLine.{in-nil, in-cons}
+use Rattle.reach.specs.Sound.{Sorted, Once}
+use Rattle.reach.proofs.InLine.{at-most-more}
 
 -- highest first: the next place has no higher priority
-at-most-more : (p q : ℕ) (es : List Entry) → p ≤ q → AtMost p es → AtMost q es
-at-most-more p q [] h a = tt
-at-most-more p q (e ∷ es) h a = (let b = a .0 in omega arith, at-most-more p q es h (a .1))
-
 pub sorted-from : (es : List Entry) → ((i : ℕ) → i < length es → getD es (suc i) empty .priority ≤ getD es i empty .priority) → Sorted es
 sorted-from [] f = tt
 sorted-from (e ∷ []) f = (tt, tt)
@@ -35,15 +32,6 @@ sorted-at (e ∷ []) s (suc i) = omega arith
 sorted-at (e ∷ (x ∷ es)) s zero = s .0 .0
 sorted-at (e ∷ (x ∷ es)) s (suc i) = sorted-at (x ∷ es) (s .1) i
 
--- how many stand before a seat, place by place
-before-here : (e : Entry) (es : List Entry) (s : ℕ) → eqb (e .seat) s ≡ true → before s (e ∷ es) ≡ 0
-unfolding before if_then_else_
-before-here e es s t = rw t
-
-before-later : (e : Entry) (es : List Entry) (s : ℕ) → eqb (e .seat) s ≡ false → before s (e ∷ es) ≡ suc (before s es)
-unfolding before if_then_else_
-before-later e es s t = rw t
-
 -- where a seat is found stands its entry
 pub found-seat : (s : ℕ) (es : List Entry) → isIn s es ≡ true → getD es (before s es) empty .seat ≡ s
 found-seat s [] q = clash q (in-nil s)
@@ -51,7 +39,7 @@ found-seat s (e ∷ es) q =
     by-test (eqb (e .seat) s)
     (λ t. ap (λ (n : ℕ). getD (e ∷ es) n empty .seat) (before-here e es s t) ∙ eqb-true (e .seat) s t)
     (λ t. ap (λ (n : ℕ). getD (e ∷ es) n empty .seat) (before-later e es s t)
-    ∙ found-seat s es (or-behind (eqb (e .seat) s) (isIn s es) t (sym (in-cons s e es) ∙ q)))
+    ∙ found-seat s es (or-else (eqb (e .seat) s) (isIn s es) t (sym (in-cons s e es) ∙ q)))
 
 pub found-place : (s : ℕ) (es : List Entry) → isIn s es ≡ true → before s es < length es
 found-place s es q = ltb-true (before s es) (length es) q

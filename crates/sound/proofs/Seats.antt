@@ -10,6 +10,7 @@ use borrow.Author.Tests.{eqb-true, eqb-false, eq-eqb, ne-eqb, ltb-true, ltb-fals
 use Rattle.words.specs.Choice.{if_then_else_, if-yes, if-no, by-test}
 use Rattle.words.specs.Below.{allBelow, below}
 use Rattle.words.specs.Table.{padded, padded-length}
+use Rattle.words.proofs.Tests.{clash, and-both, and-four, and-five, both, four, five, or-left, or-right, or-else}
 use Rattle.hall.specs.declared.Hall.{Hall}
 use Rattle.hall.specs.declared.Name.{Name}
 use Rattle.hall.specs.declared.Names.{Names}
@@ -17,12 +18,12 @@ use Rattle.hall.specs.declared.Found.{Found}
 use Rattle.hall.specs.declared.Found.the-variants.{At, Nowhere}
 use Rattle.hall.specs.Seats.{isPresent, queues, receivesOnly, hasSsrc, seatOf, firstFrom, inRange}
 use Rattle.hall.specs.Identity.{octetsOf, nameOf, noName, nameAt, same, hasName, seatNamed, lengthAllowed}
+use Rattle.hall.proofs.Laws.{at-same, found-holds, none-holds, no-name-whole}
 use Rattle.reach.specs.Sound.{SeatsOk}
-use Rattle.reach.specs.InLine.{clash}
-use Rattle.reach.specs.Hall.{found-holds, none-holds}
+use Rattle.reach.proofs.InLine.{within-column}
 use Rattle.sound.specs.Test.{octetBehind, nameSound, finds, ssrcAt, takenSound, freeSound, seatSound, seatsSound}
 use Rattle.sound.specs.Shaped.{ShapedSeats}
-use Rattle.sound.proofs.Laws.{and-both, and-four, and-five, both, four, five, all-below, or-behind, or-within, or-right, filled-behind, behind-filled, within-column}
+use Rattle.sound.proofs.Laws.{all-below, filled-behind, behind-filled}
 
 -- an identity, with zeros behind it
 abbrev nameWith : List ℕ → ℕ → Name
@@ -38,7 +39,7 @@ name-from n h q =
     let a = and-both (eqb (n .len) (length (octetsOf n))) (allBelow (octetBehind n) 62) q in
     name-is (n .octets) (octetsOf n) (n .len)
     (filled-behind 0 62 (n .len) (n .octets) h
-    (λ i b t. eqb-true _ _ (or-behind (ltb i (length (octetsOf n))) (eqb (getD (n .octets) i 0) 0) t (below (octetBehind n) 62 (a .1) i b))))
+    (λ i b t. eqb-true _ _ (or-else (ltb i (length (octetsOf n))) (eqb (getD (n .octets) i 0) 0) t (below (octetBehind n) 62 (a .1) i b))))
     (eqb-true _ _ (a .0))
 
 module _ (n : Name) (k : n ≡ nameOf (octetsOf n)) where
@@ -59,8 +60,8 @@ module _ (n : Name) (k : n ≡ nameOf (octetsOf n)) where
       both (eqb (n .len) (length (octetsOf n))) (allBelow (octetBehind n) 62) (eq-eqb _ _ counted)
       (all-below (octetBehind n) 62
       (λ i b. by-test (ltb i (length (octetsOf n)))
-      (λ t. or-within (ltb i (length (octetsOf n))) (eqb (getD (n .octets) i 0) 0) t)
-      (λ t. or-right (ltb i (length (octetsOf n))) (eqb (getD (n .octets) i 0) 0) t
+      (λ t. or-left (ltb i (length (octetsOf n))) (eqb (getD (n .octets) i 0) 0) t)
+      (λ t. or-right (ltb i (length (octetsOf n))) (eqb (getD (n .octets) i 0) 0)
       (eq-eqb _ _ (behind-filled 0 62 (n .len) (n .octets) octets-are i b t)))))
 
 no-octets : (o : List ℕ) → eqb (length o) 0 ≡ true → o ≡ []
@@ -70,10 +71,6 @@ no-octets (x ∷ o) q = let z : suc (length o) ≡ 0 = eqb-true (length (x ∷ o
 name-none : nameOf [] ≡ noName
 unfolding nameOf
 name-none = refl
-
-none-whole : noName ≡ nameOf (octetsOf noName)
-unfolding octetsOf nameOf
-none-whole = refl
 
 none-short : length (octetsOf noName) ≡ 0
 unfolding octetsOf
@@ -99,9 +96,6 @@ same-is (x ∷ a) (y ∷ b) q =
 finds-at : (f : Found) (s : ℕ) → finds f s ≡ true → f ≡ At s
 finds-at (At t) s q = ap At (eqb-true t s q)
 finds-at Nowhere s q = clash q refl
-
-at-same : {s t : ℕ} → At s ≡ At t → s ≡ t
-at-same q = cc
 
 finds-only : (test : ℕ → Bool) (s : ℕ) → s < 16 → test s ≡ true → ((t : ℕ) → test t ≡ true → t ≡ s) → (f : Found) → firstFrom test 16 0 ≡ f → finds f s ≡ true
 finds-only test s b p u (At t) q = eq-eqb t s (u t (found-holds test 16 0 t q .0))
@@ -208,7 +202,7 @@ module _ (h : Hall) (ns : Names) (shaped : ShapedSeats h ns) (q : seatsSound h n
         ssrcs = λ s t p r e. at-same (sym (taken s p .by-ssrc) ∙ ap (seatOf h) e ∙ taken t r .by-ssrc);
         desk = λ s p e. taken s p .desk e;
         lengths = λ s p. taken s p .length;
-        behind = λ s. by-test (ltb s 16) (λ t. whole-there s (ltb-true s 16 t)) (λ t. rw (free-past s t .4) none-whole);
+        behind = λ s. by-test (ltb s 16) (λ t. whole-there s (ltb-true s 16 t)) (λ t. rw (free-past s t .4) no-name-whole);
         identities = λ s t p r e. at-same (sym (taken s p .by-identity) ∙ ap (seatNamed h ns) (same-is _ _ e) ∙ taken t r .by-identity);
         free = λ s p. by-test (ltb s 16) (λ t. free-there s (ltb-true s 16 t) p) (λ t. free-past s t);
       }

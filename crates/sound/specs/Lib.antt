@@ -1,2 +1,3 @@
 pub mod Test
 pub mod Shaped
+pub mod Passes

@@ -21,3 +21,9 @@ if-no t a b e = rw e
 pub by-test {ℓ} : {P : Type ℓ} (t : Bool) → (t ≡ true → P) → (t ≡ false → P) → P
 by-test true f g = f refl
 by-test false f g = g refl
+
+-- what holds of both values, each where its test is so, holds of the choice
+pub by-if {ℓ ℓ′} : {A : Type ℓ} (P : A → Type ℓ′) (t : Bool) {a b : A} → (t ≡ true → P a) → (t ≡ false → P b) → P (if t then a else b)
+unfolding if_then_else_
+by-if P true f g = f refl
+by-if P false f g = g refl

@@ -17,7 +17,8 @@ module _ {A : Type 0} (z : A) where
   pub padded-length : (n : ℕ) (xs : List A) → length (padded n xs) ≡ n
   padded-length n xs = simp (length-take, length-append, length-replicate) (omega arith)
 
-  getD-fill : (n i : ℕ) → getD (replicate n z) i z ≡ z
+  -- every place of a filling, and those past it
+  pub getD-fill : (n i : ℕ) → getD (replicate n z) i z ≡ z
   getD-fill zero i = refl
   getD-fill (suc n) zero = refl
   getD-fill (suc n) (suc i) = getD-fill n i

@@ -1,45 +1,23 @@
 -- The seats stay different from each other, and a free seat stays empty, when somebody joins or leaves. Assumes nothing.
-use Prim.Native.Nat.{ℕ, zero, suc, _+_, _≤_, _<_}
+use Prim.Native.Nat.{ℕ, _<_}
 use mathlib.Core.Path.{_≡_, refl, ap, sym, _∙_}
-use mathlib.Core.Bool.{Bool, true, false, _&&_}
+use mathlib.Core.Bool.{Bool, true, false}
 use mathlib.Core.List.{List}
 use native.Mathlib.Omega.{arith}
 use lib.Dec.{eqb, leb}
 use lib.ListN.{length, getD, set, length-set}
 use lib.Seq.{getD-set-same, getD-set-other}
 use borrow.Author.Tests.{eqb-true, eqb-false, leb-true}
-use Rattle.words.specs.Choice.{if_then_else_, if-yes, if-no, by-test}
+use Rattle.words.specs.Choice.{if_then_else_, by-test}
+use Rattle.words.proofs.Tests.{and-both}
 use Rattle.hall.specs.declared.Hall.{Hall}
 use Rattle.hall.specs.declared.Settings.{Settings}
 use Rattle.hall.specs.declared.Name.{Name}
 use Rattle.hall.specs.declared.Names.{Names}
 use Rattle.hall.specs.declared.Newcomer.{Newcomer}
-use Rattle.hall.specs.declared.Found.the-variants.{At, Nowhere}
-use Rattle.hall.specs.Seats.{isPresent, firstFrom, withSeat}
+use Rattle.hall.specs.Seats.{isPresent, noOne, inRange, withSeat}
 use Rattle.hall.specs.Identity.{octetsOf, nameOf, noName, nameAt, withName, same, lengthAllowed}
-use Rattle.hall.specs.Seats.{noOne, inRange}
-use Rattle.reach.specs.InLine.{clash}
 use Rattle.reach.specs.Sound.{HallOk, SeatsOk}
-
--- what a search for the lowest seat says of the seats: of the one it finds, and of all where it finds none
-at-same : {s t : ℕ} → At s ≡ At t → s ≡ t
-at-same q = cc
-
-pub found-holds : (test : ℕ → Bool) (n s t : ℕ) → firstFrom test n s ≡ At t → (test t ≡ true) × (t < s + n)
-found-holds test zero s t q = let z : _≡_ {A = ℕ} 0 1 = cc in absurd (omega arith)
-found-holds test (suc n) s t q =
-    by-test (test s)
-    (λ e. let m : s ≡ t = at-same (sym (if-yes (test s) (At s) (firstFrom test n (suc s)) e) ∙ q) in (ap test (sym m) ∙ e, omega arith))
-    (λ e. let r = found-holds test n (suc s) t (sym (if-no (test s) (At s) (firstFrom test n (suc s)) e) ∙ q) in (r .0, (let z = r .1 in omega arith)))
-
-pub none-holds : (test : ℕ → Bool) (n s t : ℕ) → firstFrom test n s ≡ Nowhere → s ≤ t → t < s + n → test t ≡ false
-none-holds test zero s t q a b = absurd (omega arith)
-none-holds test (suc n) s t q a b =
-    by-test (test s)
-    (λ e. let z : _≡_ {A = ℕ} 0 1 = cc (if-yes (test s) (At s) (firstFrom test n (suc s)) e) in absurd (omega arith))
-    (λ e. by-test (eqb s t)
-    (λ m. ap test (sym (eqb-true s t m)) ∙ e)
-    (λ m. none-holds test n (suc s) t (sym (if-no (test s) (At s) (firstFrom test n (suc s)) e) ∙ q) (omega (arith, eqb-false s t m)) (omega arith)))
 
 -- a seat's value in a column, after a store
 pub stored {ℓ} : {A : Type ℓ} (l : List A) (t s : ℕ) (a d : A) → t < length l → getD (set l t a) s d ≡ (if eqb t s then a else getD l s d)
@@ -50,10 +28,6 @@ stored l t s a d h =
     (λ q. rw q (getD-set-other l t s a d (λ e. eqb-false t s q (sym e))))
 
 -- what the core stands on
-and-both : (p q : Bool) → (p && q) ≡ true → (p ≡ true) × (q ≡ true)
-and-both true q h = (refl, h)
-and-both false q h = clash h refl
-
 pub hall-ok : (h : Hall) (ns : Names) → SeatsOk h ns → HallOk h
 unfolding inRange
 hall-ok h ns k =

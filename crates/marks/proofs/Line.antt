@@ -1,25 +1,25 @@
 -- The line's account: in every step of a desk whose line fits, whoever waited or was placed waits now, or was struck off, or was given the floor
 -- out of the line. Assumes nothing.
-use Prim.Native.Nat.{ℕ, zero, suc, _+_, _≤_, _<_}
+use Prim.Native.Nat.{ℕ, _+_, _≤_, _<_}
 use mathlib.Core.Path.{_≡_, refl, ap, sym, _∙_}
 use mathlib.Core.Bool.{Bool, true, false, not, _&&_, _||_}
 use mathlib.Core.List.{List, [], _∷_}
 use native.Mathlib.Omega.{arith}
 use lib.Dec.{eqb}
-use lib.ListN.{length, getD, replicate}
+use lib.ListN.{length, getD}
 use borrow.Author.Tests.{eqb-true, eq-eqb, leb-false}
-use Rattle.words.specs.Choice.{by-test}
-use Rattle.history.specs.Cases.{by-if}
+use Rattle.words.specs.Choice.{by-test, by-if}
+use Rattle.words.specs.Table.{getD-fill}
+use Rattle.words.proofs.Tests.{clash}
 use Rattle.line.specs.declared.Entry.{Entry}
 use Rattle.line.specs.declared.Line.{Line}
-use Rattle.line.specs.Line.{waiting, lineOf, isIn, enter, ahead, without, seatsOf, nobody}
-use Rattle.line.proofs.Laws.{waiting-lineOf, without-le, put-length, ahead-le}
+use Rattle.line.specs.Line.{waiting, lineOf, isIn, enter, without, seatsOf, nobody}
+use Rattle.line.proofs.Laws.{waiting-lineOf, without-le, enter-length}
 use Rattle.hall.specs.declared.Hall.{Hall}
 use Rattle.hall.specs.declared.Answer.{Answer}
 use Rattle.hall.specs.declared.Answer.the-variants.{NoSuchSeat}
 use Rattle.hall.specs.Seats.{only, alone, queues, receivesOnly, effective, isPresent, vacated}
 use Rattle.hall.specs.Join.{join}
-use Rattle.rules.specs.declared.Beside.the-variants.{T2, T20}
 use Rattle.rules.specs.declared.Mark.the-variants.{NoSeat, Seat}
 use Rattle.rules.specs.declared.Marks.{Marks}
 use Rattle.rules.specs.declared.Phase.{Phase}
@@ -38,37 +38,23 @@ use Rattle.desk.specs.declared.Timer.{Timer}
 use Rattle.desk.specs.declared.Timer.the-variants as timer
 use Rattle.desk.specs.Timers.{halted, stops, endsIn, revokesIn, idleAgain, revokesAgain, grantsOrEnds, grantsAgain, fires, isStopped, runs, running, expires}
 use Rattle.desk.specs.Events.{starts, callerOf, heard, struckOff, releases, asksPlace, talks, step, leaves, leave}
-use Rattle.history.specs.Doing.{Desk, Doing, event, leaves as leaves-now, joins, does}
-use Rattle.marks.specs.Marks.{one, isOut, LineCounts}
-use Rattle.marks.specs.InLine.{in-nil, in-cons, in-enter, in-without, only-at, without-less, in-added}
+use Rattle.history.specs.Doing.{event, leaves as leaves-now, joins, does}
+use Rattle.marks.specs.Marks.{one, isOut, LineCounts, Fit, EveryLineCounts}
+use Rattle.marks.proofs.InLine.{in-nil, in-cons, in-enter, in-without, only-at, without-less, in-added}
 
--- what the account asks of a desk: fifteen places, a limit that they hold, and seats that there are
-pub record Fit (c : Core) (h : Hall) : Type 0 where
-  pub room : length (waiting (c .line)) ≤ 15
-  pub limit : h .settings .limit ≤ 15
-  pub seats : (t : ℕ) → isIn t (waiting (c .line)) ≡ true → t < 16
-
+-- a step's account of one seat, from the core it began with
 unfoldable pub Kept : Core → ℕ → Step → Type 0
 Kept c s r = LineCounts c (r .core) (r .report .marks) s
 
-none : (n i : ℕ) → getD (replicate n false) i false ≡ false
-none zero i = refl
-none (suc n) zero = refl
-none (suc n) (suc i) = none n i
-
-clash {ℓ} : {A : Type ℓ} {b : Bool} → b ≡ true → b ≡ false → A
-clash p q = let z : _≡_ {A = ℕ} 0 1 = cc in absurd (omega arith)
-
 -- one more in line still fits where there was room for it
 entered-fits : (e : Entry) (es : List Entry) → length es < 15 → length (enter e es) ≤ 15
-unfolding enter
-entered-fits e es h = rw (put-length es (ahead (e .priority) es) e (ahead-le (e .priority) es)) (omega arith)
+entered-fits e es h = rw (enter-length e es) (omega arith)
 
 module _ (s : ℕ) (c : Core) (h₀ : Hall) (f : Fit c h₀) where
   -- the line stays, and no mark speaks of it
   same : (r : Step) → r .core .line ≡ c .line → r .report .marks .placed ≡ NoSeat → r .report .marks .struck ≡ nobody → isOut (r .report .marks .given) s ≡ false → Kept c s r
   unfolding Kept waits
-  same r l p q g = rw (l, p, q, g, none 16 s) (omega arith)
+  same r l p q g = rw (l, p, q, g, getD-fill false 16 s) (omega arith)
 
   refuses : (a : Answer) → Kept c s (answered c a)
   refuses a = same _ refl refl refl refl
@@ -90,7 +76,7 @@ module _ (s : ℕ) (c : Core) (h₀ : Hall) (f : Fit c h₀) where
       let b : e .seat < 16 = f .seats (e .seat) i in
       let n : length (e ∷ es) ≤ 15 = rw q at (f .room) in
       let w : length (without (only (e .seat)) (e ∷ es)) ≤ 15 = omega (arith, without-le (only (e .seat)) (e ∷ es)) in
-      rw (q, waiting-lineOf (without (only (e .seat)) (e ∷ es)) w, in-without s (only (e .seat)) (e ∷ es), only-at (e .seat) s b, none 16 s, in-cons s e es) (heads (eqb (e .seat) s) (isIn s es))
+      rw (q, waiting-lineOf (without (only (e .seat)) (e ∷ es)) w, in-without s (only (e .seat)) (e ∷ es), only-at (e .seat) s b, getD-fill false 16 s, in-cons s e es) (heads (eqb (e .seat) s) (isIn s es))
 
   passes : (h : Hall) (es : List Entry) → waiting (c .line) ≡ es → Kept c s (passesOn c h es)
   unfolding passesOn
@@ -158,7 +144,7 @@ module _ (s : ℕ) (c : Core) (h₀ : Hall) (f : Fit c h₀) where
       let x = without (only t) (waiting (c .line)) in
       let l : length x < length (waiting (c .line)) = without-less t (only t) (waiting (c .line)) (only-at t t b ∙ eq-eqb t t refl) w in
       let m : length (enter (entry t p) x) ≤ 15 = entered-fits (entry t p) x (omega (arith, f .room)) in
-      rw (k .0, k .1, none 16 s, waiting-lineOf (enter (entry t p) x) m, in-enter s (entry t p) x, in-without s (only t) (waiting (c .line)), only-at t s b)
+      rw (k .0, k .1, getD-fill false 16 s, waiting-lineOf (enter (entry t p) x) m, in-enter s (entry t p) x, in-without s (only t) (waiting (c .line)), only-at t s b)
       (stays (eqb t s) (isIn s (waiting (c .line))) (here t w))
 
   plain : (r : Step) → Plain (c .line) r → Kept c s r
@@ -187,7 +173,7 @@ module _ (s : ℕ) (c : Core) (h₀ : Hall) (f : Fit c h₀) where
   unfolding Kept waits
   enters r t p w n k =
       let m : length (enter (entry t p) (waiting (c .line))) ≤ 15 = entered-fits (entry t p) (waiting (c .line)) n in
-      rw (k .0, k .1, k .2, k .3, none 16 s, waiting-lineOf (enter (entry t p) (waiting (c .line))) m, in-enter s (entry t p) (waiting (c .line)))
+      rw (k .0, k .1, k .2, k .3, getD-fill false 16 s, waiting-lineOf (enter (entry t p) (waiting (c .line))) m, in-enter s (entry t p) (waiting (c .line)))
       (comes (eqb t s) (isIn s (waiting (c .line))) (away t w))
 
   places : (t p : ℕ) (press : Bool) → waits c t ≡ false → full c h₀ ≡ false → Kept c s (placed c h₀ t p press)
@@ -217,7 +203,7 @@ module _ (s : ℕ) (c : Core) (h₀ : Hall) (f : Fit c h₀) where
   unfolding Kept waits seatsOf
   halts-on r l p q g =
       rw (l, p, q, g, waiting-lineOf [] (omega arith), in-nil s, in-added s nobody (waiting (c .line)) refl (f .seats))
-      (all-struck (isIn s (waiting (c .line))) (getD nobody s false) (none 16 s))
+      (all-struck (isIn s (waiting (c .line))) (getD nobody s false) (getD-fill false 16 s))
 
   halts : (p : Phase) → Kept c s (stops c p)
   unfolding stops halted
@@ -339,7 +325,7 @@ module _ (s : ℕ) (c : Core) (h₀ : Hall) (f : Fit c h₀) where
       (λ _. by-if (Kept c s) (waits c t) (λ w. strikes t w) (λ _. refuses _))
 
 -- the law: whatever happens to a desk whose line fits, for every seat
-pub line-counts : (d : Desk) (x : Doing) (s : ℕ) → Fit (d .core) (d .hall) → LineCounts (d .core) (does d x .core) (does d x .report .marks) s
+pub line-counts : EveryLineCounts
 unfolding does leave Kept
 line-counts d (event e) s f = steps s (d .core) (d .hall) f e
 line-counts d (leaves-now t) s f =

@@ -6,8 +6,8 @@ use mathlib.Core.List.{List, [], _∷_}
 use native.Mathlib.Omega.{arith}
 use lib.Dec.{eqb}
 use borrow.Author.Tests.{eqb-true}
-use Rattle.words.specs.Choice.{by-test}
-use Rattle.history.specs.Cases.{by-if}
+use Rattle.words.specs.Choice.{by-test, by-if}
+use Rattle.words.proofs.Tests.{clash}
 use Rattle.line.specs.declared.Entry.{Entry}
 use Rattle.line.specs.Line.{waiting}
 use Rattle.hall.specs.declared.Hall.{Hall}
@@ -34,36 +34,33 @@ use Rattle.desk.specs.declared.Timer.{Timer}
 use Rattle.desk.specs.declared.Timer.the-variants as timer
 use Rattle.desk.specs.Timers.{halted, stops, endsIn, revokesIn, idleAgain, revokesAgain, grantsOrEnds, grantsAgain, fires, isStopped, runs, running, expires}
 use Rattle.desk.specs.Events.{starts, callerOf, heard, struckOff, releases, asksPlace, talks, step, leaves, leave}
-use Rattle.history.specs.Doing.{Desk, Doing, event, leaves as leaves-now, joins, does}
-use Rattle.marks.specs.Marks.{one, isGiven, FloorCounts}
+use Rattle.history.specs.Doing.{event, leaves as leaves-now, joins, does}
+use Rattle.marks.specs.Marks.{one, isGiven, FloorCounts, EveryFloorCounts}
 
 -- a step's account of one seat, from the core it began with
 unfoldable pub Counts : Core → ℕ → Step → Type 0
 Counts c s r = FloorCounts c (r .core) (r .report .marks) s
 
-impossible {ℓ} : {A : Type ℓ} → false ≡ true → A
-impossible h = let z : _≡_ {A = ℕ} 0 1 = cc in absurd (omega arith)
-
 -- the seat that holds the floor is the only one that does
-holds-one : (p : Phase) (t s : ℕ) → holds p t ≡ true → holds p s ≡ eqb t s
-holds-one Stopped t s h = impossible h
-holds-one (Idle t7) t s h = impossible h
+pub holds-one : (p : Phase) (t s : ℕ) → holds p t ≡ true → holds p s ≡ eqb t s
+holds-one Stopped t s h = clash h refl
+holds-one (Idle t7) t s h = clash h refl
 holds-one (Taken e b) t s h = ap (λ (x : ℕ). eqb x s) (eqb-true (e .seat) t h)
 holds-one (Revoking e n) t s h = ap (λ (x : ℕ). eqb x s) (eqb-true (e .seat) t h)
 
 idle-none : (p : Phase) (s : ℕ) → isIdle p ≡ true → holds p s ≡ false
 idle-none Stopped s h = refl
 idle-none (Idle t7) s h = refl
-idle-none (Taken e b) s h = impossible h
-idle-none (Revoking e n) s h = impossible h
+idle-none (Taken e b) s h = clash h refl
+idle-none (Revoking e n) s h = clash h refl
 
-t7-none : (p : Phase) (s : ℕ) → running p .t7 ≡ true → holds p s ≡ false
+pub t7-none : (p : Phase) (s : ℕ) → running p .t7 ≡ true → holds p s ≡ false
 t7-none Stopped s h = refl
 t7-none (Idle t7) s h = refl
-t7-none (Taken e NoMore) s h = impossible h
-t7-none (Taken e T2) s h = impossible h
-t7-none (Taken e T20) s h = impossible h
-t7-none (Revoking e n) s h = impossible h
+t7-none (Taken e NoMore) s h = clash h refl
+t7-none (Taken e T2) s h = clash h refl
+t7-none (Taken e T20) s h = clash h refl
+t7-none (Revoking e n) s h = clash h refl
 
 module _ (s : ℕ) (c : Core) where
   refuses : (a : Answer) → Counts c s (answered c a)
@@ -262,7 +259,7 @@ module _ (s : ℕ) (c : Core) where
       (λ _. by-if (Counts c s) (waits c t) (λ _. strikes t) (λ _. refuses _))
 
 -- the law: whatever happens to whatever desk, for every seat
-pub floor-counts : (d : Desk) (x : Doing) (s : ℕ) → FloorCounts (d .core) (does d x .core) (does d x .report .marks) s
+pub floor-counts : EveryFloorCounts
 unfolding does leave Counts
 floor-counts d (event e) s = steps s (d .core) (d .hall) e
 floor-counts d (leaves-now t) s =

@@ -1,7 +1,7 @@
 -- Who is in line after an entry, after striking off, and who is in the set of those in line. Assumes nothing.
-use Prim.Native.Nat.{ℕ, zero, suc, _≤_, _<_}
+use Prim.Native.Nat.{ℕ, suc, _≤_, _<_}
 use mathlib.Core.Path.{_≡_, refl, ap, sym, _∙_}
-use mathlib.Core.Bool.{Bool, true, false, not, _&&_, _||_}
+use mathlib.Core.Bool.{Bool, true, false, not, _&&_, _||_, and-false, or-true, or-false, or-assoc}
 use mathlib.Core.List.{List, [], _∷_, _++_}
 use native.Mathlib.Omega.{arith}
 use lib.Dec.{eqb, leb·suc-suc}
@@ -9,8 +9,10 @@ use lib.ListN.{length, take, drop, getD, set, replicate, length-set, length-repl
 use lib.Seq.{getD-set-same, getD-set-other}
 use borrow.Author.Tests.{eqb-true, eqb-false, eq-eqb, lt-ltb}
 use Rattle.words.specs.Choice.{if_then_else_, by-test}
+use Rattle.words.specs.Table.{getD-fill}
 use Rattle.line.specs.declared.Entry.{Entry}
 use Rattle.line.specs.Line.{before, leading, isOther, isIn, enter, ahead, without, added}
+use Rattle.line.proofs.Laws.{without-le}
 use Rattle.hall.specs.Seats.{only}
 
 pub in-nil : (s : ℕ) → isIn s [] ≡ false
@@ -26,11 +28,7 @@ in-cons s e es =
 
 pub in-append : (s : ℕ) (a b : List Entry) → isIn s (a ++ b) ≡ (isIn s a || isIn s b)
 in-append s [] b = rw (in-nil s)
-in-append s (e ∷ a) b = rw (in-cons s e (a ++ b), in-cons s e a, in-append s a b) (or-assoc (eqb (e .seat) s) (isIn s a) (isIn s b))
-  where
-    or-assoc : (x y z : Bool) → (x || (y || z)) ≡ ((x || y) || z)
-    or-assoc true y z = refl
-    or-assoc false y z = refl
+in-append s (e ∷ a) b = rw (in-cons s e (a ++ b), in-cons s e a, in-append s a b) (sym (or-assoc (eqb (e .seat) s) (isIn s a) (isIn s b)))
 
 -- put in at a place, or without it
 pub in-enter : (s : ℕ) (e : Entry) (es : List Entry) → isIn s (enter e es) ≡ (eqb (e .seat) s || isIn s es)
@@ -59,10 +57,6 @@ in-without s seats (e ∷ es) =
         by-test (eqb (e .seat) s)
         (λ t. let x : getD seats s false ≡ true = ap (λ (n : ℕ). getD seats n false) (sym (eqb-true (e .seat) s t)) ∙ q in rw (t, x) (and-false (isIn s es)))
         (λ t. rw t)
-      where
-        and-false : (b : Bool) → (b && false) ≡ false
-        and-false true = refl
-        and-false false = refl
 
     kept : getD seats (e .seat) false ≡ false → (eqb (e .seat) s || (isIn s es && not (getD seats s false))) ≡ ((eqb (e .seat) s || isIn s es) && not (getD seats s false))
     kept q =
@@ -75,12 +69,7 @@ pub only-at : (t s : ℕ) → t < 16 → getD (only t) s false ≡ eqb t s
 only-at t s h =
     by-test (eqb t s)
     (λ q. let e : t ≡ s = eqb-true t s q in ap (λ (n : ℕ). getD (only t) n false) (sym e) ∙ getD-set-same (replicate 16 false) t true false (rw (length-replicate 16 false) h) ∙ sym q)
-    (λ q. getD-set-other (replicate 16 false) t s true false (λ e. eqb-false t s q (sym e)) ∙ none 16 s ∙ sym q)
-  where
-    none : (n i : ℕ) → getD (replicate n false) i false ≡ false
-    none zero i = refl
-    none (suc n) zero = refl
-    none (suc n) (suc i) = none n i
+    (λ q. getD-set-other (replicate 16 false) t s true false (λ e. eqb-false t s q (sym e)) ∙ getD-fill false 16 s ∙ sym q)
 
 -- striking off a seat that is in line makes the line shorter
 pub without-less : (t : ℕ) (seats : List Bool) (es : List Entry) → getD seats t false ≡ true → isIn t es ≡ true → length (without seats es) < length es
@@ -88,14 +77,9 @@ unfolding without if_then_else_
 without-less t seats [] h i = let z : _≡_ {A = ℕ} 0 1 = cc (in-nil t) in absurd (omega arith)
 without-less t seats (e ∷ es) h i =
     by-test (getD seats (e .seat) false)
-    (λ q. rw q (let l : length (without seats es) ≤ length es = less seats es in omega arith))
+    (λ q. rw q (let l : length (without seats es) ≤ length es = without-le seats es in omega arith))
     (λ q. rw q (let l : length (without seats es) < length es = without-less t seats es h (rest q) in omega arith))
   where
-    less : (seats : List Bool) (es : List Entry) → length (without seats es) ≤ length es
-    less seats [] = omega arith
-    less seats (e ∷ es) =
-        let l : length (without seats es) ≤ length es = less seats es in by-test (getD seats (e .seat) false) (λ q. rw q (omega arith)) (λ q. rw q (omega arith))
-
     rest : getD seats (e .seat) false ≡ false → isIn t es ≡ true
     rest q = by-test (eqb (e .seat) t)
         (λ x. let z : _≡_ {A = ℕ} 0 1 = (let y : getD seats t false ≡ false = ap (λ (n : ℕ). getD seats n false) (sym (eqb-true (e .seat) t x)) ∙ q in cc) in absurd (omega arith))
@@ -104,10 +88,6 @@ without-less t seats (e ∷ es) h i =
 -- the set of those in line, where all sit below 16
 pub in-added : (s : ℕ) (seats : List Bool) (es : List Entry) → length seats ≡ 16 → ((t : ℕ) → isIn t es ≡ true → t < 16) → getD (added seats es) s false ≡ (getD seats s false || isIn s es)
 in-added s seats [] h f = rw (in-nil s) (sym (or-false (getD seats s false)))
-  where
-    or-false : (b : Bool) → (b || false) ≡ b
-    or-false true = refl
-    or-false false = refl
 in-added s seats (e ∷ es) h f =
     let i : e .seat < length seats = rw h (f (e .seat) (in-cons (e .seat) e es ∙ rw (eq-eqb (e .seat) (e .seat) refl))) in
     in-added s (set seats (e .seat) true) es (length-set seats (e .seat) true ∙ h) (λ t q. f t (in-cons t e es ∙ rw q (or-true (eqb (e .seat) t))))
@@ -115,7 +95,3 @@ in-added s seats (e ∷ es) h f =
     (λ q. let x : e .seat ≡ s = eqb-true (e .seat) s q in
     rw (in-cons s e es, q) (ap (λ (b : Bool). b || isIn s es) (ap (λ (n : ℕ). getD (set seats (e .seat) true) n false) (sym x) ∙ getD-set-same seats (e .seat) true false i) ∙ sym (or-true (getD seats s false))))
     (λ q. rw (in-cons s e es, q) (ap (λ (b : Bool). b || isIn s es) (getD-set-other seats (e .seat) s true false (λ y. eqb-false (e .seat) s q (sym y)))))
-  where
-    or-true : (b : Bool) → (b || true) ≡ true
-    or-true true = refl
-    or-true false = refl

@@ -1,39 +1,25 @@
 -- A line stays highest first, with nobody twice, when an entry goes in and when seats are struck off. Assumes nothing.
-use Prim.Native.Nat.{ℕ, _+_, _≤_, _<_}
-use mathlib.Core.Path.{_≡_, refl, ap, sym, _∙_}
-use mathlib.Core.Bool.{Bool, true, false, _&&_, _||_}
+use Prim.Native.Nat.{ℕ, _≤_, _<_}
+use mathlib.Core.Path.{_≡_, ap, sym, _∙_}
+use mathlib.Core.Bool.{Bool, true, false, _||_}
 use mathlib.Core.List.{List, [], _∷_}
 use native.Mathlib.Omega.{arith}
 use lib.Dec.{eqb, leb}
 use lib.ListN.{length, getD, List·getD-eq-default}
 use borrow.Author.Tests.{eqb-true, eq-eqb, leb-true, leb-false}
-use Rattle.words.specs.Choice.{if_then_else_, by-test}
-use Rattle.history.specs.Cases.{by-if}
+use Rattle.words.specs.Choice.{by-test, by-if}
+use Rattle.words.specs.Below.{and-left}
+use Rattle.words.proofs.Tests.{clash, or-else, neither-left, neither-right}
 use Rattle.line.specs.declared.Entry.{Entry}
-use Rattle.line.specs.Line.{waiting, lineOf, isIn, enter, ahead, without}
-use Rattle.line.proofs.Laws.{waiting-lineOf, without-le, put-length, ahead-le}
+use Rattle.line.specs.Line.{waiting, lineOf, isIn, enter, without}
+use Rattle.line.proofs.Laws.{waiting-lineOf, without-le, enter-nil, enter-cons, enter-length}
 use Rattle.hall.specs.declared.Hall.{Hall}
 use Rattle.hall.specs.Seats.{isPresent}
-use Rattle.marks.specs.InLine.{in-nil, in-cons, in-enter, in-without}
+use Rattle.marks.proofs.InLine.{in-nil, in-cons, in-enter, in-without}
 use Rattle.reach.specs.Sound.{AtMost, Sorted, Once, ListOk, LineOk, HallOk}
 
-pub clash {ℓ} : {A : Type ℓ} {b : Bool} → b ≡ true → b ≡ false → A
-clash p q = let z : _≡_ {A = ℕ} 0 1 = cc in absurd (omega arith)
-
--- going in, place by place
-enter-cons : (e x : Entry) (xs : List Entry) → enter e (x ∷ xs) ≡ (if leb (e .priority) (x .priority) then x ∷ enter e xs else e ∷ x ∷ xs)
-unfolding enter ahead if_then_else_
-enter-cons e x xs = by-test (leb (e .priority) (x .priority)) (λ q. rw q) (λ q. rw q)
-
-enter-nil : (e : Entry) → enter e [] ≡ e ∷ []
-unfolding enter ahead
-enter-nil e = refl
-
-enter-length : (e : Entry) (es : List Entry) → length (enter e es) ≡ length es + 1
-unfolding enter
-enter-length e es = put-length es (ahead (e .priority) es) e (ahead-le (e .priority) es)
-
-at-most-more : (p q : ℕ) (es : List Entry) → p ≤ q → AtMost p es → AtMost q es
+-- highest first
+pub at-most-more : (p q : ℕ) (es : List Entry) → p ≤ q → AtMost p es → AtMost q es
 at-most-more p q [] h a = tt
 at-most-more p q (e ∷ es) h a = (let b = a .0 in omega arith, at-most-more p q es h (a .1))
 
@@ -63,19 +49,11 @@ once-enter e (x ∷ xs) n a =
     let m : (eqb (x .seat) (e .seat) || isIn (e .seat) xs) ≡ false = sym (in-cons (e .seat) x xs) ∙ n in
     rw (enter-cons e x xs)
     (by-if Once (leb (e .priority) (x .priority))
-    (λ _. (in-enter (x .seat) e xs ∙ rw (a .0) (flip (eqb (x .seat) (e .seat)) (isIn (e .seat) xs) m), once-enter e xs (right (eqb (x .seat) (e .seat)) (isIn (e .seat) xs) m) (a .1)))
+    (λ _. (in-enter (x .seat) e xs ∙ rw (a .0) (flip (eqb (x .seat) (e .seat)) (isIn (e .seat) xs) m), once-enter e xs (neither-right (eqb (x .seat) (e .seat)) (isIn (e .seat) xs) m) (a .1)))
     (λ _. (n, a)))
   where
-    right : (p q : Bool) → (p || q) ≡ false → q ≡ false
-    right true q h = clash refl h
-    right false q h = h
-
-    left : (p q : Bool) → (p || q) ≡ false → p ≡ false
-    left true q h = clash refl h
-    left false q h = refl
-
     flip : (p q : Bool) → (p || q) ≡ false → (eqb (e .seat) (x .seat) || false) ≡ false
-    flip p q h = by-test (eqb (e .seat) (x .seat)) (λ t. clash (eq-eqb (x .seat) (e .seat) (sym (eqb-true (e .seat) (x .seat) t))) (left (eqb (x .seat) (e .seat)) (isIn (e .seat) xs) (sym (in-cons (e .seat) x xs) ∙ n))) (λ t. rw t)
+    flip p q h = by-test (eqb (e .seat) (x .seat)) (λ t. clash (eq-eqb (x .seat) (e .seat) (sym (eqb-true (e .seat) (x .seat) t))) (neither-left (eqb (x .seat) (e .seat)) (isIn (e .seat) xs) (sym (in-cons (e .seat) x xs) ∙ n))) (λ t. rw t)
 
 -- striking off
 at-most-without : (p : ℕ) (seats : List Bool) (es : List Entry) → AtMost p es → AtMost p (without seats es)
@@ -97,9 +75,9 @@ once-without seats (e ∷ es) a =
     by-if Once (getD seats (e .seat) false) (λ _. once-without seats es (a .1))
     (λ _. (in-without (e .seat) seats es ∙ rw (a .0), once-without seats es (a .1)))
 
-and-left : (p q : Bool) → (p && q) ≡ true → p ≡ true
-and-left true q h = refl
-and-left false q h = h
+-- a seat that a column says yes of is one of its seats
+pub within-column : (l : List Bool) (s : ℕ) → getD l s false ≡ true → s < length l
+within-column l s q = by-test (leb (length l) s) (λ t. clash q (List·getD-eq-default l false (leb-true (length l) s t))) (λ t. leb-false (length l) s t)
 
 module _ (h : Hall) where
   pub none-ok : ListOk h []
@@ -122,12 +100,8 @@ module _ (h : Hall) where
         within = rw (enter-length e es) (omega arith);
         here = λ s q. by-test (eqb (e .seat) s)
             (λ t. ap (isPresent h) (sym (eqb-true (e .seat) s t)) ∙ p)
-            (λ t. k .here s (or-right (eqb (e .seat) s) (isIn s es) t (sym (in-enter s e es) ∙ q)));
+            (λ t. k .here s (or-else (eqb (e .seat) s) (isIn s es) t (sym (in-enter s e es) ∙ q)));
       }
-    where
-      or-right : (a b : Bool) → a ≡ false → (a || b) ≡ true → b ≡ true
-      or-right true b f g = clash refl f
-      or-right false b f g = g
 
   -- the line of a list that is right
   pub line-ok : HallOk h → (es : List Entry) → ListOk h es → LineOk h (lineOf es)
@@ -137,6 +111,4 @@ module _ (h : Hall) where
 
   -- a present seat is one of the sixteen
   pub present-below : HallOk h → (s : ℕ) → isPresent h s ≡ true → s < 16
-  present-below k s q = by-test (leb 16 s)
-      (λ t. clash q (List·getD-eq-default (h .present) false (let b : 16 ≤ s = leb-true 16 s t in let z : length (h .present) ≤ s = omega (arith, k .seats) in z)))
-      (λ t. leb-false 16 s t)
+  present-below k s q = omega (arith, within-column (h .present) s q, k .seats)

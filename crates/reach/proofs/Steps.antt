@@ -1,5 +1,5 @@
 -- Every step keeps a core right. Assumes nothing.
-use Prim.Native.Nat.{ℕ, zero, suc, _+_, _<_}
+use Prim.Native.Nat.{ℕ, _+_, _<_}
 use mathlib.Core.Path.{_≡_, refl, ap, sym, _∙_}
 use mathlib.Core.Bool.{Bool, true, false, not, _&&_, _||_}
 use mathlib.Core.List.{List, [], _∷_}
@@ -7,8 +7,9 @@ use native.Mathlib.Omega.{arith}
 use lib.Dec.{eqb, ltb}
 use lib.ListN.{length, getD}
 use borrow.Author.Tests.{eqb-true, eq-eqb, leb-false, ltb-true}
-use Rattle.words.specs.Choice.{if-yes, if-no, by-test}
-use Rattle.history.specs.Cases.{by-if}
+use Rattle.words.specs.Choice.{if-yes, if-no, by-test, by-if}
+use Rattle.words.specs.Below.{and-left}
+use Rattle.words.proofs.Tests.{clash, and-no}
 use Rattle.line.specs.declared.Entry.{Entry}
 use Rattle.line.specs.Line.{waiting, lineOf, isIn, enter, without}
 use Rattle.line.proofs.Laws.{waiting-lineOf}
@@ -17,7 +18,8 @@ use Rattle.hall.specs.declared.Answer.{Answer}
 use Rattle.hall.specs.declared.Answer.the-variants.{Done, CallStopped}
 use Rattle.hall.specs.declared.Found.{Found}
 use Rattle.hall.specs.declared.Found.the-variants.{At, Nowhere}
-use Rattle.hall.specs.Seats.{only, alone, queues, receivesOnly, effective, isPresent, hasSsrc, firstFrom, seatOf}
+use Rattle.hall.specs.Seats.{only, alone, queues, receivesOnly, effective, isPresent, hasSsrc, seatOf}
+use Rattle.hall.proofs.Laws.{found-holds}
 use Rattle.rules.specs.declared.Beside.{Beside}
 use Rattle.rules.specs.declared.Beside.the-variants.{NoMore, T2, T20}
 use Rattle.rules.specs.declared.Phase.{Phase}
@@ -35,9 +37,9 @@ use Rattle.desk.specs.declared.Timer.{Timer}
 use Rattle.desk.specs.declared.Timer.the-variants as timer
 use Rattle.desk.specs.Timers.{halted, stops, endsIn, revokesIn, idleAgain, revokesAgain, grantsOrEnds, grantsAgain, fires, isStopped, runs, running, expires}
 use Rattle.desk.specs.Events.{starts, sitting, callerOf, heard, struckOff, releases, asksPlace, talks, step}
-use Rattle.marks.specs.InLine.{in-nil, in-cons, in-enter, in-without, only-at, without-less}
+use Rattle.marks.proofs.InLine.{in-nil, in-cons, in-enter, in-without, only-at, without-less}
 use Rattle.reach.specs.Sound.{ListOk, LineOk, FloorOk, NumbersOk, HallOk, CoreOk, isBusy, causeOk}
-use Rattle.reach.specs.InLine.{clash, none-ok, without-ok, enter-ok, line-ok, present-below}
+use Rattle.reach.proofs.InLine.{none-ok, without-ok, enter-ok, line-ok, present-below}
 
 unfoldable pub Ok : Hall → Step → Type 0
 Ok h r = CoreOk h (r .core)
@@ -49,19 +51,11 @@ next-below n = omega arith
 nothing : (es : List Entry) (s : ℕ) → es ≡ [] → isIn s es ≡ false
 nothing es s q = ap (isIn s) q ∙ in-nil s
 
-and-no : (b c : Bool) → c ≡ false → (b && c) ≡ false
-and-no true c q = q
-and-no false c q = refl
-
-and-left : (p q : Bool) → (p && q) ≡ true → p ≡ true
-and-left true q h = refl
-and-left false q h = h
-
 without-nil : (seats : List Bool) → without seats [] ≡ []
 unfolding without
 without-nil seats = refl
 
-idle-quiet : (p : Phase) → isIdle p ≡ true → isBusy p ≡ false
+pub idle-quiet : (p : Phase) → isIdle p ≡ true → isBusy p ≡ false
 idle-quiet Stopped q = refl
 idle-quiet (Idle t7) q = refl
 idle-quiet (Taken e b) q = clash q refl
@@ -80,9 +74,6 @@ t7-quiet (Taken e NoMore) q = clash q refl
 t7-quiet (Taken e T2) q = clash q refl
 t7-quiet (Taken e T20) q = clash q refl
 t7-quiet (Revoking e n) q = clash q refl
-
-at-same : {s t : ℕ} → At s ≡ At t → s ≡ t
-at-same q = cc
 
 module _ (h : Hall) (k : HallOk h) where
   -- nobody holds the floor, and nobody waits
@@ -356,14 +347,6 @@ module _ (h : Hall) (k : HallOk h) where
     talks-on t (Revoking e n) q = by-if (Ok h) _ (λ _. refuses _) (λ _. refuses _)
 
     -- a seat that is heard is present, in a call that runs
-    first-present : (x n s t : ℕ) → firstFrom (hasSsrc h x) n s ≡ At t → isPresent h t ≡ true
-    first-present x zero s t q = let z : _≡_ {A = ℕ} 0 1 = cc in absurd (omega arith)
-    first-present x (suc n) s t q =
-        by-test (hasSsrc h x s)
-        (λ e. let m : s ≡ t = at-same (sym (if-yes (hasSsrc h x s) (At s) (firstFrom (hasSsrc h x) n (suc s)) e) ∙ q) in
-        ap (isPresent h) (sym m) ∙ and-left (isPresent h s) _ e)
-        (λ e. first-present x n (suc s) t (sym (if-no (hasSsrc h x s) (At s) (firstFrom (hasSsrc h x) n (suc s)) e) ∙ q))
-
     sits : (x t : ℕ) → callerOf c h x ≡ Sits t → (isStopped (c .phase) ≡ false) × (isPresent h t ≡ true)
     unfolding callerOf seatOf
     sits x t q =
@@ -372,7 +355,7 @@ module _ (h : Hall) (k : HallOk h) where
         (λ e. (e, seat-of (seatOf h x) refl (sym (if-no (isStopped (c .phase)) (Refused CallStopped) (sitting (seatOf h x)) e) ∙ q)))
       where
         seat-of : (f : Found) → seatOf h x ≡ f → sitting f ≡ Sits t → isPresent h t ≡ true
-        seat-of (At u) p r = let m : u ≡ t = cc in first-present x 16 0 t (p ∙ ap At m)
+        seat-of (At u) p r = let m : u ≡ t = cc in and-left (isPresent h t) _ (found-holds (hasSsrc h x) 16 0 t (p ∙ ap At m) .0)
         seat-of Nowhere p r = let z : _≡_ {A = ℕ} 0 1 = cc in absurd (omega arith)
 
     heard-on : (who : Caller) (rule : ℕ → Step) → ((t : ℕ) → who ≡ Sits t → Ok h (rule t)) → Ok h (heard c who rule)

@@ -1,0 +1,3 @@
+pub mod InLine
+pub mod Floor
+pub mod Line

@@ -1,0 +1,5 @@
+pub mod InLine
+pub mod Steps
+pub mod Hall
+pub mod Reach
+pub mod Count

@@ -1,0 +1,32 @@
+-- The test decides: of a desk that has what its types give, it passes exactly the sound ones. So "every desk that steps can reach from a fresh
+-- one" passes, and what passes goes on passing. Each statement here is proved in proofs/Sound. Assumes nothing.
+use mathlib.Core.Path.{_≡_}
+use mathlib.Core.Bool.{true}
+use mathlib.Core.List.{List}
+use Rattle.hall.specs.declared.Settings.{Settings}
+use Rattle.hall.specs.Seats.{inRange}
+use Rattle.history.specs.Doing.{Desk, Doing, made, after, afterAll}
+use Rattle.reach.specs.Sound.{Sound}
+use Rattle.sound.specs.Test.{isSound}
+use Rattle.sound.specs.Shaped.{Shaped}
+
+abbrev pub Passes : Desk → Type 0
+Passes d = isSound (d .core) (d .hall) (d .names) ≡ true
+
+abbrev pub SoundTest : Type 0
+SoundTest = (d : Desk) → Shaped d → Passes d → Sound d
+
+abbrev pub TestSound : Type 0
+TestSound = (d : Desk) → Sound d → Passes d
+
+-- what a desk's types give, every sound desk has
+abbrev pub SoundShaped : Type 0
+SoundShaped = (d : Desk) → Sound d → Shaped d
+
+-- every desk that can be reached passes
+abbrev pub ReachedPasses : Type 0
+ReachedPasses = (g : Settings) → inRange g ≡ true → (xs : List Doing) → Passes (afterAll (made g) xs)
+
+-- and what passes goes on passing, whatever happens
+abbrev pub PassesKept : Type 0
+PassesKept = (d : Desk) (x : Doing) → Shaped d → Passes d → Passes (after d x)
