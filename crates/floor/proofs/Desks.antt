@@ -21,7 +21,7 @@ use Rattle.call.specs.declared.Called.{Called}
 use Rattle.form.specs.Form.{lettersFit, coreFits, hallFits, namesFit, canonical, coreAt, hallAt, namesAt, coreOctets, octetsOf}
 use Rattle.forms.specs.Forms.{Octets}
 use Rattle.forms.proofs.Fits.{length-octets}
-use Rattle.sound.proofs.Laws.{and-five}
+use Rattle.words.proofs.Tests.{and-five}
 use Rattle.sound.specs.Test.{isSound}
 use Rattle.report.specs.Report.{reportOctets}
 use Rattle.floor.specs.Floor.{formed, Leaves, leaves, settles, written, inOctets, signed, looks}
