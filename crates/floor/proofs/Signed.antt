@@ -28,3 +28,7 @@ module _ (n : ℕ) (h : n < 2147483648) where
 -- a signed answer that is handed on
 pub passed : {z : ℤ} → mag z < 2147483648 → toZ w32 (ofZ w32 z) ≡ z
 passed h = toZ-ofZ (record { sfits = h })
+
+-- an answer and a room
+pub pair-same {ℓ} : {A B : Type ℓ} {a a′ : A} {b b′ : B} → a ≡ a′ → b ≡ b′ → _≡_ {A = A × B} (a, b) (a′, b′)
+pair-same p q = λ i. (p i, q i)

@@ -4,14 +4,16 @@
 -- Assumes nothing.
 use Prim.Native.Nat.{ℕ, _+_, _*_}
 use mathlib.Core.Bool.{Bool, not, _&&_}
-use mathlib.Core.List.{List}
+use mathlib.Core.List.{List, [], _∷_}
 use lib.Dec.{eqb, leb, ltb}
-use lib.ListN.{length}
+use lib.ListN.{length, getD}
 use lib.IntN.{ℤ, pos, negℤ}
 use Rattle.words.specs.Choice.{if_then_else_}
 use Rattle.octets.specs.Octets.{over}
 use Rattle.message.specs.Answers.{Answer, refused, result}
 use Rattle.hall.specs.Answers.{number}
+use Rattle.line.specs.declared.Entry.{Entry}
+use Rattle.line.specs.Line.{waiting, empty}
 use Rattle.hall.specs.declared.Settings.{Settings}
 use Rattle.hall.specs.declared.Hall.{Hall}
 use Rattle.hall.specs.declared.Names.{Names}
@@ -20,7 +22,8 @@ use Rattle.hall.specs.declared.Joined.{Joined}
 use Rattle.hall.specs.declared.Found.{Found}
 use Rattle.hall.specs.declared.Found.the-variants.{At, Nowhere}
 use Rattle.hall.specs.Seats.{inRange, emptyHall}
-use Rattle.hall.specs.Identity.{noNames}
+use Rattle.hall.specs.Identity.{noNames, nameAt}
+use Rattle.hall.specs.Identity as identity
 use Rattle.hall.specs.Join.{join}
 use Rattle.rules.specs.declared.Phase.{Phase}
 use Rattle.rules.specs.declared.Phase.the-variants.{Stopped, Idle, Taken, Revoking}
@@ -33,10 +36,18 @@ use Rattle.desk.specs.declared.Left.{Left}
 use Rattle.desk.specs.Events.{fresh, step, leave}
 use Rattle.call.specs.declared.Called.{Called}
 use Rattle.call.specs.Call.{ofStep, unread, hears}
+use Rattle.sheet.specs.Saving.{Save, saving, roomAfter}
 use Rattle.sheet.specs.Loading.{loading}
-use Rattle.form.specs.Form.{octetsOf, coreAt, hallAt, namesAt, canonical}
+use Rattle.rules.specs.declared.Kind.{Kind}
+use Rattle.outgoing.specs.declared.Outgoing.{Outgoing}
+use Rattle.outgoing.specs.Outgoing.{outgoing, sending, sent}
+use Rattle.held.specs.Held.{heldAt, readHeld, keptIn, writingOf, writtenOf}
+use Rattle.form.specs.Columns.{rows}
+use Rattle.form.specs.Form.{octetsOf, coreAt, hallAt, settingsAt, namesAt, canonical}
 use Rattle.sound.specs.Test.{isSound}
-use Rattle.report.specs.Report.{reportOctets}
+use Rattle.report.specs.Report.{reportOctets, particulars, messageIn}
+use Rattle.report.specs.declared.Told.{Told}
+use Rattle.report.specs.declared.Told.the-variants.{Says, NoMessage}
 use Rattle.floor.specs.declared.Named.{Named}
 use Rattle.floor.specs.declared.Named.the-variants.{Known, Unknown}
 
@@ -157,3 +168,56 @@ timerSet t = bit (t .t1) 2 + bit (t .t2) 4 + bit (t .t3) 8 + bit (t .t4) 16 + bi
 abbrev pub seatAnswer : Found → Answer ℕ
 seatAnswer (At s) = result s
 seatAnswer Nowhere = refused 22
+
+-- WRITERS: the answer, and what is left in the lent room
+
+abbrev pub answers : Answer ℕ → List ℕ → ℤ × List ℕ
+answers a room = (signed a, room)
+
+-- how much an answer says was written
+abbrev pub sizeIn : Answer ℕ → ℕ
+sizeIn (refused n) = 0
+sizeIn (result n) = n
+
+-- the line for the wall screen, two octets an entry, the head first
+abbrev pub pairAt : List Entry → ℕ → List ℕ
+pairAt es i = getD es i empty .seat ∷ getD es i empty .priority ∷ []
+
+unfoldable pub pairs : List Entry → List ℕ
+pairs es = rows (pairAt es) 0 (length es)
+
+unfoldable pub screened : List Entry → List ℕ → ℤ × List ℕ
+screened es room =
+    if leb (2 * length es) (length room) then answers (result (length es)) (over room 0 (pairs es)) else answers (refused 13) room
+
+abbrev pub screenOn : List ℕ → List ℕ → ℤ × List ℕ
+screenOn d room = if formed d then screened (waiting (coreAt d .line)) room else answers (refused 20) room
+
+-- a sheet
+abbrev pub savedAnswer : Save → Answer ℕ
+savedAnswer s = if eqb (s .number) 0 then result (s .written) else refused (s .number)
+
+abbrev pub saveOn : List ℕ → List ℕ → ℤ × List ℕ
+saveOn d room =
+    if formed d then answers (savedAnswer (saving (hallAt d) (namesAt d) room)) (roomAfter (hallAt d) (namesAt d) room) else answers (refused 20) room
+
+-- a report's message as its packet; the seat that Taken names has its identity in the desk
+abbrev pub identityIn : List ℕ → Kind → List ℕ
+identityIn d k = identity.octetsOf (nameAt (namesAt d) (particulars k .seat))
+
+abbrev pub packetFor : List ℕ → Kind → Outgoing
+packetFor d k = outgoing (settingsAt d) k (length (identityIn d k))
+
+abbrev pub tells : List ℕ → List ℕ → Told → ℤ × List ℕ
+tells d room NoMessage = answers (refused 12) room
+tells d room (Says k) = answers (sending (packetFor d k) (identityIn d k) (length room)) (sent (packetFor d k) (identityIn d k) room)
+
+abbrev pub messageOn : List ℕ → List ℕ → ℕ → List ℕ → ℤ × List ℕ
+messageOn d r which room = if formed d then tells d room (messageIn r which) else answers (refused 20) room
+
+-- a packet by itself: read into a message's 40 octets, and written out of them
+abbrev pub readOn : List ℕ → List ℕ → ℕ × List ℕ
+readOn packet room = (readHeld packet (length room), keptIn packet room)
+
+abbrev pub writeOn : List ℕ → List ℕ → List ℕ → ℤ × List ℕ
+writeOn m source room = answers (writingOf (heldAt m) source (length room)) (writtenOf (heldAt m) source room)

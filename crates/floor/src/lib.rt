@@ -10,12 +10,17 @@ use hall::Hall;
 use hall::Names;
 use hall::Newcomer;
 use hall::Settings;
+use line::Line;
+use report::Told;
 use rules::Core;
+use rules::Kind;
 use rules::Phase;
+use sheet::Saving;
+use writing::Writing;
 ghost use mathlib.Core.Path.{_≡_};
 ghost use mathlib.Core.Bool.{true};
 ghost use mathlib.Core.List.{List};
-ghost use Prim.Native.Nat.{_<_, _≤_};
+ghost use Prim.Native.Nat.{_*_, _<_, _≤_};
 ghost use lib.ListN.{length};
 ghost use lib.IntN.{pos, negℤ};
 ghost use Rattle.message.specs.Answers.{result};
@@ -28,7 +33,11 @@ ghost use Rattle.floor.specs.declared.Named.the-variants as named;
 ghost use Rattle.desk.specs.Timers.{running};
 ghost use Rattle.form.specs.Form.{kindOctet, coreAt, hallAt, namesAt, octetsOf};
 ghost use Rattle.report.specs.Report.{maskOf};
-ghost use Rattle.floor.specs.Floor.{formed, leaves, calledOn, eventOn, packetOn, timerNamed, notRunning, firedOn, leftOn, seatNumbered, leaveOn, written, inOctets, settings, makeOn, loadOn, newcomer, joinOn, signed, looks, holderAnswer, bit, timerSet, seatAnswer};
+ghost use Rattle.floor.specs.Floor.{formed, leaves, calledOn, eventOn, packetOn, timerNamed, notRunning, firedOn, leftOn, seatNumbered, leaveOn, written, inOctets, settings, makeOn, loadOn, newcomer, joinOn, signed, looks, holderAnswer, bit, timerSet, seatAnswer, sizeIn, pairs, screened, screenOn, savedAnswer, saveOn, tells, messageOn, readOn, writeOn};
+ghost use Rattle.line.specs.Line.{waiting};
+ghost use Rattle.report.specs.declared.Told.the-variants.{Says};
+ghost use Rattle.sheet.specs.Saving.{told};
+ghost use Rattle.writing.specs.Writing as writes;
 
 // A timer by its number.
 pub enum Named {
@@ -500,4 +509,120 @@ pub extern "C" fn floor_seat_by_identity(desk: &[u8], identity: &[u8]) -> i32
     } else {
         refusal(20)
     }
+}
+
+// Writers: how many they wrote, or minus the number of a refusal, and the room.
+
+// Writes the line into the room, two octets an entry.
+fn put_pairs(room: &mut [u8], line: Line)
+    requires { ⌜ 2 * length (waiting line) ≤ length (now room) ⌝ }
+    ensures { λ _. ⌜ now (room .exit) ≡ over (now (room .entry)) 0 (pairs (waiting line)) ⌝ }
+{
+    let n = line::count(line);
+    let mut i = 0;
+    while i < n {
+        let e = line::entry_at(line, i);
+        octets::put_pair(room, 2 * i, e.seat, e.priority);
+        i += 1;
+    }
+}
+
+fn show(line: Line, room: &mut [u8]) -> i32
+    ensures { λ r. ⌜ (r, now (room .exit)) ≡ screened (waiting line) (now (room .entry)) ⌝ }
+{
+    let n = line::count(line);
+    if room.len() < 2 * n {
+        return refusal(13);
+    }
+    put_pairs(room, line);
+    found(n as u32)
+}
+
+// The line for the wall screen.
+#[no_mangle]
+pub extern "C" fn floor_screen(desk: &[u8], room: &mut [u8]) -> i32
+    ensures { λ r. ⌜ (r, now (room .exit)) ≡ screenOn (now (desk .entry)) (now (room .entry)) ⌝ }
+{
+    if is_desk(desk) {
+        let core = form::core_at(desk);
+        let line = core.line;
+        show(line, room)
+    } else {
+        refusal(20)
+    }
+}
+
+fn saved_number(saving: Saving) -> i32
+    requires { ⌜ told saving .written ≤ 1124 ⌝ }
+    ensures { λ r. ⌜ r ≡ signed (savedAnswer (told saving)) ⌝ }
+{
+    match saving {
+        Saving::Saved(n) => found(n as u32),
+        Saving::NoRoom => refusal(13),
+    }
+}
+
+// Saves seats and settings.
+#[no_mangle]
+pub extern "C" fn floor_save(desk: &[u8], room: &mut [u8]) -> i32
+    ensures { λ r. ⌜ (r, now (room .exit)) ≡ saveOn (now (desk .entry)) (now (room .entry)) ⌝ }
+{
+    if is_desk(desk) {
+        let hall = form::hall_at(desk);
+        let names = form::names_at(desk);
+        saved_number(sheet::save(hall, names, room))
+    } else {
+        refusal(20)
+    }
+}
+
+// A packet has at most 440 octets.
+fn written_number(answer: Writing) -> i32
+    requires { ⌜ sizeIn (writes.told answer) ≤ 440 ⌝ }
+    ensures { λ r. ⌜ r ≡ signed (writes.told answer) ⌝ }
+{
+    match answer {
+        Writing::Written(n) => found(n as u32),
+        Writing::Refused(r) => refusal(message::refusal_number(r)),
+    }
+}
+
+fn tell(desk: &[u8], kind: Kind, room: &mut [u8]) -> i32
+    requires { ⌜ 1200 ≤ length (now desk) ⌝ }
+    ensures { λ r. ⌜ (r, now (room .exit)) ≡ tells (now (desk .entry)) (now (room .entry)) (Says kind) ⌝ }
+{
+    let settings = form::settings_at(desk);
+    let particulars = report::particulars_of(kind);
+    let identity = form::name_at(desk, particulars.seat);
+    written_number(outgoing::send(settings, kind, identity, room))
+}
+
+// A report's message as its packet.
+#[no_mangle]
+pub extern "C" fn floor_message(desk: &[u8], report: &[u8], which: u32, room: &mut [u8]) -> i32
+    ensures { λ r. ⌜ (r, now (room .exit)) ≡ messageOn (now (desk .entry)) (now (report .entry)) which (now (room .entry)) ⌝ }
+{
+    if !is_desk(desk) {
+        return refusal(20);
+    }
+    match report::message_in(report, which) {
+        Told::Says(kind) => tell(desk, kind, room),
+        Told::NoMessage => refusal(12),
+    }
+}
+
+// Reads a packet into a message's 40 octets.
+#[no_mangle]
+pub extern "C" fn floor_read(packet: &[u8], message: &mut [u8]) -> u32
+    ensures { λ r. ⌜ (r, now (message .exit)) ≡ readOn (now (packet .entry)) (now (message .entry)) ⌝ }
+{
+    held::read_held(packet, message) as u32
+}
+
+// Writes a message as a packet.
+#[no_mangle]
+pub extern "C" fn floor_write(message: &[u8], source: &[u8], room: &mut [u8]) -> i32
+    ensures { λ r. ⌜ (r, now (room .exit)) ≡ writeOn (now (message .entry)) (now (source .entry)) (now (room .entry)) ⌝ }
+{
+    written_number(held::write_held(message, source, room))
 }

@@ -1,8 +1,11 @@
 -- A report as 24 octets (docs/FORMS.md). Assumes nothing.
-use Prim.Native.Nat.{ℕ, _+_, _*_}
-use mathlib.Core.Bool.{Bool, true, false}
+use Prim.Native.Nat.{ℕ, _+_, _*_, _%_}
+use mathlib.Core.Bool.{Bool, true, false, not, _&&_}
 use mathlib.Core.List.{List, [], _∷_, _++_}
-use Rattle.octets.specs.Octets.{octets16}
+use lib.Dec.{eqb}
+use lib.ListN.{length, getD}
+use Rattle.words.specs.Choice.{if_then_else_}
+use Rattle.octets.specs.Octets.{be16, octets16}
 use Rattle.rules.specs.declared.Kind.{Kind}
 use Rattle.rules.specs.declared.Kind.the-variants as say
 use Rattle.rules.specs.declared.Message.{Message}
@@ -12,6 +15,8 @@ use Rattle.rules.specs.declared.Given.{Given}
 use Rattle.rules.specs.declared.Given.the-variants.{NotGiven, AtOnce, OutOfLine}
 use Rattle.rules.specs.declared.Marks.{Marks}
 use Rattle.report.specs.declared.Particulars.{Particulars}
+use Rattle.report.specs.declared.Told.{Told}
+use Rattle.report.specs.declared.Told.the-variants.{Says, NoMessage}
 
 -- a set of seats as a number, seat 0 the lowest bit
 abbrev pub one : Bool → ℕ
@@ -60,3 +65,30 @@ marksOctets m = octets16 (maskOf (m .struck)) ++ (0 ∷ seatOctet (m .placed) �
 
 unfoldable pub reportOctets : Message → Message → Marks → List ℕ
 reportOctets first second marks = marksOctets marks ++ messageOctets first ++ messageOctets second
+
+-- WHAT THE OCTETS OF A REPORT SAY
+
+unfoldable pub particularsAt : List ℕ → ℕ → Particulars
+particularsAt r at = with (getD r at 0) (getD r (at + 1) 0) (be16 r (at + 2)) (getD r (at + 4) 0)
+
+-- the message that has these particulars, if one has
+unfoldable pub kindOf : Particulars → Kind
+kindOf q =
+    if eqb (q .kind) 1 then say.Granted (q .priority) else if eqb (q .kind) 2 then say.Taken (q .seat) (q .number)
+    else if eqb (q .kind) 3 then say.Deny (q .number) else if eqb (q .kind) 5 then say.Idle (q .number)
+    else if eqb (q .kind) 6 then say.Revoke (q .number) else if eqb (q .kind) 9 then say.Info (q .number % 256) (q .priority) else say.Nothing
+
+unfoldable pub alike : Particulars → Particulars → Bool
+alike q p = eqb (q .kind) (p .kind) && eqb (q .seat) (p .seat) && eqb (q .number) (p .number) && eqb (q .priority) (p .priority)
+
+-- it has them: what its kind has not is zero, and so is the octet behind its priority
+unfoldable pub saidBy : Particulars → ℕ → Told
+saidBy q behind = if alike q (particulars (kindOf q)) && eqb behind 0 then Says (kindOf q) else NoMessage
+
+abbrev pub saidAt : List ℕ → ℕ → Told
+saidAt r at = saidBy (particularsAt r at) (getD r (at + 5) 0)
+
+-- message 0 or 1 of a report; there is no third
+unfoldable pub messageIn : List ℕ → ℕ → Told
+messageIn r which =
+    if not (eqb (length r) 24) then NoMessage else if eqb which 0 then saidAt r 8 else if eqb which 1 then saidAt r 16 else Says say.Nothing

@@ -7,9 +7,9 @@ use rules::Message;
 ghost use mathlib.Core.Path.{_≡_};
 ghost use mathlib.Core.List.{List, [], _∷_, _++_};
 ghost use Prim.Native.Nat.{_+_, _<_, _≤_, _^_};
-ghost use lib.ListN.{length};
+ghost use lib.ListN.{length, getD};
 ghost use Rattle.octets.specs.Octets.{octets16, over};
-ghost use Rattle.report.specs.Report.{maskOf, seatOctet, givenOctet, howOctet, with, particulars, octetsWith, messageOctets, marksOctets, reportOctets};
+ghost use Rattle.report.specs.Report.{maskOf, seatOctet, givenOctet, howOctet, with, particulars, octetsWith, messageOctets, marksOctets, reportOctets, particularsAt, kindOf, alike, saidBy, saidAt, messageIn};
 
 // What a message has beside its receivers: its kind's number, a seat, a number, a priority; zeros for what it has not.
 pub struct Particulars {
@@ -17,6 +17,12 @@ pub struct Particulars {
     pub seat: u8,
     pub number: u16,
     pub priority: u8,
+}
+
+// What octets say: a message's kind, or that they are no message's.
+pub enum Told {
+    Says(Kind),
+    NoMessage,
 }
 
 // A set of seats as a number, seat 0 the lowest bit.
@@ -127,4 +133,73 @@ pub fn put_report(room: &mut [u8], first: Message, second: Message, marks: Marks
     put_marks(room, marks);
     put_message(room, 8, first);
     put_message(room, 16, second);
+}
+
+// What the octets of a report say.
+
+fn particulars_at(r: &[u8], at: usize) -> Particulars
+    requires { ⌜ at + 8 ≤ length (now r) ⌝ }
+    ensures { λ q. ⌜ q ≡ particularsAt (now (r .entry)) at ⌝ }
+{
+    let number = octets::number16(r, at + 2);
+    having(r[at], r[at + 1], number, r[at + 4])
+}
+
+fn kind_of(q: Particulars) -> Kind
+    ensures { λ r. ⌜ r ≡ kindOf q ⌝ }
+{
+    let kind = q.kind;
+    match kind {
+        1 => Kind::Granted(q.priority),
+        2 => Kind::Taken(q.seat, q.number),
+        3 => Kind::Deny(q.number),
+        5 => Kind::Idle(q.number),
+        6 => Kind::Revoke(q.number),
+        9 => Kind::Info((q.number % 256) as u8, q.priority),
+        _ => Kind::Nothing,
+    }
+}
+
+fn are_alike(q: Particulars, p: Particulars) -> bool
+    ensures { λ r. ⌜ r ≡ alike q p ⌝ }
+{
+    (q.kind == p.kind) & (q.seat == p.seat) & (q.number == p.number) & (q.priority == p.priority)
+}
+
+// A message is taken only if its octets are those that would be written for it.
+fn said_by(q: Particulars, behind: u8) -> Told
+    ensures { λ r. ⌜ r ≡ saidBy q behind ⌝ }
+{
+    let kind = kind_of(q);
+    let same = are_alike(q, particulars_of(kind));
+    if same & (behind == 0) {
+        Told::Says(kind)
+    } else {
+        Told::NoMessage
+    }
+}
+
+fn said_at(r: &[u8], at: usize) -> Told
+    requires { ⌜ at + 8 ≤ length (now r) ⌝ }
+    ensures { λ t. ⌜ t ≡ saidAt (now (r .entry)) at ⌝ }
+{
+    let q = particulars_at(r, at);
+    said_by(q, r[at + 5])
+}
+
+// Message 0 or 1 of a report.
+pub fn message_in(r: &[u8], which: u32) -> Told
+    ensures { λ t. ⌜ t ≡ messageIn (now (r .entry)) which ⌝ }
+{
+    if r.len() != 24 {
+        return Told::NoMessage;
+    }
+    if which == 0 {
+        return said_at(r, 8);
+    }
+    if which == 1 {
+        said_at(r, 16)
+    } else {
+        Told::Says(Kind::Nothing)
+    }
 }

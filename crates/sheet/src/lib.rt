@@ -204,6 +204,7 @@ fn put_trailer(room: &mut [u8], at: usize, offset: u16, count: u8)
 pub fn save(hall: Hall, names: Names, room: &mut [u8]) -> Saving
     ensures { λ r. ⌜ saves.told r ≡ saving hall names (now (room .entry)) ⌝ }
     ensures { λ _. ⌜ now (room .exit) ≡ roomAfter hall names (now (room .entry)) ⌝ }
+    ensures { λ r. ⌜ saves.told r .written ≤ 1124 ⌝ }
 {
     let extent = extent_of(hall, names);
     let at = extent.octets;

@@ -21,7 +21,7 @@ returns c =
     let ns = c .before .before .before .args .names in
     let room = c .before .before .before .args .room .now in
     let k : length room < length (sheetOf h ns) = omega (arith, length-sheetOf h ns, c .before .extent-of .ensures .octets, c .if1 .taken) in
-    (sym (saves-no-room h ns room k), sym (room-untouched h ns room k))
+    (sym (saves-no-room h ns room k), (sym (room-untouched h ns room k), omega arith))
 
 put-seats-requires : tie.Need-put-seats-requires
 put-seats-requires c κs = search needs
@@ -52,7 +52,7 @@ returns-2 c =
     let m = c .before .before .before .before .before .before .before .before .before .before .before .before .before .before .extent-of .ensures in
     let q : c .before .before .before .before .before .before .before .before .before .before .before .before .before .before .extent-of .result .octets + 20 ≡ length (sheetOf h ns) = omega (arith, length-sheetOf h ns, m .octets) in
     let k : length (sheetOf h ns) ≤ length room = omega (arith, q, c .before .before .before .before .before .before .before .before .before .before .before .before .before .if1 .left) in
-    (rw q (sym (saves-whole h ns room k)), sheet-made h ns room _ _ _ _ _ (m .octets) (m .count) (c .before .before .before .before .before .before .before .before .before .before .before .put-seats .ensures) (c .before .before .before .before .before .before .put-settings .ensures) (c .before .before .put-trailer .ensures) ∙ sym (room-written h ns room k))
+    (rw q (sym (saves-whole h ns room k)), (sheet-made h ns room _ _ _ _ _ (m .octets) (m .count) (c .before .before .before .before .before .before .before .before .before .before .before .put-seats .ensures) (c .before .before .before .before .before .before .put-settings .ensures) (c .before .before .put-trailer .ensures) ∙ sym (room-written h ns room k), omega (arith, m .few)))
 
 pub save-spec : {M : Type 1} → statement M
 save-spec =

@@ -1,0 +1,24 @@
+use Rattle.floor.proofs.Signed.{passed, pair-same}
+use mathlib.Core.Path.{_≡_, refl, sym, _∙_, ap}
+use native.Mathlib.Omega.{arith}
+use borrow.Author.Needs.{needs}
+use Rattle.floor.proofs.floor_read.Statement.{statement}
+use Rattle.floor.proofs.floor_read.Tie as tie
+use Rattle.floor.proofs.floor_read.Reads as reads
+use Rattle.floor.proofs.floor_read.Lts as lts
+use Rattle.held.proofs.read_held.Reads as read-held-reads
+
+read-held-requires : tie.Need-read-held-requires
+read-held-requires c κs = search needs
+
+cast-result : tie.Need-cast-result
+cast-result c = search needs
+
+same-length : tie.Need-same-length
+same-length c = search needs
+
+returns : tie.Need-returns
+returns c = pair-same (c .before .before .read-held .ensures .0) (c .before .before .read-held .ensures .1)
+
+pub floor-read-spec : {M : Type 1} → statement M
+floor-read-spec = tie.close (tie.spec read-held-requires cast-result same-length returns)

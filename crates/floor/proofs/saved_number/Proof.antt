@@ -1,0 +1,46 @@
+use Rattle.words.specs.Choice.{if_then_else_}
+use Rattle.floor.proofs.Signed.{passed, pair-same}
+use mathlib.Core.Path.{_≡_, refl, sym, _∙_, ap}
+use native.Mathlib.Omega.{arith}
+use borrow.Author.Needs.{needs}
+use Rattle.floor.proofs.saved_number.Statement.{statement}
+use Rattle.floor.proofs.saved_number.Tie as tie
+use Rattle.floor.proofs.saved_number.Reads as reads
+use Rattle.floor.proofs.saved_number.Lts as lts
+use Rattle.floor.proofs.found.Reads as found-reads
+use Rattle.floor.proofs.refusal.Reads as refusal-reads
+
+enum-known-saving : tie.Need-enum-known-saving
+enum-known-saving c = search needs
+
+cast-found : tie.Need-cast-found
+cast-found c = omega (arith, rw (c .before .saving .given .1) at (c .before .before .before .pre))
+
+found-requires : tie.Need-found-requires
+found-requires c κs = omega (arith, rw (c .before .saving .given .1) at (c .before .before .before .pre))
+
+enum-told : tie.Need-enum-told
+enum-told c = search needs
+
+refusal-requires : tie.Need-refusal-requires
+refusal-requires c κs = search needs
+
+returns : tie.Need-returns
+unfolding if_then_else_
+returns c = rw (c .before .before .saving .given .1) (passed (c .found .ok) ∙ c .found .ensures)
+
+returns-2 : tie.Need-returns-2
+unfolding if_then_else_
+returns-2 c = rw (c .before .enum-told .given .1) (passed (c .refusal .ok) ∙ c .refusal .ensures)
+
+pub saved-number-spec : {M : Type 1} → statement M
+saved-number-spec =
+    tie.close
+    (tie.spec
+    enum-known-saving
+    cast-found
+    found-requires
+    enum-told
+    refusal-requires
+    returns
+    returns-2)
