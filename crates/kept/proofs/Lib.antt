@@ -1,3 +1,5 @@
 pub mod Desks
 pub mod Refusals
 pub mod Steps
+pub mod Made
+pub mod Loaded

@@ -134,15 +134,15 @@ OneString = (s : List ℕ) (d : Desk) → Octets s → Holds s d → s ≡ octet
 
 -- A DESK THAT IS MADE OR LOADED (proofs/Made, proofs/Loaded): its octets are the first 1,200 of the room
 
-abbrev pub desk : List ℕ → List ℕ
-desk room = take 1200 room
+abbrev pub deskIn : List ℕ → List ℕ
+deskIn room = take 1200 room
 
--- settings in their ranges and enough room make a fresh desk; nothing else does
+-- settings in their ranges and enough room make a fresh desk
 abbrev pub Makes : Type 0
 Makes = (room : List ℕ) (g : Settings) → settable g ≡ true → 1200 ≤ length room → makeOn room g .0 ≡ 0
 
 abbrev pub MadeInForm : Type 0
-MadeInForm = (room : List ℕ) (g : Settings) → makeOn room g .0 ≡ 0 → Holds (desk (makeOn room g .1)) (made g)
+MadeInForm = (room : List ℕ) (g : Settings) → makeOn room g .0 ≡ 0 → Holds (deskIn (makeOn room g .1)) (made g)
 
 -- an accepted sheet leaves the fresh desk with its settings that its seats joined, one after the other
 abbrev pub joinsOf : List Seat → List Doing
@@ -162,17 +162,17 @@ joinsOn sheet = seatedFrom (readSeats (seatCount sheet) sheet 0)
 abbrev pub LoadedInForm : Type 0
 LoadedInForm =
     (room sheet : List ℕ) → loadOn room sheet .0 ≡ 0 →
-    (inRange (settingsOn sheet) ≡ true) × Holds (desk (loadOn room sheet .1)) (afterAll (made (settingsOn sheet)) (joinsOn sheet))
+    (inRange (settingsOn sheet) ≡ true) × Holds (deskIn (loadOn room sheet .1)) (afterAll (made (settingsOn sheet)) (joinsOn sheet))
 
 -- SO WHATEVER A C PROGRAM DOES, ITS DESK IS ONE THAT STEPS REACH FROM A FRESH ONE (proofs/Made, proofs/Loaded)
 
 abbrev pub FromMade : Type 0
 FromMade =
     (room : List ℕ) (g : Settings) → makeOn room g .0 ≡ 0 → (xs : List Call) →
-    Holds (leftByAll (desk (makeOn room g .1)) xs) (afterAll (made g) (didAll (desk (makeOn room g .1)) xs))
+    Holds (leftByAll (deskIn (makeOn room g .1)) xs) (afterAll (made g) (didAll (deskIn (makeOn room g .1)) xs))
 
 abbrev pub FromLoaded : Type 0
 FromLoaded =
     (room sheet : List ℕ) → loadOn room sheet .0 ≡ 0 → (xs : List Call) →
-    Holds (leftByAll (desk (loadOn room sheet .1)) xs)
-    (afterAll (made (settingsOn sheet)) (joinsOn sheet ++ didAll (desk (loadOn room sheet .1)) xs))
+    Holds (leftByAll (deskIn (loadOn room sheet .1)) xs)
+    (afterAll (made (settingsOn sheet)) (joinsOn sheet ++ didAll (deskIn (loadOn room sheet .1)) xs))
