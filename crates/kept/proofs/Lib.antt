@@ -3,3 +3,5 @@ pub mod Refusals
 pub mod Steps
 pub mod Made
 pub mod Loaded
+pub mod All
+pub mod Narrow
