@@ -5,3 +5,4 @@ pub mod Made
 pub mod Loaded
 pub mod All
 pub mod Narrow
+pub mod Numbers

@@ -2,7 +2,7 @@
 -- mark"; "Octets not in that form get 20, before all else; a step writes only octets in it, and every desk that steps can reach from a fresh
 -- one has octets there, which stand for that desk alone". Each statement here is proved in proofs/, in the file named beside it. Octets are
 -- numbers below 256, as all that is lent. Assumes nothing.
-use Prim.Native.Nat.{ℕ, _≤_}
+use Prim.Native.Nat.{ℕ, _≤_, _<_}
 use mathlib.Core.Path.{_≡_}
 use mathlib.Core.Bool.{true, false}
 use mathlib.Core.List.{List, [], _∷_, _++_}
@@ -72,6 +72,26 @@ meant (onPacket p) = readAs (reading p)
 meant (onTimer t) = timerAs t
 meant (onLeave s) = leaving s ∷ []
 meant (onJoin o n) = joining o n ∷ []
+
+-- numbers from C have their places in octets: what a newcomer says of itself has; nothing else that an act brings is kept
+abbrev pub Fits : List ℕ → Newcomer → Type 0
+Fits o n = Octets o × (n .ssrc < 4294967296) × (n .highest < 256)
+
+abbrev pub ActFits : Act → Type 0
+ActFits (onEvent e) = Unit
+ActFits (onPacket p) = Unit
+ActFits (onTimer t) = Unit
+ActFits (onLeave s) = Unit
+ActFits (onJoin o n) = Fits o n
+
+abbrev pub DoingFits : Doing → Type 0
+DoingFits (event e) = Unit
+DoingFits (leaving s) = Unit
+DoingFits (joining o n) = Fits o n
+
+abbrev pub AllFit : List Doing → Type 0
+AllFit [] = Unit
+AllFit (x ∷ xs) = DoingFits x × AllFit xs
 
 -- what was done: what is refused, for whatever reason, is not
 abbrev pub did : ℕ → List Doing → List Doing
