@@ -14,7 +14,6 @@ use Rattle.message.specs.declared.Message.{Message}
 use Rattle.reading.specs.Reading.{reading}
 use Rattle.hall.specs.declared.Settings.{Settings}
 use Rattle.hall.specs.declared.Newcomer.{Newcomer}
-use Rattle.hall.specs.Seats.{inRange}
 use Rattle.desk.specs.declared.Event.{Event}
 use Rattle.desk.specs.declared.Event.the-variants.{Expiry}
 use Rattle.history.specs.Doing.{Desk, Doing, event, leaves as leaving, joins as joining, made, afterAll}
@@ -38,6 +37,7 @@ octetsFor d = octetsOf (d .core) (d .hall) (d .names)
 
 -- octets in the form, which stand for this desk
 pub record Holds (s : List ℕ) (d : Desk) : Type 0 where
+  pub octets : Octets s
   pub inForm : formed s ≡ true
   pub stands : deskAt s ≡ d
 
@@ -113,6 +113,10 @@ abbrev pub didAll : List ℕ → List Call → List Doing
 didAll d [] = []
 didAll d (x ∷ xs) = did (leftBy d x .answer) (meant (x .act)) ++ didAll (leftBy d x .desk) xs
 
+abbrev pub CallsFit : List Call → Type 0
+CallsFit [] = Unit
+CallsFit (x ∷ xs) = ActFits (x .act) × CallsFit xs
+
 -- "ALL REFUSALS LEAVE THE DESK UNCHANGED, WITH NO MESSAGE AND NO MARK" (proofs/Refusals): nothing is written, in the desk or in the report
 
 abbrev pub RefusalWritesNothing : Type 0
@@ -133,24 +137,29 @@ NotADesk = (d r : List ℕ) (a : Act) → formed d ≡ false → acts d r a ≡ 
 
 abbrev pub StepInForm : Type 0
 StepInForm =
-    (d : List ℕ) → Octets d → formed d ≡ true → (r : List ℕ) (a : Act) →
+    (d : List ℕ) → Octets d → formed d ≡ true → (r : List ℕ) (a : Act) → ActFits a →
     Holds (acts d r a .desk) (afterAll (deskAt d) (did (acts d r a .answer) (meant a)))
 
 -- so any sequence of calls is a run of what was done
 abbrev pub CallsInForm : Type 0
 CallsInForm =
-    (d : List ℕ) → Octets d → formed d ≡ true → (xs : List Call) → Holds (leftByAll d xs) (afterAll (deskAt d) (didAll d xs))
+    (d : List ℕ) → Octets d → formed d ≡ true → (xs : List Call) → CallsFit xs →
+    Holds (leftByAll d xs) (afterAll (deskAt d) (didAll d xs))
 
 -- "EVERY DESK THAT STEPS CAN REACH FROM A FRESH ONE HAS OCTETS THERE" (proofs/Desks)
 
+-- settings that a desk can be made with
+abbrev pub Settable : Settings → Type 0
+Settable g = (settable g ≡ true) × (g .ssrc < 4294967296)
+
 abbrev pub ReachedHasOctets : Type 0
 ReachedHasOctets =
-    (g : Settings) → inRange g ≡ true → (xs : List Doing) → Holds (octetsFor (afterAll (made g) xs)) (afterAll (made g) xs)
+    (g : Settings) → Settable g → (xs : List Doing) → AllFit xs → Holds (octetsFor (afterAll (made g) xs)) (afterAll (made g) xs)
 
 -- "WHICH STAND FOR THAT DESK ALONE" (proofs/Desks): octets stand for one desk, since `deskAt` is a function; and one desk has one such string
 
 abbrev pub OneString : Type 0
-OneString = (s : List ℕ) (d : Desk) → Octets s → Holds s d → s ≡ octetsFor d
+OneString = (s : List ℕ) (d : Desk) → Holds s d → s ≡ octetsFor d
 
 -- A DESK THAT IS MADE OR LOADED (proofs/Made, proofs/Loaded): its octets are the first 1,200 of the room
 
@@ -162,7 +171,8 @@ abbrev pub Makes : Type 0
 Makes = (room : List ℕ) (g : Settings) → settable g ≡ true → 1200 ≤ length room → makeOn room g .0 ≡ 0
 
 abbrev pub MadeInForm : Type 0
-MadeInForm = (room : List ℕ) (g : Settings) → makeOn room g .0 ≡ 0 → Holds (deskIn (makeOn room g .1)) (made g)
+MadeInForm =
+    (room : List ℕ) (g : Settings) → g .ssrc < 4294967296 → makeOn room g .0 ≡ 0 → Settable g × Holds (deskIn (makeOn room g .1)) (made g)
 
 -- an accepted sheet leaves the fresh desk with its settings that its seats joined, one after the other
 abbrev pub joinsOf : List Seat → List Doing
@@ -179,20 +189,23 @@ settingsOn sheet = settingsAt sheet (settingsPlace sheet)
 abbrev pub joinsOn : List ℕ → List Doing
 joinsOn sheet = seatedFrom (readSeats (seatCount sheet) sheet 0)
 
+pub record Loaded (s sheet : List ℕ) : Type 0 where
+  pub settings : Settable (settingsOn sheet)
+  pub joins : AllFit (joinsOn sheet)
+  pub holds : Holds s (afterAll (made (settingsOn sheet)) (joinsOn sheet))
+
 abbrev pub LoadedInForm : Type 0
-LoadedInForm =
-    (room sheet : List ℕ) → loadOn room sheet .0 ≡ 0 →
-    (inRange (settingsOn sheet) ≡ true) × Holds (deskIn (loadOn room sheet .1)) (afterAll (made (settingsOn sheet)) (joinsOn sheet))
+LoadedInForm = (room sheet : List ℕ) → Octets sheet → loadOn room sheet .0 ≡ 0 → Loaded (deskIn (loadOn room sheet .1)) sheet
 
 -- SO WHATEVER A C PROGRAM DOES, ITS DESK IS ONE THAT STEPS REACH FROM A FRESH ONE (proofs/Made, proofs/Loaded)
 
 abbrev pub FromMade : Type 0
 FromMade =
-    (room : List ℕ) (g : Settings) → makeOn room g .0 ≡ 0 → (xs : List Call) →
+    (room : List ℕ) (g : Settings) → g .ssrc < 4294967296 → makeOn room g .0 ≡ 0 → (xs : List Call) → CallsFit xs →
     Holds (leftByAll (deskIn (makeOn room g .1)) xs) (afterAll (made g) (didAll (deskIn (makeOn room g .1)) xs))
 
 abbrev pub FromLoaded : Type 0
 FromLoaded =
-    (room sheet : List ℕ) → loadOn room sheet .0 ≡ 0 → (xs : List Call) →
+    (room sheet : List ℕ) → Octets sheet → loadOn room sheet .0 ≡ 0 → (xs : List Call) → CallsFit xs →
     Holds (leftByAll (deskIn (loadOn room sheet .1)) xs)
     (afterAll (made (settingsOn sheet)) (joinsOn sheet ++ didAll (deskIn (loadOn room sheet .1)) xs))
