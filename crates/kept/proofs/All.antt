@@ -1,6 +1,5 @@
 -- Lists whose elements all have something: what the pieces of a desk are made with keeps it. Assumes nothing.
-use Prim.Native.Nat.{ℕ, zero, suc, _<_}
-use mathlib.Core.Path.{_≡_}
+use Prim.Native.Nat.{ℕ, zero, suc}
 use mathlib.Core.List.{List, [], _∷_, _++_}
 use lib.ListN.{getD, take, drop, set, replicate}
 use Rattle.words.specs.Table.{padded}

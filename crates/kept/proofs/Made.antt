@@ -1,8 +1,8 @@
 -- A desk that is made is a fresh one, in octets in the form, and so is all that comes of it. Assumes nothing.
-use Prim.Native.Nat.{ℕ, _+_, _≤_}
+use Prim.Native.Nat.{ℕ, _+_}
 use native.Mathlib.Omega.{arith}
-use mathlib.Core.Path.{_≡_, refl, ap, sym, _∙_}
-use mathlib.Core.Bool.{Bool, true, false}
+use mathlib.Core.Path.{_≡_, ap, sym, _∙_}
+use mathlib.Core.Bool.{true}
 use mathlib.Core.List.{List, _++_}
 use lib.Dec.{eqb, leb}
 use lib.ListN.{length, take, drop}
@@ -12,7 +12,7 @@ use Rattle.words.specs.Choice.{if_then_else_}
 use Rattle.octets.specs.Octets.{over}
 use Rattle.hall.specs.declared.Settings.{Settings}
 use Rattle.history.specs.Cases.{by-if}
-use Rattle.history.specs.Doing.{Desk, Doing, made, afterAll}
+use Rattle.history.specs.Doing.{Desk, made, afterAll}
 use Rattle.forms.proofs.Fits.{length-octets}
 use Rattle.floor.specs.Floor.{written, settable, makeOn}
 use Rattle.kept.specs.Kept.{deskAt, octetsFor, Holds, Call, leftByAll, didAll, CallsFit, Settable, deskIn, Makes, MadeInForm, FromMade}

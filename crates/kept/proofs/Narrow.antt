@@ -1,15 +1,14 @@
 -- Every entry of a desk, in the line and on the floor, is two octets, and every step keeps it so: a seat is one of sixteen, and a priority is
 -- at most the seat's highest. Assumes nothing.
-use Prim.Native.Nat.{ℕ, _+_, _≤_, _<_}
+use Prim.Native.Nat.{ℕ, _≤_, _<_}
 use mathlib.Core.Path.{_≡_, refl, ap, sym, _∙_}
-use mathlib.Core.Bool.{Bool, true, false, not, _&&_}
-use mathlib.Core.List.{List, [], _∷_, _++_}
+use mathlib.Core.Bool.{Bool, false, not, _&&_}
+use mathlib.Core.List.{List, [], _∷_}
 use native.Mathlib.Omega.{arith}
 use lib.Dec.{eqb, leb, ltb}
-use lib.ListN.{length, getD, take, drop, replicate}
+use lib.ListN.{getD, take, drop}
 use borrow.Author.Tests.{leb-true}
-use Rattle.words.specs.Choice.{if_then_else_, if-yes, if-no, by-test}
-use Rattle.words.specs.Below.{and-left}
+use Rattle.words.specs.Choice.{if-yes, if-no, by-test}
 use Rattle.history.specs.Cases.{by-if}
 use Rattle.line.specs.declared.Entry.{Entry}
 use Rattle.line.specs.declared.Line.{Line}
@@ -22,7 +21,7 @@ use Rattle.hall.specs.declared.Found.{Found}
 use Rattle.hall.specs.declared.Found.the-variants.{At, Nowhere}
 use Rattle.hall.specs.Seats.{only, alone, queues, receivesOnly, asked, effective, hasSsrc, seatOf}
 use Rattle.rules.specs.declared.Beside.{Beside}
-use Rattle.rules.specs.declared.Beside.the-variants.{NoMore, T2, T20}
+use Rattle.rules.specs.declared.Beside.the-variants.{T2, T20}
 use Rattle.rules.specs.declared.Phase.{Phase}
 use Rattle.rules.specs.declared.Phase.the-variants.{Stopped, Idle, Taken, Revoking}
 use Rattle.rules.specs.declared.Core.{Core}

@@ -1,19 +1,19 @@
 -- Every number of a desk has its place in octets, and whatever happens keeps it so; then the desk's octets are numbers below 256.
 -- Assumes nothing.
-use Prim.Native.Nat.{ℕ, zero, suc, _+_, _*_, _/_, _%_, _≤_, _<_}
-use mathlib.Core.Path.{_≡_, refl, ap, sym, _∙_}
-use mathlib.Core.Bool.{Bool, true, false, not, _||_}
+use Prim.Native.Nat.{ℕ, _+_, _*_, _/_, _%_, _≤_, _<_}
+use mathlib.Core.Path.{_≡_}
+use mathlib.Core.Bool.{Bool, true, false, not}
 use mathlib.Core.List.{List, [], _∷_, _++_}
 use native.Mathlib.Omega.{arith}
 use lib.Dec.{eqb}
 use lib.ListN.{length, getD, replicate}
 use borrow.Author.Tests.{eqb-true}
-use Rattle.words.specs.Choice.{if_then_else_, by-test}
+use Rattle.words.specs.Choice.{by-test}
 use Rattle.octets.specs.Octets.{be16, be32, octets16, octets32}
 use Rattle.history.specs.Cases.{by-if}
 use Rattle.line.specs.declared.Entry.{Entry}
 use Rattle.line.specs.declared.Line.{Line}
-use Rattle.line.specs.Line.{waiting, lineOf, empty}
+use Rattle.line.specs.Line.{waiting, empty}
 use Rattle.hall.specs.declared.Settings.{Settings}
 use Rattle.hall.specs.declared.Hall.{Hall}
 use Rattle.hall.specs.declared.Name.{Name}
@@ -22,7 +22,7 @@ use Rattle.hall.specs.declared.Newcomer.{Newcomer}
 use Rattle.hall.specs.declared.Joined.{Joined}
 use Rattle.hall.specs.declared.Found.{Found}
 use Rattle.hall.specs.declared.Found.the-variants.{At, Nowhere}
-use Rattle.hall.specs.Seats.{isPresent, inRange, emptyHall, freeSeat, withSeat, noOne}
+use Rattle.hall.specs.Seats.{isPresent, emptyHall, freeSeat, withSeat, noOne}
 use Rattle.hall.specs.Identity.{nameOf, noName, noNames, nameAt, withName, seatNamed, lengthAllowed}
 use Rattle.hall.specs.Identity as identity
 use Rattle.hall.specs.Join.{isAt, ssrcTaken, seated, join}
@@ -30,14 +30,12 @@ use Rattle.rules.specs.declared.Beside.{Beside}
 use Rattle.rules.specs.declared.Beside.the-variants.{NoMore, T2, T20}
 use Rattle.rules.specs.declared.Phase.{Phase}
 use Rattle.rules.specs.declared.Phase.the-variants.{Stopped, Idle, Taken, Revoking}
-use Rattle.rules.specs.declared.Core.{Core}
-use Rattle.rules.specs.declared.Step.{Step}
 use Rattle.desk.specs.declared.Left.{Left}
 use Rattle.desk.specs.Events.{fresh, leave}
 use Rattle.history.specs.Doing.{Desk, Doing, event, leaves as leaving, joins as joining, made, does, deskOf, after}
 use Rattle.reach.specs.Sound.{Sound, causeOk}
 use Rattle.reach.specs.Hall.{hall-ok}
-use Rattle.form.specs.Form.{letters, flag, kindOctet, besideOctet, timersOctet, holderIn, causeIn, phaseOctets, seatIn, priorityIn, lineOctets, coreOctets, flagOctets, seatOctets, wordOctets, settingsOctets, hallOctets, lengthOctets, nameOctets, namesOctets, octetsOf, octetAt, besideOf, entryOf, phaseOf, phaseAt, entryAt, entriesAt, coreAt, octetsAt, wordsAt, settingsAt, hallAt, nameIn, namesAt}
+use Rattle.form.specs.Form.{letters, flag, kindOctet, besideOctet, timersOctet, holderIn, causeIn, phaseOctets, seatIn, priorityIn, lineOctets, coreOctets, flagOctets, seatOctets, wordOctets, settingsOctets, hallOctets, lengthOctets, nameOctets, namesOctets, octetsOf, octetAt, entryOf, phaseOf, phaseAt, entryAt, entriesAt, coreAt, octetsAt, wordsAt, settingsAt, hallAt, nameIn, namesAt}
 use Rattle.form.specs.Columns.{column, rows}
 use Rattle.forms.specs.Forms.{Octets}
 use Rattle.forms.proofs.Back.{name-short}

@@ -1,8 +1,8 @@
 -- What a call leaves in a desk's octets is in the form, and stands for the desk that the rules leave: a call, then any sequence of them.
 -- Assumes nothing.
 use Prim.Native.Nat.{ℕ}
-use mathlib.Core.Path.{_≡_, refl, ap, sym, _∙_}
-use mathlib.Core.Bool.{Bool, true, false}
+use mathlib.Core.Path.{_≡_, refl, ap, _∙_}
+use mathlib.Core.Bool.{true, false}
 use mathlib.Core.List.{List, [], _∷_, _++_}
 use lib.Dec.{eqb, leb}
 use lib.ListN.{length}
@@ -21,7 +21,7 @@ use Rattle.history.specs.Cases.{by-if}
 use Rattle.history.specs.Doing.{Desk, Doing, event, leaves as leaving, joins as joining, does, after, afterAll}
 use Rattle.call.specs.declared.Called.{Called}
 use Rattle.call.specs.Call.{eventOf, byReading, hears}
-use Rattle.form.specs.Form.{octetsOf, coreAt, hallAt, namesAt}
+use Rattle.form.specs.Form.{coreAt, hallAt, namesAt}
 use Rattle.forms.specs.Forms.{Octets}
 use Rattle.floor.specs.declared.Named.{Named}
 use Rattle.floor.specs.declared.Named.the-variants.{Known, Unknown}

@@ -12,11 +12,12 @@ use Rattle.words.specs.Choice.{if_then_else_}
 use Rattle.message.specs.Answers.{Answer, refused, result}
 use Rattle.message.specs.declared.Message.{Message}
 use Rattle.reading.specs.Reading.{reading}
+use Rattle.hall.specs.Answers.{number}
 use Rattle.hall.specs.declared.Settings.{Settings}
 use Rattle.hall.specs.declared.Newcomer.{Newcomer}
 use Rattle.desk.specs.declared.Event.{Event}
 use Rattle.desk.specs.declared.Event.the-variants.{Expiry}
-use Rattle.history.specs.Doing.{Desk, Doing, event, leaves as leaving, joins as joining, made, afterAll}
+use Rattle.history.specs.Doing.{Desk, Doing, event, leaves as leaving, joins as joining, made, does, afterAll}
 use Rattle.call.specs.Call.{eventOf}
 use Rattle.sheet.specs.Layout.{Seat}
 use Rattle.sheet.specs.Loading.{Seats, whole, fault, settingsAt, settingsPlace, seatCount, readSeats}
@@ -24,7 +25,7 @@ use Rattle.form.specs.Form.{octetsOf, coreAt, hallAt, namesAt}
 use Rattle.forms.specs.Forms.{Octets}
 use Rattle.floor.specs.declared.Named.{Named}
 use Rattle.floor.specs.declared.Named.the-variants.{Known, Unknown}
-use Rattle.floor.specs.Floor.{formed, Leaves, leaves, eventOn, packetOn, firedOn, leaveOn, joinOn, settable, makeOn, loadOn}
+use Rattle.floor.specs.Floor.{formed, Leaves, leaves, eventOn, packetOn, notRunning, firedOn, leaveOn, joinOn, settable, makeOn, loadOn}
 
 -- WHAT A C PROGRAM HAS
 
@@ -72,6 +73,25 @@ meant (onPacket p) = readAs (reading p)
 meant (onTimer t) = timerAs t
 meant (onLeave s) = leaving s ∷ []
 meant (onJoin o n) = joining o n ∷ []
+
+-- what the rules answer to it: a packet that is not read has its refusal's number, and a timer that no desk has is one that is not running
+abbrev pub ruledOn : Desk → Doing → ℕ
+ruledOn k x = number (does k x .report .answer)
+
+abbrev pub readRuled : Desk → Answer Message → ℕ
+readRuled k (refused n) = n
+readRuled k (result m) = ruledOn k (event (eventOf m))
+
+abbrev pub timerRuled : Desk → Named → ℕ
+timerRuled k (Known t) = ruledOn k (event (Expiry t))
+timerRuled k Unknown = notRunning (k .core .phase)
+
+unfoldable pub ruled : Desk → Act → ℕ
+ruled k (onEvent e) = ruledOn k (event e)
+ruled k (onPacket p) = readRuled k (reading p)
+ruled k (onTimer t) = timerRuled k t
+ruled k (onLeave s) = ruledOn k (leaving s)
+ruled k (onJoin o n) = ruledOn k (joining o n)
 
 -- numbers from C have their places in octets: what a newcomer says of itself has; nothing else that an act brings is kept
 abbrev pub Fits : List ℕ → Newcomer → Type 0
@@ -132,6 +152,11 @@ NotLoaded = (room sheet : List ℕ) → (loadOn room sheet .0 ≡ 0 → ⊥) →
 
 abbrev pub NotADesk : Type 0
 NotADesk = (d r : List ℕ) (a : Act) → formed d ≡ false → acts d r a ≡ leaves 20 d r
+
+-- then comes what the rules answer, and nothing else is refused but for want of 24 octets for the report of what would be done
+abbrev pub RulesAnswer : Type 0
+RulesAnswer =
+    (d r : List ℕ) (a : Act) → formed d ≡ true → (ruled (deskAt d) a ≡ 0 → 24 ≤ length r) → acts d r a .answer ≡ ruled (deskAt d) a
 
 -- "A STEP WRITES ONLY OCTETS IN IT" (proofs/Steps), and they stand for the desk that the rules leave
 
