@@ -1,0 +1,139 @@
+-- A desk that is loaded is the fresh one with the sheet's settings that the sheet's seats joined, in octets in the form, and so is all that
+-- comes of it. Assumes nothing.
+use Prim.Native.Nat.{ℕ, zero, suc, _+_}
+use native.Mathlib.Omega.{arith}
+use mathlib.Core.Path.{_≡_, refl, ap, sym, _∙_}
+use mathlib.Core.Bool.{Bool, true, false, not, _&&_, _||_}
+use mathlib.Core.List.{List, [], _∷_, _++_}
+use lib.Dec.{eqb, ltb}
+use lib.ListN.{length, take, drop}
+use borrow.Author.Tests.{not-false, lt-ltb}
+use Rattle.octets.specs.Octets.{part}
+use Rattle.hall.specs.declared.Hall.{Hall}
+use Rattle.hall.specs.declared.Names.{Names}
+use Rattle.hall.specs.declared.Found.{Found}
+use Rattle.hall.specs.declared.Found.the-variants.{At, Nowhere}
+use Rattle.hall.specs.Seats.{inRange, emptyHall}
+use Rattle.hall.specs.Identity.{noNames}
+use Rattle.hall.specs.Join.{join}
+use Rattle.desk.specs.Events.{fresh}
+use Rattle.history.specs.Cases.{by-if}
+use Rattle.history.specs.Doing.{Desk, made, does, afterAll}
+use Rattle.sheet.specs.Layout.{Seat, form, letters}
+use Rattle.sheet.specs.Loading.{Load, Seats, whole, fault, refused, ifSeated, joinAll, seatAll, settled, loading, settingsPlace, settingsAt, whoIs, readSeat, identityLength, afterSeat, laidOut, infront, readSeats, zeros, settingsOffset, seatsOffset, seatCount, formOf, lettersOf}
+use Rattle.forms.specs.Forms.{Octets}
+use Rattle.sound.proofs.Laws.{both, five}
+use Rattle.floor.specs.Floor.{inOctets, settable, loadOn}
+use Rattle.kept.specs.Kept.{Fits, AllFit, leftByAll, didAll, Settable, deskIn, joinsOf, seatedFrom, settingsOn, joinsOn, LoadedInForm, FromLoaded}
+use Rattle.kept.proofs.All.{all-take, all-drop, all-at, at-all}
+use Rattle.kept.proofs.Numbers.{Octet, half-small, word-small}
+use Rattle.kept.proofs.Desks.{Right, right-made, right-run}
+use Rattle.kept.proofs.Steps.{after-both, told-as}
+use Rattle.kept.proofs.Made.{done-only, written-so, from-there}
+
+-- what loading answers, as a desk
+abbrev deskLoaded : Load → Desk
+deskLoaded l = record { core = l .core; hall = l .hall; names = l .names }
+
+abbrev empty : Hall → Names → Desk
+empty h ns = record { core = fresh; hall = h; names = ns }
+
+-- who sits down does so by join
+if-seated : (f : Found) (l : Load) → ifSeated f l .number ≡ 0 → ifSeated f l ≡ l
+unfolding refused
+if-seated (At s) l q = refl
+if-seated Nowhere l q = absurd (omega (arith, q))
+
+joins-so : (h : Hall) (ns : Names) (xs : List Seat) → joinAll h ns xs .number ≡ 0 → deskLoaded (joinAll h ns xs) ≡ afterAll (empty h ns) (joinsOf xs)
+unfolding joinAll does
+joins-so h ns [] q = refl
+joins-so h ns (x ∷ xs) q =
+    let j = join h ns (x .identity) (x .who) in
+    let l = joinAll (j .hall) (j .names) xs in
+    let e : ifSeated (j .seat) l ≡ l = if-seated (j .seat) l q in
+    ap deskLoaded e ∙ joins-so (j .hall) (j .names) xs (sym (ap (λ (m : Load). m .number) e) ∙ q)
+
+seats-so : (h : Hall) (ns : Names) (s : Seats) → seatAll h ns s .number ≡ 0 → deskLoaded (seatAll h ns s) ≡ afterAll (empty h ns) (seatedFrom s)
+unfolding refused
+seats-so h ns (whole xs) q = joins-so h ns xs q
+seats-so h ns fault q = absurd (omega (arith, q))
+
+neither : (a b : Bool) → (a || b) ≡ false → a ≡ false
+neither true b q = q
+neither false b q = refl
+
+module _ (s : List ℕ) where
+  abbrev IsLoaded : Load → Type 0
+  IsLoaded l = l .number ≡ 0 → (inRange (settingsOn s) ≡ true) × (deskLoaded l ≡ afterAll (made (settingsOn s)) (joinsOn s))
+
+  not-loaded : (n : ℕ) → (n ≡ 0 → ⊥) → IsLoaded (refused n)
+  unfolding refused
+  not-loaded n f q = absurd (f q)
+
+  settled-so : IsLoaded (settled s)
+  settled-so =
+      let a = not (inRange (settingsOn s)) in
+      let b = not (eqb (zeros s) 0) in
+      by-if IsLoaded (a || b) (λ _. not-loaded 44 (λ z. omega (arith, z)))
+      (λ e q. (not-false (inRange (settingsOn s)) (neither a b e), seats-so (emptyHall (settingsOn s)) noNames (readSeats (seatCount s) s 0) q))
+
+  loaded-so : IsLoaded (loading s)
+  unfolding loading
+  loaded-so =
+      by-if IsLoaded (ltb (length s) 20 || not (eqb (lettersOf s) letters)) (λ _. not-loaded 41 (λ z. omega (arith, z)))
+      (λ _. by-if IsLoaded (not (eqb (formOf s) form)) (λ _. not-loaded 42 (λ z. omega (arith, z)))
+      (λ _. by-if IsLoaded (ltb 16 (seatCount s) || not (eqb (settingsOffset s + 20) (length s)) || not (eqb (seatsOffset s) 0))
+      (λ _. not-loaded 43 (λ z. omega (arith, z))) (λ _. settled-so)))
+
+-- a sheet's numbers have their places in octets
+module _ (s : List ℕ) (o : Octets s) where
+  part-octets : (at n : ℕ) → Octets (part s at n)
+  unfolding part
+  part-octets at n = all-at Octet 0 (omega arith) (take n (drop at s)) (all-take Octet n (drop at s) (all-drop Octet at s (at-all Octet 0 s o)))
+
+  seat-fits : (at : ℕ) → Fits (readSeat s at .identity) (readSeat s at .who)
+  unfolding readSeat whoIs
+  seat-fits at = (part-octets (at + 7) (identityLength s at), word-small s o (at + 2), o (at + 1))
+
+  infront-fits : (x : Seat) → Fits (x .identity) (x .who) → (xs : Seats) → AllFit (seatedFrom xs) → AllFit (seatedFrom (infront x xs))
+  infront-fits x k (whole xs) w = (k, w)
+  infront-fits x k fault w = tt
+
+  seats-fit : (n at : ℕ) → AllFit (seatedFrom (readSeats n s at))
+  unfolding readSeats
+  seats-fit zero at = by-if (λ (x : Seats). AllFit (seatedFrom x)) (eqb at (settingsPlace s)) (λ _. tt) (λ _. tt)
+  seats-fit (suc n) at =
+      by-if (λ (x : Seats). AllFit (seatedFrom x)) (laidOut s at)
+      (λ _. infront-fits (readSeat s at) (seat-fits at) (readSeats n s (afterSeat s at)) (seats-fit n (afterSeat s at))) (λ _. tt)
+
+  settings-fit : inRange (settingsOn s) ≡ true → Settable (settingsOn s)
+  unfolding settable inOctets settingsAt
+  settings-fit q =
+      let at = settingsPlace s in
+      let g = settingsOn s in
+      let b = five (ltb (g .level) 256) (ltb (g .limit) 256) (ltb (g .c7) 256) (ltb (g .c20) 256) (ltb (g .duration) 65536) (lt-ltb (g .level) 256 (o (at + 4))) (lt-ltb (g .limit) 256 (o (at + 5))) (lt-ltb (g .c7) 256 (o (at + 6))) (lt-ltb (g .c20) 256 (o (at + 7))) (lt-ltb (g .duration) 65536 (half-small s o (at + 8))) in
+      (both (ltb (g .level) 256 && ltb (g .limit) 256 && ltb (g .c7) 256 && ltb (g .c20) 256 && ltb (g .duration) 65536) (inRange g) b q, word-small s o at)
+
+pub loaded-in-form : LoadedInForm
+loaded-in-form room sheet o q =
+    let d = deskLoaded (loading sheet) in
+    let l = loaded-so sheet (done-only room (loading sheet .number) d q) in
+    let g = settingsOn sheet in
+    let e = afterAll (made g) (joinsOn sheet) in
+    let k : Settable g = settings-fit sheet o (l .0) in
+    let w : AllFit (joinsOn sheet) = seats-fit sheet o (seatCount sheet) 0 in
+    let r : Right d = rw (l .1) (right-run (made g) (joinsOn sheet) w (right-made g k)) in
+    record {
+      settings = k;
+      joins = w;
+      holds = told-as (deskIn (loadOn room sheet .1)) d e (l .1) (written-so d room (loading sheet .number) (λ _. r) q);
+    }
+
+pub from-loaded : FromLoaded
+from-loaded room sheet o q xs w =
+    let l = loaded-in-form room sheet o q in
+    let g = settingsOn sheet in
+    let s = deskIn (loadOn room sheet .1) in
+    let e = afterAll (made g) (joinsOn sheet) in
+    told-as (leftByAll s xs) (afterAll e (didAll s xs)) (afterAll (made g) (joinsOn sheet ++ didAll s xs)) (after-both (made g) (joinsOn sheet) (didAll s xs))
+    (from-there s e (l .holds) xs w)

@@ -1,0 +1,66 @@
+-- A desk that is made is a fresh one, in octets in the form, and so is all that comes of it. Assumes nothing.
+use Prim.Native.Nat.{ℕ, _+_}
+use native.Mathlib.Omega.{arith}
+use mathlib.Core.Path.{_≡_, ap, sym, _∙_}
+use mathlib.Core.Bool.{true}
+use mathlib.Core.List.{List, _++_}
+use lib.Dec.{eqb, leb}
+use lib.ListN.{length, take, drop}
+use lib.Seq.{take-append-seam}
+use borrow.Author.Tests.{eqb-true, eqb-false, le-leb}
+use Rattle.words.specs.Choice.{if_then_else_}
+use Rattle.octets.specs.Octets.{over}
+use Rattle.hall.specs.declared.Settings.{Settings}
+use Rattle.history.specs.Cases.{by-if}
+use Rattle.history.specs.Doing.{Desk, made, afterAll}
+use Rattle.forms.proofs.Fits.{length-octets}
+use Rattle.floor.specs.Floor.{written, settable, makeOn}
+use Rattle.kept.specs.Kept.{deskAt, octetsFor, Holds, Call, leftByAll, didAll, CallsFit, Settable, deskIn, Makes, MadeInForm, FromMade}
+use Rattle.kept.proofs.Desks.{Right, right-made, has-octets}
+use Rattle.kept.proofs.Steps.{told-as, calls-in-form}
+
+-- the first 1,200 octets of a room that a desk was written into are the desk's
+first-written : (room : List ℕ) (d : Desk) → deskIn (over room 0 (octetsFor d)) ≡ octetsFor d
+unfolding over
+first-written room d =
+    let l : length (octetsFor d) ≡ 1200 = length-octets (d .core) (d .hall) (d .names) in
+    let x = drop (0 + length (octetsFor d)) room in
+    ap (λ (n : ℕ). take n (octetsFor d ++ x)) (sym l) ∙ take-append-seam (octetsFor d) x
+
+-- a room is written only where all is done
+pub done-only : (room : List ℕ) (n : ℕ) (d : Desk) → written room n (d .core) (d .hall) (d .names) .0 ≡ 0 → n ≡ 0
+unfolding written
+done-only room n d = by-if (λ (w : ℕ × List ℕ). w .0 ≡ 0 → n ≡ 0) (eqb n 0) (λ e _. eqb-true n 0 e) (λ _ z. z)
+
+module _ (d : Desk) where
+  abbrev pub Written : ℕ × List ℕ → Type 0
+  Written w = w .0 ≡ 0 → Holds (deskIn (w .1)) d
+
+  pub written-so : (room : List ℕ) (n : ℕ) → (n ≡ 0 → Right d) → Written (written room n (d .core) (d .hall) (d .names))
+  unfolding written
+  written-so room n k =
+      by-if Written (eqb n 0)
+      (λ e. by-if Written (leb 1200 (length room)) (λ _ _. rw (first-written room d) (has-octets d (k (eqb-true n 0 e)))) (λ _ z. absurd (omega (arith, z))))
+      (λ e z. absurd (eqb-false n 0 e z))
+
+pub makes : Makes
+unfolding written if_then_else_
+makes room g q l = rw (q, le-leb 1200 (length room) l)
+
+-- settings that are refused make none
+settable-so : (room : List ℕ) (g : Settings) → makeOn room g .0 ≡ 0 → settable g ≡ true
+settable-so room g = by-if (λ (w : ℕ × List ℕ). w .0 ≡ 0 → settable g ≡ true) (settable g) (λ q _. q) (λ _ z. absurd (omega (arith, z)))
+
+pub made-in-form : MadeInForm
+made-in-form room g b z =
+    let k : Settable g = (settable-so room g z, b) in
+    (k, by-if (Written (made g)) (settable g) (λ _. written-so (made g) room 0 (λ _. right-made g k)) (λ _ y. absurd (omega (arith, y))) z)
+
+-- whatever is done to octets that hold a desk
+pub from-there : (s : List ℕ) (d : Desk) → Holds s d → (xs : List Call) → CallsFit xs → Holds (leftByAll s xs) (afterAll d (didAll s xs))
+from-there s d h xs w =
+    told-as (leftByAll s xs) (afterAll (deskAt s) (didAll s xs)) (afterAll d (didAll s xs)) (ap (λ (e : Desk). afterAll e (didAll s xs)) (h .stands))
+    (calls-in-form s (h .octets) (h .inForm) xs w)
+
+pub from-made : FromMade
+from-made room g b z xs w = from-there (deskIn (makeOn room g .1)) (made g) (made-in-form room g b z .1) xs w
