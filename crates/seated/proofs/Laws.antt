@@ -10,7 +10,7 @@ use lib.Dec.{eqb, leb, ltb}
 use borrow.Author.Tests.{eqb-true, eqb-false, eq-eqb, leb-true, ltb-true, ltb-false, not-true}
 use Rattle.words.specs.Choice.{if-yes, if-no, by-test}
 use Rattle.words.specs.Below.{allBelow, below, and-left, and-right}
-use Rattle.words.proofs.Tests.{both}
+use Rattle.words.proofs.Tests.{both, and-four, four}
 use Rattle.hall.specs.declared.Found.{Found}
 use Rattle.hall.specs.declared.Found.the-variants.{At}
 use Rattle.hall.specs.Seats.{firstFrom, lowest}
@@ -47,6 +47,17 @@ halves f =
     ap f (sym e) ∙ and-right (f (i - 30)) (f (30 + (i - 30))) (below (λ k. f k && f (30 + k)) 32 q (i - 30) (omega arith)))))
     (λ q. all-below (λ i. f i && f (30 + i)) 32
     (λ i b. both (f i) (f (30 + i)) (below f 62 q i (omega arith)) (below f 62 q (30 + i) (omega arith))))
+
+-- and so they are with thirty-two from two places more
+pub quarters : (f : ℕ → Bool) → allBelow (λ i. f i && f (10 + i) && f (20 + i) && f (30 + i)) 32 ≡ allBelow f 62
+quarters f =
+    together (allBelow (λ i. f i && f (10 + i) && f (20 + i) && f (30 + i)) 32) (allBelow f 62)
+    (λ q. sym (halves f) ∙ all-below (λ i. f i && f (30 + i)) 32
+    (λ i b. let a = and-four (f i) (f (10 + i)) (f (20 + i)) (f (30 + i)) (below (λ k. f k && f (10 + k) && f (20 + k) && f (30 + k)) 32 q i b) in
+    both (f i) (f (30 + i)) (a .0) (a .3)))
+    (λ q. all-below (λ i. f i && f (10 + i) && f (20 + i) && f (30 + i)) 32
+    (λ i b. four (f i) (f (10 + i)) (f (20 + i)) (f (30 + i)) (below f 62 q i (omega arith)) (below f 62 q (10 + i) (omega arith))
+    (below f 62 q (20 + i) (omega arith)) (below f 62 q (30 + i) (omega arith))))
 
 -- a column's test, counted from its start
 pub counted : (top : ℕ) (s : List ℕ) (at n : ℕ) → allBelow (λ i. leb (octetAt s (at + i)) top) n ≡ upTo top s at n

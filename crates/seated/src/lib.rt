@@ -16,8 +16,8 @@ fn wide(x: u8) -> usize
     x as usize
 }
 
-// Sixty-two octets at a time: thirty-two from the start and thirty-two up to the end, two of them in both. So every turn works on whole
-// vectors, and none is left over.
+// Sixty-two octets at a time: thirty-two from the start and thirty-two up to the end, two of them in both. So all of it is whole vectors,
+// and nothing is left over. Zeros are asked from two places more: a shorter turn would be unrolled octet by octet before it is made vectors.
 
 fn none_at(s: &[u8], at: usize) -> bool
     requires { ⌜ at + 62 ≤ length (now s) ⌝ }
@@ -26,8 +26,10 @@ fn none_at(s: &[u8], at: usize) -> bool
     let mut ok = true;
     let mut i = 0;
     while i < 32 {
-        let j = 30 + i;
-        let here = (s[at + i] <= 0) & (s[at + j] <= 0);
+        let j = 10 + i;
+        let k = 20 + i;
+        let l = 30 + i;
+        let here = (s[at + i] <= 0) & (s[at + j] <= 0) & (s[at + k] <= 0) & (s[at + l] <= 0);
         ok = here & ok;
         i += 1;
     }
