@@ -11,7 +11,7 @@ use mir.Syntax.{w8}
 use mir.Val.{Fits}
 use borrow.Author.Tests.{eqb-true, ltb-true}
 use Rattle.words.specs.Choice.{if_then_else_}
-use Rattle.words.specs.Below.{and-left}
+use Rattle.words.specs.Below.{and-left, and-right}
 use Rattle.octets.specs.Octets.{over}
 use Rattle.message.specs.Answers.{Answer}
 use Rattle.rules.specs.declared.Core.{Core}
@@ -41,6 +41,10 @@ fits-whole d q =
 
 pub fits-room : (d : List ℕ) → canonical d ≡ true → 1200 ≤ length d
 fits-room d q = omega (arith, fits-whole d q)
+
+pub fits-names : (d : List ℕ) → canonical d ≡ true → namesFit d ≡ true
+unfolding canonical
+fits-names d q = and-right (eqb (length d) 1200 && lettersFit d && coreFits d && hallFits d) (namesFit d) q
 
 module _ (d : List ℕ) (q : formed d ≡ true) where
   pub fits : canonical d ≡ true

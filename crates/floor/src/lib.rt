@@ -52,8 +52,9 @@ fn is_desk(desk: &[u8]) -> bool
     if form::is_canonical(desk) {
         let core = form::core_at(desk);
         let hall = form::hall_at(desk);
-        let names = form::names_at(desk);
-        sound::is_sound(core, hall, names)
+        let seats = seated::seats_are_sound(desk);
+        let floor = sound::core_is_sound(hall, core);
+        seats & floor
     } else {
         false
     }

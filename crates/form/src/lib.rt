@@ -23,7 +23,7 @@ ghost use Rattle.form.specs.Form.{letters, flag, kindOctet, besideOctet,
 
 // Whether octets hold what the table says. A test of a column has no early exit, so that it runs on many octets at once.
 
-fn up_to(s: &[u8], top: u8, at: usize, count: usize) -> bool
+pub fn up_to(s: &[u8], top: u8, at: usize, count: usize) -> bool
     requires { ⌜ at + count ≤ length (now s) ⌝ }
     ensures { λ r. ⌜ r ≡ upTo top (now (s .entry)) at count ⌝ }
 {

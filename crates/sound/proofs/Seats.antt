@@ -77,12 +77,12 @@ unfolding octetsOf
 none-short = refl
 
 -- octet for octet is the same list
-same-self : (o : List ℕ) → same o o ≡ true
+pub same-self : (o : List ℕ) → same o o ≡ true
 unfolding same if_then_else_
 same-self [] = refl
 same-self (x ∷ o) = rw (eq-eqb x x refl) (same-self o)
 
-same-is : (a b : List ℕ) → same a b ≡ true → a ≡ b
+pub same-is : (a b : List ℕ) → same a b ≡ true → a ≡ b
 unfolding same if_then_else_
 same-is [] [] q = refl
 same-is [] (y ∷ b) q = clash q refl
@@ -93,7 +93,7 @@ same-is (x ∷ a) (y ∷ b) q =
     (λ t. clash (rw t at q) refl)
 
 -- a search that finds a seat, and what it finds where no other passes its test
-finds-at : (f : Found) (s : ℕ) → finds f s ≡ true → f ≡ At s
+pub finds-at : (f : Found) (s : ℕ) → finds f s ≡ true → f ≡ At s
 finds-at (At t) s q = ap At (eqb-true t s q)
 finds-at Nowhere s q = clash q refl
 

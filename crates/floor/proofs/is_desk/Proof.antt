@@ -1,17 +1,11 @@
+-- `floor::is_desk` meets its contract. Assumes nothing.
 use mathlib.Core.Path.{_≡_, refl, sym, _∙_}
-use Rattle.floor.specs.Floor.{formed}
-use Rattle.floor.proofs.Desks.{fits-room}
-use native.Mathlib.Omega.{arith}
 use borrow.Author.Needs.{needs}
+use Rattle.sound.specs.Test.{isSound}
+use Rattle.floor.specs.Floor.{formed}
+use Rattle.floor.proofs.Desks.{fits-room, fits-names}
 use Rattle.floor.proofs.is_desk.Statement.{statement}
 use Rattle.floor.proofs.is_desk.Tie as tie
-use Rattle.floor.proofs.is_desk.Reads as reads
-use Rattle.floor.proofs.is_desk.Lts as lts
-use Rattle.form.proofs.core_at.Reads as core-at-reads
-use Rattle.form.proofs.hall_at.Reads as hall-at-reads
-use Rattle.form.proofs.is_canonical.Reads as is-canonical-reads
-use Rattle.form.proofs.names_at.Reads as names-at-reads
-use Rattle.sound.proofs.is_sound.Reads as is-sound-reads
 
 is-canonical-requires : tie.Need-is-canonical-requires
 is-canonical-requires c κs = search needs
@@ -22,15 +16,23 @@ core-at-requires c κs = fits-room _ (sym (c .before .is-canonical .ensures) ∙
 hall-at-requires : tie.Need-hall-at-requires
 hall-at-requires c κs = fits-room _ (sym (c .before .before .is-canonical .ensures) ∙ c .before .if1 .taken)
 
-names-at-requires : tie.Need-names-at-requires
-names-at-requires c κs = fits-room _ (sym (c .before .before .before .is-canonical .ensures) ∙ c .before .before .if1 .taken)
+seats-are-sound-requires : tie.Need-seats-are-sound-requires
+seats-are-sound-requires c κs =
+    let q = sym (c .before .before .before .is-canonical .ensures) ∙ c .before .before .if1 .taken in (fits-room _ q, fits-names _ q)
 
-is-sound-requires : tie.Need-is-sound-requires
-is-sound-requires c κs = search needs
+core-is-sound-requires : tie.Need-core-is-sound-requires
+core-is-sound-requires c κs = search needs
 
 returns : tie.Need-returns
-unfolding formed
-returns c = rw (c .is-sound .ensures, c .before .before .before .core-at .ensures, c .before .before .hall-at .ensures, c .before .names-at .ensures, sym (c .before .before .before .before .before .is-canonical .ensures) ∙ c .before .before .before .before .if1 .taken)
+unfolding formed isSound
+returns c =
+    rw (
+      c .core-is-sound .ensures,
+      c .before .seats-are-sound .ensures,
+      c .before .before .hall-at .ensures,
+      c .before .before .before .core-at .ensures,
+      sym (c .before .before .before .before .before .is-canonical .ensures) ∙ c .before .before .before .before .if1 .taken,
+    )
 
 returns-2 : tie.Need-returns-2
 unfolding formed
@@ -43,7 +45,7 @@ is-desk-spec =
     is-canonical-requires
     core-at-requires
     hall-at-requires
-    names-at-requires
-    is-sound-requires
+    seats-are-sound-requires
+    core-is-sound-requires
     returns
     returns-2)

@@ -1,0 +1,105 @@
+-- Laws of tests: of two that pass together, of all below a number, of sixty-two octets at a time, and of the search for the lowest seat.
+-- Assumes nothing.
+use Prim.Native.Nat.{ℕ, zero, suc, _+_, _-_, _≤_, _<_}
+use mathlib.Core.Path.{_≡_, refl, ap, sym, _∙_}
+use mathlib.Core.Bool.{Bool, true, false, not, _&&_}
+use mathlib.Core.List.{List}
+use native.Mathlib.Nat.{add-zero}
+use native.Mathlib.Omega.{arith}
+use lib.Dec.{eqb, leb, ltb}
+use borrow.Author.Tests.{eqb-true, eqb-false, eq-eqb, leb-true, ltb-true, ltb-false, not-true}
+use Rattle.words.specs.Choice.{if-yes, if-no, by-test}
+use Rattle.words.specs.Below.{allBelow, below, and-left, and-right}
+use Rattle.words.proofs.Tests.{both, and-four, four}
+use Rattle.hall.specs.declared.Found.{Found}
+use Rattle.hall.specs.declared.Found.the-variants.{At}
+use Rattle.hall.specs.Seats.{firstFrom, lowest}
+use Rattle.hall.proofs.Laws.{at-same}
+use Rattle.form.specs.Columns.{every}
+use Rattle.form.specs.Form.{octetAt, upTo, namesFit}
+use Rattle.form.proofs.Columns.{every-at, every-all}
+use Rattle.sound.specs.Test.{finds}
+use Rattle.sound.proofs.Laws.{all-below}
+use Rattle.sound.proofs.Seats.{finds-at}
+use Rattle.seated.specs.Seated.{lengthAt}
+
+-- two tests that pass together are the same
+pub together : (a b : Bool) → (a ≡ true → b ≡ true) → (b ≡ true → a ≡ true) → a ≡ b
+together true b f g = sym (f refl)
+together false true f g = g refl
+together false false f g = refl
+
+-- two tests of every number below n that are the same at each
+pub below-same : (f g : ℕ → Bool) (n : ℕ) → ((i : ℕ) → i < n → f i ≡ g i) → allBelow f n ≡ allBelow g n
+below-same f g zero h = refl
+below-same f g (suc n) h =
+    let e : f n ≡ g n = h n (omega arith) in
+    let r : allBelow f n ≡ allBelow g n = below-same f g n (λ i b. h i (omega arith)) in
+    rw (e, r)
+
+-- thirty-two places from the start and thirty-two up to the end are all sixty-two
+pub halves : (f : ℕ → Bool) → allBelow (λ i. f i && f (30 + i)) 32 ≡ allBelow f 62
+halves f =
+    together (allBelow (λ i. f i && f (30 + i)) 32) (allBelow f 62)
+    (λ q. all-below f 62 (λ i b. by-test (ltb i 32)
+    (λ t. and-left (f i) (f (30 + i)) (below (λ k. f k && f (30 + k)) 32 q i (ltb-true i 32 t)))
+    (λ t. let h : 32 ≤ i = ltb-false i 32 t in let e : 30 + (i - 30) ≡ i = omega arith in
+    ap f (sym e) ∙ and-right (f (i - 30)) (f (30 + (i - 30))) (below (λ k. f k && f (30 + k)) 32 q (i - 30) (omega arith)))))
+    (λ q. all-below (λ i. f i && f (30 + i)) 32
+    (λ i b. both (f i) (f (30 + i)) (below f 62 q i (omega arith)) (below f 62 q (30 + i) (omega arith))))
+
+-- and so they are with thirty-two from two places more
+pub quarters : (f : ℕ → Bool) → allBelow (λ i. f i && f (10 + i) && f (20 + i) && f (30 + i)) 32 ≡ allBelow f 62
+quarters f =
+    together (allBelow (λ i. f i && f (10 + i) && f (20 + i) && f (30 + i)) 32) (allBelow f 62)
+    (λ q. sym (halves f) ∙ all-below (λ i. f i && f (30 + i)) 32
+    (λ i b. let a = and-four (f i) (f (10 + i)) (f (20 + i)) (f (30 + i)) (below (λ k. f k && f (10 + k) && f (20 + k) && f (30 + k)) 32 q i b) in
+    both (f i) (f (30 + i)) (a .0) (a .3)))
+    (λ q. all-below (λ i. f i && f (10 + i) && f (20 + i) && f (30 + i)) 32
+    (λ i b. four (f i) (f (10 + i)) (f (20 + i)) (f (30 + i)) (below f 62 q i (omega arith)) (below f 62 q (10 + i) (omega arith))
+    (below f 62 q (20 + i) (omega arith)) (below f 62 q (30 + i) (omega arith))))
+
+-- a column's test, counted from its start
+pub counted : (top : ℕ) (s : List ℕ) (at n : ℕ) → allBelow (λ i. leb (octetAt s (at + i)) top) n ≡ upTo top s at n
+unfolding upTo
+counted top s at n =
+    together (allBelow (λ i. leb (octetAt s (at + i)) top) n) (every (λ i. leb (octetAt s i) top) at n)
+    (λ q. every-all (λ i. leb (octetAt s i) top) at n (below (λ i. leb (octetAt s (at + i)) top) n q))
+    (λ q. all-below (λ i. leb (octetAt s (at + i)) top) n (every-at (λ i. leb (octetAt s i) top) at n q))
+
+-- behind no identity are all sixty-two
+pub behind-none : (s : List ℕ) (at n : ℕ) → n ≡ 0 → upTo 0 s at 62 ≡ upTo 0 s (at + n) (62 - n)
+behind-none s at n e = rw (e, add-zero at)
+
+-- lengths are at most 62
+pub fits-length : (s : List ℕ) → namesFit s ≡ true → (seat : ℕ) → seat < 16 → lengthAt s seat ≤ 62
+unfolding namesFit upTo
+fits-length s q seat b = leb-true _ _ (every-at (λ i. leb (octetAt s i) 62) 192 16 q seat b)
+
+-- the search for the lowest seat finds a seat that passes exactly if none before it does
+module _ (p : ℕ → Bool) where
+  first-is : (n b s : ℕ) → b ≤ s → s < b + n → p s ≡ true → ((j : ℕ) → b ≤ j → j < s → p j ≡ false) → firstFrom p n b ≡ At s
+  first-is zero b s h k q f = absurd (omega arith)
+  first-is (suc n) b s h k q f =
+      by-test (eqb b s)
+      (λ t. let e : b ≡ s = eqb-true b s t in if-yes (p b) (At b) (firstFrom p n (suc b)) (ap p e ∙ q) ∙ ap At e)
+      (λ t. let l : b < s = omega (arith, eqb-false b s t) in
+      if-no (p b) (At b) (firstFrom p n (suc b)) (f b (omega arith) l)
+      ∙ first-is n (suc b) s l (omega arith) q (λ j u v. f j (omega arith) v))
+
+  first-before : (n b s : ℕ) → firstFrom p n b ≡ At s → (j : ℕ) → b ≤ j → j < s → p j ≡ false
+  first-before zero b s q j u v = let z : _≡_ {A = ℕ} 0 1 = cc in absurd (omega arith)
+  first-before (suc n) b s q j u v =
+      by-test (p b)
+      (λ t. let e : b ≡ s = at-same (sym (if-yes (p b) (At b) (firstFrom p n (suc b)) t) ∙ q) in absurd (omega arith))
+      (λ t. by-test (eqb b j)
+      (λ m. ap p (sym (eqb-true b j m)) ∙ t)
+      (λ m. first-before n (suc b) s (sym (if-no (p b) (At b) (firstFrom p n (suc b)) t) ∙ q) j (omega (arith, eqb-false b j m)) v))
+
+  pub finds-lowest : (s : ℕ) → s < 16 → p s ≡ true → finds (lowest p) s ≡ allBelow (λ j. not (p j)) s
+  finds-lowest s b q =
+      together (finds (lowest p) s) (allBelow (λ j. not (p j)) s)
+      (λ e. all-below (λ j. not (p j)) s (λ j l. ap not (first-before 16 0 s (finds-at (lowest p) s e) j (omega arith) l)))
+      (λ e. ap (λ (f : Found). finds f s)
+      (first-is 16 0 s (omega arith) (omega arith) q (λ j _ l. not-true (p j) (below (λ k. not (p k)) s e j l)))
+      ∙ eq-eqb s s refl)

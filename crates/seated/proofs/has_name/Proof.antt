@@ -1,0 +1,65 @@
+-- `seated::has_name` meets its contract. Assumes nothing.
+use Rattle.seated.specs.Seated.{hasNameOf}
+use native.Mathlib.Omega.{arith}
+use borrow.Author.Needs.{needs}
+use Rattle.seated.proofs.has_name.Statement.{statement}
+use Rattle.seated.proofs.has_name.Tie as tie
+
+add-taken : tie.Need-add-taken
+add-taken c = search needs
+
+shared-slice-read-taken : tie.Need-shared-slice-read-taken
+shared-slice-read-taken c = search needs
+
+add-as-long : tie.Need-add-as-long
+add-as-long c = search needs
+
+shared-slice-read-as-long : tie.Need-shared-slice-read-as-long
+shared-slice-read-as-long c = search needs
+
+add-as-long-2 : tie.Need-add-as-long-2
+add-as-long-2 c = search needs
+
+shared-slice-read-as-long-2 : tie.Need-shared-slice-read-as-long-2
+shared-slice-read-as-long-2 c = search needs
+
+mul-same-octets : tie.Need-mul-same-octets
+mul-same-octets c = search needs
+
+add-same-octets : tie.Need-add-same-octets
+add-same-octets c = search needs
+
+mul-same-octets-2 : tie.Need-mul-same-octets-2
+mul-same-octets-2 c = search needs
+
+add-same-octets-2 : tie.Need-add-same-octets-2
+add-same-octets-2 c = search needs
+
+same-octets-requires : tie.Need-same-octets-requires
+same-octets-requires c κs = search needs
+
+returns : tie.Need-returns
+unfolding hasNameOf
+returns c = rw (c .same-octets .ensures, c .before .if1 .taken)
+
+returns-2 : tie.Need-returns-2
+unfolding hasNameOf
+returns-2 c = rw (c .if1 .left)
+
+pub has-name-spec : {M : Type 1} → statement M
+has-name-spec =
+    tie.close
+    (tie.spec
+    add-taken
+    shared-slice-read-taken
+    add-as-long
+    shared-slice-read-as-long
+    add-as-long-2
+    shared-slice-read-as-long-2
+    mul-same-octets
+    add-same-octets
+    mul-same-octets-2
+    add-same-octets-2
+    same-octets-requires
+    returns
+    returns-2)
