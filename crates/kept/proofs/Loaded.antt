@@ -17,7 +17,7 @@ use Rattle.hall.specs.Seats.{inRange, emptyHall}
 use Rattle.hall.specs.Identity.{noNames}
 use Rattle.hall.specs.Join.{join}
 use Rattle.desk.specs.Events.{fresh}
-use Rattle.history.specs.Cases.{by-if}
+use Rattle.words.specs.Choice.{by-if}
 use Rattle.history.specs.Doing.{Desk, made, does, afterAll}
 use Rattle.sheet.specs.Layout.{Seat, form, letters}
 use Rattle.sheet.specs.Loading.{Load, Seats, whole, fault, refused, ifSeated, joinAll, seatAll, settled, loading, settingsPlace, settingsAt, whoIs, readSeat, identityLength, afterSeat, laidOut, infront, readSeats, zeros, settingsOffset, seatsOffset, seatCount, formOf, lettersOf}

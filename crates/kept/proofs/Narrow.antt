@@ -9,7 +9,7 @@ use lib.Dec.{eqb, leb, ltb}
 use lib.ListN.{getD, take, drop}
 use borrow.Author.Tests.{leb-true}
 use Rattle.words.specs.Choice.{if-yes, if-no, by-test}
-use Rattle.history.specs.Cases.{by-if}
+use Rattle.words.specs.Choice.{by-if}
 use Rattle.line.specs.declared.Entry.{Entry}
 use Rattle.line.specs.declared.Line.{Line}
 use Rattle.line.specs.Line.{waiting, lineOf, empty, ahead, enter, without}

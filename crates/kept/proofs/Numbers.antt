@@ -10,7 +10,7 @@ use lib.ListN.{length, getD, replicate}
 use borrow.Author.Tests.{eqb-true}
 use Rattle.words.specs.Choice.{by-test}
 use Rattle.octets.specs.Octets.{be16, be32, octets16, octets32}
-use Rattle.history.specs.Cases.{by-if}
+use Rattle.words.specs.Choice.{by-if}
 use Rattle.line.specs.declared.Entry.{Entry}
 use Rattle.line.specs.declared.Line.{Line}
 use Rattle.line.specs.Line.{waiting, empty}

@@ -17,7 +17,7 @@ use Rattle.hall.specs.declared.Joined.{Joined}
 use Rattle.hall.specs.Join.{join}
 use Rattle.desk.specs.declared.Event.{Event}
 use Rattle.desk.specs.declared.Event.the-variants.{Expiry}
-use Rattle.history.specs.Cases.{by-if}
+use Rattle.words.specs.Choice.{by-if}
 use Rattle.history.specs.Doing.{Desk, Doing, event, leaves as leaving, joins as joining, does, after, afterAll}
 use Rattle.call.specs.declared.Called.{Called}
 use Rattle.call.specs.Call.{eventOf, byReading, hears}
