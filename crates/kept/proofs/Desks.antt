@@ -10,7 +10,7 @@ use Rattle.hall.specs.Seats.{inRange}
 use Rattle.hall.specs.Identity.{nameAt, noName}
 use Rattle.history.specs.Doing.{Desk, Doing, made, after, afterAll}
 use Rattle.reach.specs.Sound.{Sound}
-use Rattle.reach.specs.Reach.{sound-made, sound-kept}
+use Rattle.reach.proofs.Reach.{sound-made, sound-kept}
 use Rattle.form.specs.Form.{octetAt, coreAt, entriesAt, flagsAt, octetsAt, wordsAt, hallAt, nameIn, namesAt, canonical}
 use Rattle.form.specs.Columns.{column}
 use Rattle.form.proofs.Columns.{length-column, getD-column}

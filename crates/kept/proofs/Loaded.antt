@@ -22,7 +22,7 @@ use Rattle.history.specs.Doing.{Desk, made, does, afterAll}
 use Rattle.sheet.specs.Layout.{Seat, form, letters}
 use Rattle.sheet.specs.Loading.{Load, Seats, whole, fault, refused, ifSeated, joinAll, seatAll, settled, loading, settingsPlace, settingsAt, whoIs, readSeat, identityLength, afterSeat, laidOut, infront, readSeats, zeros, settingsOffset, seatsOffset, seatCount, formOf, lettersOf}
 use Rattle.forms.specs.Forms.{Octets}
-use Rattle.sound.proofs.Laws.{both, five}
+use Rattle.words.proofs.Tests.{both, five}
 use Rattle.floor.specs.Floor.{inOctets, settable, loadOn}
 use Rattle.kept.specs.Kept.{Fits, AllFit, leftByAll, didAll, Settable, deskIn, joinsOf, seatedFrom, settingsOn, joinsOn, LoadedInForm, FromLoaded}
 use Rattle.kept.proofs.All.{all-take, all-drop, all-at, at-all}

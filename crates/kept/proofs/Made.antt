@@ -8,10 +8,9 @@ use lib.Dec.{eqb, leb}
 use lib.ListN.{length, take, drop}
 use lib.Seq.{take-append-seam}
 use borrow.Author.Tests.{eqb-true, eqb-false, le-leb}
-use Rattle.words.specs.Choice.{if_then_else_}
+use Rattle.words.specs.Choice.{if_then_else_, by-if}
 use Rattle.octets.specs.Octets.{over}
 use Rattle.hall.specs.declared.Settings.{Settings}
-use Rattle.words.specs.Choice.{by-if}
 use Rattle.history.specs.Doing.{Desk, made, afterAll}
 use Rattle.forms.proofs.Fits.{length-octets}
 use Rattle.floor.specs.Floor.{written, settable, makeOn}

@@ -8,8 +8,7 @@ use native.Mathlib.Omega.{arith}
 use lib.Dec.{eqb, leb, ltb}
 use lib.ListN.{getD, take, drop}
 use borrow.Author.Tests.{leb-true}
-use Rattle.words.specs.Choice.{if-yes, if-no, by-test}
-use Rattle.words.specs.Choice.{by-if}
+use Rattle.words.specs.Choice.{if-yes, if-no, by-test, by-if}
 use Rattle.line.specs.declared.Entry.{Entry}
 use Rattle.line.specs.declared.Line.{Line}
 use Rattle.line.specs.Line.{waiting, lineOf, empty, ahead, enter, without}
@@ -37,7 +36,7 @@ use Rattle.desk.specs.declared.Timer.{Timer}
 use Rattle.desk.specs.declared.Timer.the-variants as timer
 use Rattle.desk.specs.Timers.{halted, stops, endsIn, revokesIn, idleAgain, revokesAgain, grantsOrEnds, grantsAgain, fires, isStopped, runs, running, expires}
 use Rattle.desk.specs.Events.{starts, sitting, callerOf, heard, struckOff, releases, asksPlace, talks, step, leaves}
-use Rattle.reach.specs.Hall.{found-holds}
+use Rattle.hall.proofs.Laws.{found-holds}
 use Rattle.form.specs.Form.{holderIn}
 use Rattle.kept.proofs.All.{All, all-take, all-drop, all-both, all-padded}
 

@@ -8,9 +8,8 @@ use native.Mathlib.Omega.{arith}
 use lib.Dec.{eqb}
 use lib.ListN.{length, getD, replicate}
 use borrow.Author.Tests.{eqb-true}
-use Rattle.words.specs.Choice.{by-test}
+use Rattle.words.specs.Choice.{by-test, by-if}
 use Rattle.octets.specs.Octets.{be16, be32, octets16, octets32}
-use Rattle.words.specs.Choice.{by-if}
 use Rattle.line.specs.declared.Entry.{Entry}
 use Rattle.line.specs.declared.Line.{Line}
 use Rattle.line.specs.Line.{waiting, empty}
@@ -34,12 +33,12 @@ use Rattle.desk.specs.declared.Left.{Left}
 use Rattle.desk.specs.Events.{fresh, leave}
 use Rattle.history.specs.Doing.{Desk, Doing, event, leaves as leaving, joins as joining, made, does, deskOf, after}
 use Rattle.reach.specs.Sound.{Sound, causeOk}
-use Rattle.reach.specs.Hall.{hall-ok}
+use Rattle.reach.proofs.Hall.{hall-ok}
 use Rattle.form.specs.Form.{letters, flag, kindOctet, besideOctet, timersOctet, holderIn, causeIn, phaseOctets, seatIn, priorityIn, lineOctets, coreOctets, flagOctets, seatOctets, wordOctets, settingsOctets, hallOctets, lengthOctets, nameOctets, namesOctets, octetsOf, octetAt, entryOf, phaseOf, phaseAt, entryAt, entriesAt, coreAt, octetsAt, wordsAt, settingsAt, hallAt, nameIn, namesAt}
 use Rattle.form.specs.Columns.{column, rows}
 use Rattle.forms.specs.Forms.{Octets}
 use Rattle.forms.proofs.Back.{name-short}
-use Rattle.sound.proofs.Laws.{or-behind}
+use Rattle.words.proofs.Tests.{or-else}
 use Rattle.kept.specs.Kept.{deskAt, octetsFor, Fits, DoingFits}
 use Rattle.kept.proofs.All.{All, all-both, all-same, all-padded, all-set, all-at, at-all, all-column, all-rows}
 use Rattle.kept.proofs.Narrow.{Small, none-small, NarrowCore, Narrow, line-small, steps, leaves-on}
@@ -172,7 +171,7 @@ cause-small Stopped u = omega arith
 cause-small (Idle t7) u = omega arith
 cause-small (Taken e b) u = omega arith
 cause-small (Revoking e n) u =
-    by-test (eqb n 2) (λ q. omega (arith, eqb-true n 2 q)) (λ q. omega (arith, eqb-true n 4 (or-behind (eqb n 2) (eqb n 4) q u)))
+    by-test (eqb n 2) (λ q. omega (arith, eqb-true n 2 q)) (λ q. omega (arith, eqb-true n 4 (or-else (eqb n 2) (eqb n 4) q u)))
 
 phase-octets : (p : Phase) → Small (holderIn p) → causeOk p ≡ true → All Octet (phaseOctets p)
 unfolding phaseOctets

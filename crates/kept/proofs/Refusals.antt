@@ -6,8 +6,7 @@ use mathlib.Core.List.{List}
 use lib.Dec.{eqb, leb}
 use lib.ListN.{length}
 use borrow.Author.Tests.{eqb-true, le-leb}
-use Rattle.words.specs.Choice.{if_then_else_}
-use Rattle.words.specs.Choice.{by-if}
+use Rattle.words.specs.Choice.{if_then_else_, by-if}
 use Rattle.message.specs.Answers.{Answer, refused, result}
 use Rattle.message.specs.declared.Message.{Message}
 use Rattle.reading.specs.Reading.{reading}
@@ -21,7 +20,7 @@ use Rattle.desk.specs.declared.Event.{Event}
 use Rattle.desk.specs.declared.Event.the-variants.{Expiry}
 use Rattle.desk.specs.Events.{step}
 use Rattle.history.specs.Doing.{event, joins as joining, does}
-use Rattle.reach.specs.InLine.{clash}
+use Rattle.words.proofs.Tests.{clash}
 use Rattle.call.specs.declared.Called.{Called}
 use Rattle.call.specs.Call.{eventOf, ofStep, unread, byReading, hears}
 use Rattle.form.specs.Form.{coreAt, hallAt, namesAt}

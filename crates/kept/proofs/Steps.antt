@@ -6,7 +6,7 @@ use mathlib.Core.Bool.{true, false}
 use mathlib.Core.List.{List, [], _∷_, _++_}
 use lib.Dec.{eqb, leb}
 use lib.ListN.{length}
-use Rattle.words.specs.Choice.{if_then_else_}
+use Rattle.words.specs.Choice.{if_then_else_, by-if}
 use Rattle.message.specs.Answers.{Answer, refused, result}
 use Rattle.message.specs.declared.Message.{Message}
 use Rattle.reading.specs.Reading.{reading}
@@ -17,7 +17,6 @@ use Rattle.hall.specs.declared.Joined.{Joined}
 use Rattle.hall.specs.Join.{join}
 use Rattle.desk.specs.declared.Event.{Event}
 use Rattle.desk.specs.declared.Event.the-variants.{Expiry}
-use Rattle.words.specs.Choice.{by-if}
 use Rattle.history.specs.Doing.{Desk, Doing, event, leaves as leaving, joins as joining, does, after, afterAll}
 use Rattle.call.specs.declared.Called.{Called}
 use Rattle.call.specs.Call.{eventOf, byReading, hears}
