@@ -2,7 +2,7 @@
 use Prim.Native.Nat.{ℕ, zero, suc, _+_, _≤_, _<_}
 use mathlib.Core.Path.{_≡_, refl, ap, sym, _∙_}
 use mathlib.Core.Bool.{Bool, true, false, _&&_, and-true}
-use mathlib.Core.List.{List, [], _∷_}
+use mathlib.Core.List.{List}
 use native.Mathlib.Numerals.{add-one}
 use native.Mathlib.Omega.{arith}
 use lib.Dec.{leb, ltb}
@@ -23,12 +23,6 @@ all-below f (suc n) g = both (f n) (allBelow f n) (g n (omega arith)) (all-below
 -- a loop that gathers a test, one number further
 pub more : (f : ℕ → Bool) (i : ℕ) (good ok : Bool) → good ≡ f i → ok ≡ allBelow f i → (good && ok) ≡ allBelow f (i + 1)
 more f i good ok p q = rw (p, q, add-one i)
-
--- a part that is as long as the part itself
-pub take-its-length : (k : ℕ) (l : List ℕ) → take (length (take k l)) l ≡ take k l
-take-its-length zero l = refl
-take-its-length (suc k) [] = refl
-take-its-length (suc k) (x ∷ l) = ap (λ (t : List ℕ). x ∷ t) (take-its-length k l)
 
 module _ {A : Type 0} (z : A) (n k : ℕ) (a : List A) where
   -- an array whose places behind the first k hold the filling is the array that holds the first k
