@@ -1,7 +1,7 @@
 -- What octets that are a desk's have, and what a step on them leaves, a law for each way it can end. Assumes nothing.
 use Prim.Native.Nat.{ℕ, _<_, _≤_}
-use mathlib.Core.Path.{_≡_, refl, ap, sym, _∙_}
-use mathlib.Core.Bool.{Bool, true, false, _&&_}
+use mathlib.Core.Path.{_≡_}
+use mathlib.Core.Bool.{true, false, _&&_}
 use mathlib.Core.List.{List, append-nil}
 use native.Mathlib.Omega.{arith}
 use lib.Dec.{eqb, leb, ltb}
@@ -17,14 +17,12 @@ use Rattle.message.specs.Answers.{Answer}
 use Rattle.rules.specs.declared.Core.{Core}
 use Rattle.hall.specs.declared.Hall.{Hall}
 use Rattle.hall.specs.declared.Names.{Names}
-use Rattle.call.specs.declared.Called.{Called}
-use Rattle.form.specs.Form.{lettersFit, coreFits, hallFits, namesFit, canonical, coreAt, hallAt, namesAt, coreOctets, octetsOf}
+use Rattle.form.specs.Form.{lettersFit, coreFits, hallFits, namesFit, canonical, coreAt, hallAt, namesAt, octetsOf}
 use Rattle.forms.specs.Forms.{Octets}
 use Rattle.forms.proofs.Fits.{length-octets}
 use Rattle.words.proofs.Tests.{and-five}
 use Rattle.sound.specs.Test.{isSound}
-use Rattle.report.specs.Report.{reportOctets}
-use Rattle.floor.specs.Floor.{formed, Leaves, leaves, settles, written, inOctets, signed, looks}
+use Rattle.floor.specs.Floor.{formed, leaves, settles, written, inOctets, signed, looks}
 
 -- what is lent is octets
 pub octets-lent : (d : List ℕ) → ((i : ℕ) → Fits w8 (getD d i 0)) → Octets d

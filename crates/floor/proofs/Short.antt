@@ -1,7 +1,5 @@
 -- A packet that is written has at most 440 octets, so that a signed number of 32 bits holds its length. Assumes nothing.
 use Prim.Native.Nat.{ℕ, _≤_}
-use mathlib.Core.Path.{_≡_}
-use mathlib.Core.Bool.{true, not}
 use mathlib.Core.List.{List}
 use native.Mathlib.Omega.{arith}
 use lib.Dec.{ltb}

@@ -1,6 +1,6 @@
 -- What a report says is what was reported (specs/Report, `SaysFirst`, `SaysSecond`). Assumes nothing.
-use Prim.Native.Nat.{ℕ, _+_, _*_, _/_, _%_, _<_}
-use mathlib.Core.Path.{_≡_, refl, ap, sym, _∙_}
+use Prim.Native.Nat.{ℕ, _+_, _*_, _/_, _%_}
+use mathlib.Core.Path.{_≡_, refl}
 use mathlib.Core.Bool.{true}
 use native.Mathlib.Omega.{arith}
 use native.Mathlib.Nat.{mod-eq-of-lt}
@@ -10,10 +10,8 @@ use Rattle.words.specs.Choice.{if_then_else_}
 use Rattle.octets.specs.Octets.{be16, octets16}
 use Rattle.rules.specs.declared.Kind.{Kind}
 use Rattle.rules.specs.declared.Kind.the-variants as say
-use Rattle.rules.specs.declared.Message.{Message}
-use Rattle.rules.specs.declared.Marks.{Marks}
 use Rattle.report.specs.declared.Told.the-variants.{Says}
-use Rattle.report.specs.Report.{particulars, messageOctets, marksOctets, reportOctets, particularsAt, kindOf, alike, saidBy, saidAt, messageIn, Narrow, SaysFirst, SaysSecond}
+use Rattle.report.specs.Report.{particulars, messageOctets, marksOctets, reportOctets, particularsAt, kindOf, alike, saidBy, messageIn, Narrow, SaysFirst, SaysSecond}
 
 same : (n : ℕ) → eqb n n ≡ true
 same n = eq-eqb n n refl

@@ -1,7 +1,5 @@
-use Rattle.floor.specs.Floor.{bit}
 use Rattle.words.specs.Choice.{if-yes, if-no}
-use mathlib.Core.Path.{_≡_, refl, sym, _∙_, ap}
-use borrow.Author.Needs.{needs}
+use mathlib.Core.Path.{sym}
 use native.Mathlib.Omega.{arith}
 use Rattle.floor.proofs.bit_of.Statement.{statement}
 use Rattle.floor.proofs.bit_of.Tie as tie

@@ -1,7 +1,6 @@
-use mathlib.Core.Path.{_≡_, refl, sym, _∙_}
+use mathlib.Core.Path.{sym, _∙_}
 use Rattle.floor.specs.Floor.{calledOn}
 use Rattle.floor.proofs.Desks.{has-room, no-desk-so}
-use native.Mathlib.Omega.{arith}
 use borrow.Author.Needs.{needs}
 use Rattle.floor.proofs.event_on.Statement.{statement}
 use Rattle.floor.proofs.event_on.Tie as tie

@@ -1,7 +1,6 @@
 use Rattle.floor.proofs.Desks.{has-room}
-use Rattle.words.specs.Choice.{if_then_else_, if-yes, if-no}
-use mathlib.Core.Path.{_≡_, refl, sym, _∙_, ap}
-use native.Mathlib.Omega.{arith}
+use Rattle.words.specs.Choice.{if-yes, if-no}
+use mathlib.Core.Path.{sym, _∙_}
 use borrow.Author.Needs.{needs}
 use Rattle.floor.proofs.floor_join.Statement.{statement}
 use Rattle.floor.proofs.floor_join.Tie as tie

@@ -1,8 +1,8 @@
 use Rattle.floor.proofs.Desks.{octets-hold}
 use Rattle.floor.specs.Floor.{settable}
-use Rattle.words.specs.Choice.{if_then_else_, if-yes, if-no}
+use Rattle.words.specs.Choice.{if_then_else_}
 use borrow.Author.Tests.{not-true, not-false}
-use mathlib.Core.Path.{_≡_, refl, sym, _∙_, ap}
+use mathlib.Core.Path.{sym, _∙_}
 use native.Mathlib.Omega.{arith}
 use borrow.Author.Needs.{needs}
 use Rattle.floor.proofs.floor_make.Statement.{statement}

@@ -1,7 +1,6 @@
 use Rattle.floor.proofs.Desks.{has-room, no-desk-so}
 use Rattle.floor.specs.Floor.{calledOn}
-use mathlib.Core.Path.{_≡_, refl, sym, _∙_}
-use native.Mathlib.Omega.{arith}
+use mathlib.Core.Path.{sym, _∙_}
 use borrow.Author.Needs.{needs}
 use Rattle.floor.proofs.floor_packet.Statement.{statement}
 use Rattle.floor.proofs.floor_packet.Tie as tie

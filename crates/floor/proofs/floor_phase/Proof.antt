@@ -3,7 +3,7 @@ use Rattle.rules.specs.declared.Core.{Core}
 use Rattle.form.specs.Form.{kindOctet}
 use lib.IntN.{pos}
 use Rattle.floor.proofs.Desks.{has-room, looks-so, looks-not}
-use mathlib.Core.Path.{_≡_, refl, sym, _∙_, ap}
+use mathlib.Core.Path.{sym, _∙_, ap}
 use native.Mathlib.Omega.{arith}
 use borrow.Author.Needs.{needs}
 use Rattle.floor.proofs.floor_phase.Statement.{statement}

@@ -1,6 +1,4 @@
-use Rattle.floor.proofs.Signed.{passed, pair-same}
-use mathlib.Core.Path.{_≡_, refl, sym, _∙_, ap}
-use native.Mathlib.Omega.{arith}
+use Rattle.floor.proofs.Signed.{pair-same}
 use borrow.Author.Needs.{needs}
 use Rattle.floor.proofs.floor_read.Statement.{statement}
 use Rattle.floor.proofs.floor_read.Tie as tie

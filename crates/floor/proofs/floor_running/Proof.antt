@@ -1,12 +1,10 @@
 use Rattle.floor.proofs.Signed.{passed}
 use Rattle.floor.specs.Floor.{timerSet}
 use Rattle.desk.specs.Timers.{running}
-use Rattle.desk.specs.declared.Running.{Running}
 use Rattle.rules.specs.declared.Core.{Core}
 use lib.IntN.{pos}
 use Rattle.floor.proofs.Desks.{has-room, looks-so, looks-not}
-use mathlib.Core.Path.{_≡_, refl, sym, _∙_, ap}
-use native.Mathlib.Omega.{arith}
+use mathlib.Core.Path.{sym, _∙_, ap}
 use borrow.Author.Needs.{needs}
 use Rattle.floor.proofs.floor_running.Statement.{statement}
 use Rattle.floor.proofs.floor_running.Tie as tie

@@ -1,8 +1,7 @@
 use Rattle.floor.proofs.Desks.{has-room}
 use Rattle.floor.proofs.Signed.{passed, pair-same}
-use Rattle.words.specs.Choice.{if_then_else_, if-yes, if-no}
-use mathlib.Core.Path.{_≡_, refl, sym, _∙_, ap}
-use native.Mathlib.Omega.{arith}
+use Rattle.words.specs.Choice.{if-yes, if-no}
+use mathlib.Core.Path.{refl, sym, _∙_}
 use borrow.Author.Needs.{needs}
 use Rattle.floor.proofs.floor_screen.Statement.{statement}
 use Rattle.floor.proofs.floor_screen.Tie as tie

@@ -1,10 +1,6 @@
 use Rattle.floor.proofs.Signed.{passed}
-use Rattle.floor.specs.Floor.{signed, seatAnswer}
-use Rattle.hall.specs.Seats.{seatOf}
-use Rattle.hall.specs.declared.Hall.{Hall}
 use Rattle.floor.proofs.Desks.{has-room, looks-so, looks-not}
-use mathlib.Core.Path.{_≡_, refl, sym, _∙_, ap}
-use native.Mathlib.Omega.{arith}
+use mathlib.Core.Path.{sym, _∙_}
 use borrow.Author.Needs.{needs}
 use Rattle.floor.proofs.floor_seat_by_ssrc.Statement.{statement}
 use Rattle.floor.proofs.floor_seat_by_ssrc.Tie as tie

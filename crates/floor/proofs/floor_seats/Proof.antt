@@ -3,7 +3,7 @@ use Rattle.report.specs.Report.{maskOf}
 use Rattle.hall.specs.declared.Hall.{Hall}
 use lib.IntN.{pos}
 use Rattle.floor.proofs.Desks.{has-room, looks-so, looks-not}
-use mathlib.Core.Path.{_≡_, refl, sym, _∙_, ap}
+use mathlib.Core.Path.{sym, _∙_, ap}
 use native.Mathlib.Omega.{arith}
 use borrow.Author.Needs.{needs}
 use Rattle.floor.proofs.floor_seats.Statement.{statement}

@@ -2,8 +2,7 @@ use Rattle.floor.proofs.Signed.{passed}
 use Rattle.rules.specs.declared.Core.{Core}
 use lib.IntN.{pos}
 use Rattle.floor.proofs.Desks.{has-room, looks-so, looks-not}
-use mathlib.Core.Path.{_≡_, refl, sym, _∙_, ap}
-use native.Mathlib.Omega.{arith}
+use mathlib.Core.Path.{sym, _∙_, ap}
 use borrow.Author.Needs.{needs}
 use Rattle.floor.proofs.floor_sequence.Statement.{statement}
 use Rattle.floor.proofs.floor_sequence.Tie as tie

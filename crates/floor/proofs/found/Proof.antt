@@ -1,5 +1,4 @@
 use Rattle.floor.proofs.Signed.{as-it-is}
-use native.Mathlib.Omega.{arith}
 use borrow.Author.Needs.{needs}
 use Rattle.floor.proofs.found.Statement.{statement}
 use Rattle.floor.proofs.found.Tie as tie

@@ -1,5 +1,3 @@
-use mathlib.Core.Path.{_≡_, refl, sym, _∙_, ap}
-use native.Mathlib.Omega.{arith}
 use borrow.Author.Needs.{needs}
 use Rattle.floor.proofs.fresh_desk.Statement.{statement}
 use Rattle.floor.proofs.fresh_desk.Tie as tie

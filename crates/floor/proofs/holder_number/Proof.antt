@@ -1,6 +1,5 @@
 use Rattle.floor.proofs.Signed.{passed}
-use mathlib.Core.Path.{_≡_, refl, sym, _∙_, ap}
-use native.Mathlib.Omega.{arith}
+use mathlib.Core.Path.{_∙_}
 use borrow.Author.Needs.{needs}
 use Rattle.floor.proofs.holder_number.Statement.{statement}
 use Rattle.floor.proofs.holder_number.Tie as tie

@@ -1,7 +1,5 @@
 use Rattle.floor.specs.Floor.{inOctets}
-use mathlib.Core.Path.{_≡_, refl, sym, _∙_, ap}
-use borrow.Author.Needs.{needs}
-use native.Mathlib.Omega.{arith}
+use mathlib.Core.Path.{refl}
 use Rattle.floor.proofs.in_octets.Statement.{statement}
 use Rattle.floor.proofs.in_octets.Tie as tie
 use Rattle.floor.proofs.in_octets.Reads as reads

@@ -1,5 +1,5 @@
 -- `floor::is_desk` meets its contract. Assumes nothing.
-use mathlib.Core.Path.{_≡_, refl, sym, _∙_}
+use mathlib.Core.Path.{sym, _∙_}
 use borrow.Author.Needs.{needs}
 use Rattle.sound.specs.Test.{isSound}
 use Rattle.floor.specs.Floor.{formed}

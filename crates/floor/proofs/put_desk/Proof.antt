@@ -3,8 +3,7 @@ use Rattle.forms.proofs.Fits.{length-core, length-head}
 use Rattle.form.specs.Form.{letters, coreOctets, hallOctets, namesOctets, octetsOf}
 use Prim.Native.Nat.{zero-le}
 use mathlib.Core.List.{_++_}
-use mathlib.Core.Path.{_≡_, refl, sym, _∙_, ap}
-use native.Mathlib.Omega.{arith}
+use mathlib.Core.Path.{refl}
 use borrow.Author.Needs.{needs}
 use Rattle.floor.proofs.put_desk.Statement.{statement}
 use Rattle.floor.proofs.put_desk.Tie as tie

@@ -1,5 +1,5 @@
 use native.Mathlib.Nat.{zero-add}
-use mathlib.Core.List.{List, [], _∷_}
+use mathlib.Core.List.{[], _∷_}
 use Rattle.floor.specs.Floor.{pairAt, pairs}
 use Rattle.line.specs.Line.{waiting}
 use Rattle.form.proofs.Places.{rows-turn}
@@ -7,7 +7,7 @@ use Rattle.form.specs.Columns.{rows}
 use Rattle.octets.proofs.Over.{over-none}
 use Rattle.octets.specs.Octets.{over}
 use lib.ListN.{length}
-use Prim.Native.Nat.{ℕ, _+_, _*_, _-_, _≤_, _<_, zero-le}
+use Prim.Native.Nat.{ℕ, _*_, _-_, _≤_, zero-le}
 use mathlib.Core.Path.{_≡_, refl, sym, _∙_, ap}
 use borrow.Author.Needs.{needs}
 use native.Mathlib.Omega.{arith}

@@ -1,6 +1,6 @@
 use Rattle.words.specs.Choice.{if_then_else_}
-use Rattle.floor.proofs.Signed.{passed, pair-same}
-use mathlib.Core.Path.{_≡_, refl, sym, _∙_, ap}
+use Rattle.floor.proofs.Signed.{passed}
+use mathlib.Core.Path.{_∙_}
 use native.Mathlib.Omega.{arith}
 use borrow.Author.Needs.{needs}
 use Rattle.floor.proofs.saved_number.Statement.{statement}

@@ -1,8 +1,6 @@
 use Rattle.floor.specs.Floor.{seatNumbered}
 use Rattle.words.specs.Choice.{if_then_else_}
 use borrow.Author.Tests.{lt-ltb, le-ltb}
-use mathlib.Core.Path.{_≡_, refl, sym, _∙_, ap}
-use native.Mathlib.Omega.{arith}
 use borrow.Author.Needs.{needs}
 use Rattle.floor.proofs.seat_numbered.Statement.{statement}
 use Rattle.floor.proofs.seat_numbered.Tie as tie

@@ -1,10 +1,8 @@
-use Rattle.floor.proofs.Desks.{octets-lent}
+use Rattle.floor.proofs.Desks.{octets-lent, fits, has-room, refused-so, no-room-so, done-so}
 use borrow.Author.Tests.{ne-eqb, eq-eqb, lt-leb, le-leb}
-use mathlib.Core.Path.{_≡_, refl, sym, _∙_}
+use mathlib.Core.Path.{sym}
 use Rattle.floor.specs.Floor.{calledOn}
-use Rattle.floor.proofs.Desks.{fits, has-room, refused-so, no-room-so, done-so}
 use Rattle.forms.proofs.One.{core-written}
-use native.Mathlib.Omega.{arith}
 use borrow.Author.Needs.{needs}
 use Rattle.floor.proofs.settle.Statement.{statement}
 use Rattle.floor.proofs.settle.Tie as tie

@@ -1,8 +1,7 @@
 use Rattle.floor.proofs.Desks.{fits, fits-whole, has-room, refused-so, no-room-so, done-so, over-desk}
 use Rattle.floor.specs.Floor.{leftOn}
 use borrow.Author.Tests.{ne-eqb, eq-eqb, lt-leb, le-leb}
-use mathlib.Core.Path.{_≡_, refl, sym, _∙_, ap}
-use native.Mathlib.Omega.{arith}
+use mathlib.Core.Path.{sym}
 use borrow.Author.Needs.{needs}
 use Rattle.floor.proofs.settle_left.Statement.{statement}
 use Rattle.floor.proofs.settle_left.Tie as tie

@@ -5,8 +5,8 @@ use Prim.Native.Nat.{_*_, _≤_, _<_}
 use Rattle.floor.specs.Floor.{screened}
 use borrow.Author.Tests.{lt-leb, le-leb}
 use Rattle.floor.proofs.Signed.{passed, pair-same}
-use Rattle.words.specs.Choice.{if_then_else_, if-yes, if-no}
-use mathlib.Core.Path.{_≡_, refl, sym, _∙_, ap}
+use Rattle.words.specs.Choice.{if-yes, if-no}
+use mathlib.Core.Path.{refl, sym, _∙_, ap}
 use native.Mathlib.Omega.{arith}
 use borrow.Author.Needs.{needs}
 use Rattle.floor.proofs.show.Statement.{statement}

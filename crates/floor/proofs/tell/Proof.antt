@@ -3,8 +3,7 @@ use lib.ListN.{length}
 use Rattle.floor.specs.Floor.{signed}
 use Rattle.floor.proofs.Short.{sending-short}
 use Rattle.floor.proofs.Signed.{passed, pair-same}
-use mathlib.Core.Path.{_≡_, refl, sym, _∙_, ap}
-use native.Mathlib.Omega.{arith}
+use mathlib.Core.Path.{_∙_, ap}
 use borrow.Author.Needs.{needs}
 use Rattle.floor.proofs.tell.Statement.{statement}
 use Rattle.floor.proofs.tell.Tie as tie

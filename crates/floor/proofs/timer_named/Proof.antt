@@ -1,9 +1,6 @@
 use Rattle.floor.specs.Floor.{timerNamed}
 use Rattle.words.specs.Choice.{if_then_else_}
 use borrow.Author.Tests.{ne-eqb}
-use mathlib.Core.Path.{_≡_, refl, sym, _∙_}
-use borrow.Author.Needs.{needs}
-use native.Mathlib.Omega.{arith}
 use Rattle.floor.proofs.timer_named.Statement.{statement}
 use Rattle.floor.proofs.timer_named.Tie as tie
 use Rattle.floor.proofs.timer_named.Reads as reads

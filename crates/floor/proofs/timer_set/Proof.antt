@@ -1,5 +1,4 @@
-use Rattle.floor.specs.Floor.{timerSet, bit}
-use mathlib.Core.Path.{_≡_, refl, sym, _∙_, ap}
+use Rattle.floor.specs.Floor.{timerSet}
 use native.Mathlib.Omega.{arith}
 use borrow.Author.Needs.{needs}
 use Rattle.floor.proofs.timer_set.Statement.{statement}

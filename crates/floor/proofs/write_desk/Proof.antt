@@ -1,7 +1,6 @@
 use Rattle.floor.proofs.Desks.{unwritten, too-short, written-so}
 use borrow.Author.Tests.{ne-eqb, eq-eqb, lt-leb, le-leb}
-use mathlib.Core.Path.{_≡_, refl, sym, _∙_, ap}
-use native.Mathlib.Omega.{arith}
+use mathlib.Core.Path.{sym}
 use borrow.Author.Needs.{needs}
 use Rattle.floor.proofs.write_desk.Statement.{statement}
 use Rattle.floor.proofs.write_desk.Tie as tie

@@ -1,7 +1,7 @@
 use lib.IntN.{pos, negℤ}
 use Prim.Native.Nat.{ℕ}
-use Rattle.floor.proofs.Signed.{passed, pair-same}
-use mathlib.Core.Path.{_≡_, refl, sym, _∙_, ap}
+use Rattle.floor.proofs.Signed.{passed}
+use mathlib.Core.Path.{_∙_, ap}
 use native.Mathlib.Omega.{arith}
 use borrow.Author.Needs.{needs}
 use Rattle.floor.proofs.written_number.Statement.{statement}

@@ -1,7 +1,5 @@
 use Rattle.report.specs.Report.{alike}
-use mathlib.Core.Path.{_≡_, refl, sym, _∙_, ap}
-use borrow.Author.Needs.{needs}
-use native.Mathlib.Omega.{arith}
+use mathlib.Core.Path.{refl}
 use Rattle.report.proofs.are_alike.Statement.{statement}
 use Rattle.report.proofs.are_alike.Tie as tie
 use Rattle.report.proofs.are_alike.Reads as reads

@@ -1,8 +1,6 @@
 use Rattle.report.specs.Report.{kindOf}
 use borrow.Author.Tests.{ne-eqb}
-use Rattle.words.specs.Choice.{if_then_else_, if-yes, if-no}
-use mathlib.Core.Path.{_≡_, refl, sym, _∙_, ap}
-use native.Mathlib.Omega.{arith}
+use Rattle.words.specs.Choice.{if_then_else_}
 use borrow.Author.Needs.{needs}
 use Rattle.report.proofs.kind_of.Statement.{statement}
 use Rattle.report.proofs.kind_of.Tie as tie

@@ -1,9 +1,7 @@
 use Rattle.report.specs.Report.{messageIn}
 use borrow.Author.Tests.{ne-eqb, eq-eqb}
-use Rattle.words.specs.Choice.{if_then_else_, if-yes, if-no}
-use mathlib.Core.Path.{_≡_, refl, sym, _∙_, ap}
+use Rattle.words.specs.Choice.{if_then_else_}
 use native.Mathlib.Omega.{arith}
-use borrow.Author.Needs.{needs}
 use Rattle.report.proofs.message_in.Statement.{statement}
 use Rattle.report.proofs.message_in.Tie as tie
 use Rattle.report.proofs.message_in.Reads as reads

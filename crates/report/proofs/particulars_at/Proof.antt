@@ -1,6 +1,4 @@
 use Rattle.report.specs.Report.{particularsAt}
-use mathlib.Core.Path.{_≡_, refl, sym, _∙_, ap}
-use native.Mathlib.Omega.{arith}
 use borrow.Author.Needs.{needs}
 use Rattle.report.proofs.particulars_at.Statement.{statement}
 use Rattle.report.proofs.particulars_at.Tie as tie

@@ -1,10 +1,9 @@
-use Prim.Native.Nat.{ℕ, _+_, _≤_}
+use Prim.Native.Nat.{ℕ, _+_, _≤_, zero-le}
 use mathlib.Core.List.{List, [], _∷_, _++_}
 use mathlib.Core.Path.{_≡_, refl, _∙_, ap}
 use lib.ListN.{length}
 use Rattle.octets.specs.Octets.{over, octets16}
 use Rattle.report.proofs.Runs.{run}
-use Prim.Native.Nat.{zero-le}
 use Rattle.report.specs.Report.{marksOctets, messageOctets, reportOctets}
 use native.Mathlib.Omega.{arith}
 use borrow.Author.Needs.{needs}

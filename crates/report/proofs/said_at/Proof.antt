@@ -1,6 +1,3 @@
-use Rattle.report.specs.Report.{saidAt}
-use mathlib.Core.Path.{_≡_, refl, sym, _∙_, ap}
-use native.Mathlib.Omega.{arith}
 use borrow.Author.Needs.{needs}
 use Rattle.report.proofs.said_at.Statement.{statement}
 use Rattle.report.proofs.said_at.Tie as tie

@@ -1,7 +1,6 @@
 use Rattle.report.specs.Report.{saidBy}
 use Rattle.words.specs.Choice.{if_then_else_, if-yes, if-no}
-use mathlib.Core.Path.{_≡_, refl, sym, _∙_, ap}
-use native.Mathlib.Omega.{arith}
+use mathlib.Core.Path.{sym}
 use borrow.Author.Needs.{needs}
 use Rattle.report.proofs.said_by.Statement.{statement}
 use Rattle.report.proofs.said_by.Tie as tie
