@@ -47,8 +47,11 @@ pub fn fill(line: Line, room: &mut [Entry]) -> Shown
     answer(line, room.len())
 }
 
+// Room for the longest line.
+pub type Listing = [Entry; 15];
+
 // The list for a caller with no room of its own: all who wait, and empty entries behind them.
-pub fn listed(line: Line) -> [Entry; 15]
+pub fn listed(line: Line) -> Listing
     ensures { λ r. ⌜ r ≡ listing (waiting line) ⌝ }
 {
     let mut room = [Entry {
