@@ -1,17 +1,25 @@
 -- Any two results that a promise allows coincide. Assumes nothing.
 use mathlib.Core.Path.{_≡_, refl, ap, sym, _∙_}
 use mathlib.Core.List.{List, [], _∷_}
+use Prim.Native.Nat.{ℕ}
 use lib.ListN.{getD}
+use lib.Seq.{ext-getD}
+use Rattle.message.specs.declared.Message.{Message}
+use Rattle.reading.specs.declared.Opening.{Opening}
+use Rattle.reading.specs.declared.Opening.the-variants.{Of}
+use Rattle.reading.specs.Fields.{Fields, whole, fault, fieldsIn}
+use Rattle.reading.specs.Walk.{Judges, Noted}
+use Rattle.reading.proofs.Reaches.{differ}
 use Rattle.message.specs.declared.Refusal.{Refusal}
 use Rattle.message.specs.declared.Refusal.the-variants.{TooShort, TooLong, NotVersion2, Padded, NotApplication, WrongLength, NotNamed, UnlistedType, PastTheEnd, AgainstTheTable, Missing, Unreadable, NoRoom}
-use Rattle.message.specs.Answers.{Answer, refused, number}
+use Rattle.message.specs.Answers.{Answer, refused, result, number}
 use Rattle.reading.specs.declared.Reading.{Reading}
 use Rattle.reading.specs.declared.Reading.the-variants.{Read}
-use Rattle.reading.specs.Reading.{told as toldByReader}
+use Rattle.reading.specs.Reading.{messageAt, told as toldByReader}
 use Rattle.writing.specs.declared.Writing.{Writing}
 use Rattle.writing.specs.declared.Writing.the-variants.{Written}
 use Rattle.writing.specs.Writing.{told as toldByWriter}
-use Rattle.again.specs.Again.{NumbersDiffer, ReadersCoincide, WritersCoincide}
+use Rattle.again.specs.Again.{NumbersDiffer, ReadersCoincide, WritersCoincide, SameJudgement, JudgesCoincide}
 
 -- the refusal that each number names, from 1 on; 0 names none
 abbrev refusals : List Refusal
@@ -59,3 +67,26 @@ written-told (Writing.Refused r) (Writing.Refused r′) e = ap Writing.Refused (
 pub writers-coincide : WritersCoincide
 writers-coincide m src room r r′ left left′ p p′ =
     record { answers = written-told r r′ (p .answer ∙ sym (p′ .answer)); rooms = p .left ∙ sym (p′ .left) }
+
+same-notes : (fs : Fields) (starts starts′ : List ℕ) → Noted fs starts → Noted fs starts′ → starts ≡ starts′
+same-notes (whole fs) starts starts′ n n′ =
+    ext-getD 0 starts starts′ (n .long ∙ sym (n′ .long)) (λ i h. let h′ = rw (n .long) at h in n .has i h′ ∙ sym (n′ .has i h′))
+same-notes (fault k) starts starts′ n n′ = absurd n
+
+differs : {m : Message} {n : ℕ} → _≡_ {A = Answer Message} (result m) (refused n) → ⊥
+differs e = differ (cc)
+
+message-of : (m m′ : Message) → _≡_ {A = Answer Message} (result m) (result m′) → m ≡ m′
+message-of m m′ e = cc
+
+pub judges-coincide : JudgesCoincide
+unfolding messageAt
+judges-coincide s (Of k) (Of k′) starts starts′ p p′ =
+    record {
+      answers = ap (λ (m : Message). Of (m .kind)) (message-of _ _ (sym (p .0) ∙ p′ .0));
+      noted = same-notes (fieldsIn s) starts starts′ (p .2) (p′ .2);
+    }
+judges-coincide s (Of k) (Opening.Refused r) starts starts′ p p′ = absurd (differs (sym (p .0) ∙ p′ .0))
+judges-coincide s (Opening.Refused r) (Of k) starts starts′ p p′ = absurd (differs (sym (p′ .0) ∙ p .0))
+judges-coincide s (Opening.Refused r) (Opening.Refused r′) starts starts′ p p′ =
+    record { answers = ap Opening.Refused (number-of r r′ (sym (p .0) ∙ p′ .0)); noted = p .1 ∙ sym (p′ .1) }

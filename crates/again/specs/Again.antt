@@ -13,6 +13,8 @@ use Rattle.message.specs.Answers.{result, number}
 use Rattle.reading.specs.declared.Reading.{Reading}
 use Rattle.reading.specs.declared.Reading.the-variants.{Read}
 use Rattle.reading.specs.Fields.{fieldsFrom, fieldsIn}
+use Rattle.reading.specs.declared.Opening.{Opening}
+use Rattle.reading.specs.Walk.{Judges}
 use Rattle.reading.specs.Reading.{reading, told as toldByReader}
 use Rattle.writing.specs.declared.Writing.{Writing}
 use Rattle.writing.specs.declared.Writing.the-variants.{Written}
@@ -106,3 +108,11 @@ abbrev pub WritersCoincide : Type 0
 WritersCoincide =
     (m : Message) (src room : List ℕ) (r r′ : Writing) (left left′ : List ℕ) → WriterPromise m src room r left
     → WriterPromise m src room r′ left′ → SameResult r r′ left left′
+
+pub record SameJudgement (r r′ : Opening) (starts starts′ : List ℕ) : Type 0 where
+  pub answers : r ≡ r′
+  pub noted : starts ≡ starts′
+
+abbrev pub JudgesCoincide : Type 0
+JudgesCoincide =
+    (s : List ℕ) (r r′ : Opening) (starts starts′ : List ℕ) → Judges r s starts → Judges r′ s starts′ → SameJudgement r r′ starts starts′

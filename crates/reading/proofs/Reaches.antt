@@ -1,15 +1,15 @@
 -- The fields that a walk found lie in the packet, and their lengths are the table's: so what the message reads at their starts is there.
 -- Assumes nothing.
-use Prim.Native.Nat.{ℕ, zero, suc, _+_, _-_, _≤_}
+use Prim.Native.Nat.{ℕ, zero, suc, _+_, _-_, _<_, _≤_}
 use native.Mathlib.Omega.{arith}
-use mathlib.Core.Bool.{false}
+use mathlib.Core.Bool.{Bool, true, false, not}
 use mathlib.Core.List.{List, [], _∷_}
 use mathlib.Core.Path.{_≡_, refl, sym, ap, subst, _∙_}
 use lib.Dec.{ltb, eqb, lit<}
 use lib.ListN.{length, getD, List·getD-eq-default}
 use borrow.Author.Tests.{ltb-true, ltb-false, eqb-true}
 use Rattle.words.proofs.Tests.{neither-left}
-use Rattle.words.specs.Choice.{if_then_else_, by-test}
+use Rattle.words.specs.Choice.{if_then_else_, by-test, if-yes, if-no}
 use Rattle.message.specs.Table.{rowIn, rowOf, against, atFault}
 use Rattle.reading.specs.declared.Found.{Found}
 use Rattle.reading.specs.declared.Step.{Step}
@@ -22,8 +22,9 @@ use Rattle.message.specs.declared.Kind.{Kind}
 use Rattle.message.specs.declared.Refusal.{Refusal}
 use Rattle.reading.specs.declared.Walk.{Walk}
 use Rattle.reading.specs.declared.Walk.the-variants.{Whole}
-use Rattle.reading.specs.Reading.{messageAt, judged}
-use Rattle.reading.specs.Walk.{Notes, Reach, Walked, faultNumber}
+use Rattle.reading.specs.declared.Opening.the-variants.{Of}
+use Rattle.reading.specs.Reading.{messageAt, judged, reading}
+use Rattle.reading.specs.Walk.{Notes, Reach, Walked, faultNumber, Opens, Judges}
 use Rattle.reading.proofs.Steps.{padded-least, padded-holds, Sound, step-sound}
 
 -- a field that lies in the packet, with a length that the table has
@@ -170,3 +171,29 @@ module _ (k : Kind) (s starts : List ℕ) (w : Walk) where
   judged-whole m e q walked =
       let f = found-all q walked in
       rw (f .is, e, message-notes starts (f .fs) (f .notes) k s)
+
+  -- what is known of the packet then, by the array of starts
+  module _ (opens : Opens (Of k) s) (walked : Walked (fieldsIn s) w starts) where
+    pub judges-fault : (r : Refusal) → number r ≡ faultNumber w → 0 < faultNumber w → reading s ≡ refused (number r)
+    judges-fault r e h = opens .1 ∙ sym (judged-fault r (λ q. let z : faultNumber w ≡ 0 = ap faultNumber q in omega (arith, z, h)) e walked)
+
+    module _ (e : w ≡ Whole) where
+      by-completeness : reading s ≡ (if complete (said (messageAt k s (λ i. getD starts i 0)) s) then result (messageAt k s (λ i. getD starts i 0)) else refused 11)
+      by-completeness = opens .1 ∙ judged-whole (messageAt k s (λ i. getD starts i 0)) refl e walked
+
+      pub judges-missing : complete (said (messageAt k s (λ i. getD starts i 0)) s) ≡ false → reading s ≡ refused 11
+      judges-missing t = by-completeness ∙ if-no (complete (said (messageAt k s (λ i. getD starts i 0)) s)) _ _ t
+
+      pub judges-whole : complete (said (messageAt k s (λ i. getD starts i 0)) s) ≡ true → Judges (Of k) s starts
+      judges-whole t =
+          let f = found-all e walked in (
+            by-completeness ∙ if-yes (complete (said (messageAt k s (λ i. getD starts i 0)) s)) _ _ t,
+            reach-notes starts (f .fs) (f .notes) s (reach s (f .fs) (opens .0) (f .is)),
+            rw (f .is) (f .notes),
+          )
+
+-- a field is given where its start is not 0
+pub given-at : {A : Type 0} (given : A → Bool) (lacks has : A) (at : ℕ) → given lacks ≡ false → given has ≡ true
+    → not (eqb at 0) ≡ given (if eqb at 0 then lacks else has)
+unfolding if_then_else_
+given-at given lacks has at n s = by-test (eqb at 0) (λ e. rw (e, n)) (λ e. rw (e, s))

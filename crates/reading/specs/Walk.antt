@@ -5,18 +5,18 @@ use mathlib.Core.Bool.{_&&_}
 use mathlib.Core.List.{List, []}
 use mathlib.Core.Path.{_≡_}
 use lib.Dec.{ltb, leb, eqb}
-use lib.ListN.{length, getD, set}
+use lib.ListN.{length, getD, set, replicate}
 use Rattle.words.specs.Choice.{if_then_else_}
 use Rattle.reading.specs.declared.Found.{Found}
 use Rattle.reading.specs.declared.Walk.{Walk}
 use Rattle.reading.specs.declared.Walk.the-variants.{Whole, PastTheEnd, AgainstTheTable}
 use Rattle.octets.specs.Octets.{part}
-use Rattle.message.specs.Answers.{Answer, refused, number}
+use Rattle.message.specs.Answers.{Answer, refused, result, number}
 use Rattle.message.specs.declared.Part.{Part}
 use Rattle.reading.specs.declared.Opening.{Opening}
 use Rattle.reading.specs.declared.Opening.the-variants.{Of, Refused}
 use Rattle.reading.specs.Fields.{Fields, whole, fault, fieldsIn, startOf}
-use Rattle.reading.specs.Reading.{judged, reading}
+use Rattle.reading.specs.Reading.{messageAt, judged, reading}
 
 -- a start noted: the first counts
 unfoldable pub noted : List ℕ → ℕ → ℕ → List ℕ
@@ -49,6 +49,17 @@ pub record Reach (s : List ℕ) (start : ℕ → ℕ) : Type 0 where
 abbrev pub Opens : Opening → List ℕ → Type 0
 Opens (Refused r) s = reading s ≡ refused (number r)
 Opens (Of k) s = (12 ≤ length s) × (reading s ≡ judged k s (fieldsIn s))
+
+-- what is known once all checks are done: of a packet that is read its type and the starts of its fields' contents, by which its message
+-- is made up; of one that is refused the refusal, and no start
+abbrev pub Noted : Fields → List ℕ → Type 0
+Noted (whole fs) starts = Notes starts fs
+Noted (fault n) starts = ⊥
+
+abbrev pub Judges : Opening → List ℕ → List ℕ → Type 0
+Judges (Refused r) s starts = (reading s ≡ refused (number r)) × (starts ≡ replicate 16 0)
+Judges (Of k) s starts =
+    (reading s ≡ result (messageAt k s (λ i. getD starts i 0))) × Reach s (λ i. getD starts i 0) × Noted (fieldsIn s) starts
 
 -- the part of the packet that a field's octets are; none where the part does not lie in it
 abbrev pub partIn : List ℕ → Part → List ℕ

@@ -11,12 +11,15 @@ use message::Refusal;
 use message::Typed;
 use message::Word;
 ghost use mathlib.Core.Path.{_≡_};
+ghost use mathlib.Core.List.{List};
 ghost use Prim.Native.Nat.{ℕ, _+_, _-_, _<_, _≤_, _^_};
 ghost use Rattle.message.specs.Table.{padded};
+ghost use Rattle.message.specs.Message.{said, complete};
 ghost use lib.ListN.{length, getD, replicate};
 ghost use Rattle.reading.specs.Fields.{stepAt, fieldsIn};
-ghost use Rattle.reading.specs.Reading.{octetAt, wordAt, numberAt, queueAt, partAt, causeAt, messageAt, judged, reading, told};
-ghost use Rattle.reading.specs.Walk.{noted, Walked, Reach, Opens, partIn};
+ghost use Rattle.reading.specs.Reading.{octetAt, wordAt, numberAt, queueAt, partAt, causeAt, messageAt, reading, told};
+ghost use Rattle.reading.specs.Walk.{noted, Walked, Reach, Opens, Judges, partIn};
+ghost use Rattle.reading.specs.declared.Opening.the-variants as opening;
 
 // A field: its ID, where its content starts, its length, and where the next field starts.
 pub struct Found {
@@ -34,7 +37,7 @@ pub enum Step {
     AgainstTheTable,
 }
 
-// What the first 12 octets say: the type of the packet, or a refusal.
+// What a packet is judged to be: one of a type, or refused.
 pub enum Opening {
     Of(Kind),
     Refused(Refusal),
@@ -241,23 +244,63 @@ fn opened(s: &[u8]) -> Opening
     }
 }
 
-// Checks 9 to 11, and the message.
-fn read_fields(s: &[u8], kind: Kind) -> Reading
-    requires { ⌜ 12 ≤ length (now s) ⌝ }
-    ensures { λ r. ⌜ told r ≡ judged kind (now (s .entry)) (fieldsIn (now (s .entry))) ⌝ }
+// Whether every field that a type requires has been noted.
+fn has_all(kind: Kind, starts: &[usize; 16]) -> bool
+    ensures { λ r. ⌜ ((s : List ℕ) → r ≡ complete (said (messageAt kind s (λ i. getD (now (starts .entry)) i 0)) s)) ⌝ }
 {
-    let mut starts = [0usize; 16];
-    let walk = note_all(s, &mut starts);
-    match walk {
-        Walk::PastTheEnd => Reading::Refused(Refusal::PastTheEnd),
-        Walk::AgainstTheTable => Reading::Refused(Refusal::AgainstTheTable),
+    match kind {
+        Kind::Granted => starts[1] != 0,
+        Kind::Taken => starts[4] != 0,
+        Kind::Deny => starts[2] != 0,
+        Kind::Revoke => starts[2] != 0,
+        Kind::Idle => starts[8] != 0,
+        Kind::QueuePositionInfo => starts[3] != 0,
+        Kind::Ack => (starts[10] != 0) & (starts[12] != 0),
+        Kind::Request => true,
+        Kind::Release => true,
+        Kind::QueuePositionRequest => true,
+    }
+}
+
+fn forget(starts: &mut [usize; 16])
+    ensures { λ _. ⌜ now (starts .exit) ≡ replicate 16 0 ⌝ }
+{
+    *starts = [0usize; 16];
+}
+
+// Checks 9 to 11.
+fn judge_fields(s: &[u8], kind: Kind, starts: &mut [usize; 16]) -> Opening
+    requires { ⌜ now starts ≡ replicate 16 0 ⌝ }
+    requires { ⌜ Opens (opening.Of kind) (now s) ⌝ }
+    ensures { λ r. ⌜ Judges r (now (s .entry)) (now (starts .exit)) ⌝ }
+{
+    match note_all(s, starts) {
         Walk::Whole => {
-            let m = message_at(s, kind, &starts);
-            if message::complete(m) {
-                return Reading::Read(m);
+            if has_all(kind, starts) {
+                return Opening::Of(kind);
             }
-            Reading::Refused(Refusal::Missing)
+            forget(starts);
+            Opening::Refused(Refusal::Missing)
         }
+        Walk::PastTheEnd => {
+            forget(starts);
+            Opening::Refused(Refusal::PastTheEnd)
+        }
+        Walk::AgainstTheTable => {
+            forget(starts);
+            Opening::Refused(Refusal::AgainstTheTable)
+        }
+    }
+}
+
+// Judges a packet, and notes where its fields' contents start: with its type they are its message, of which a caller makes what it needs.
+pub fn judge(s: &[u8], starts: &mut [usize; 16]) -> Opening
+    requires { ⌜ now starts ≡ replicate 16 0 ⌝ }
+    ensures { λ r. ⌜ Judges r (now (s .entry)) (now (starts .exit)) ⌝ }
+{
+    match opened(s) {
+        Opening::Of(kind) => judge_fields(s, kind, starts),
+        Opening::Refused(r) => Opening::Refused(r),
     }
 }
 
@@ -265,8 +308,12 @@ fn read_fields(s: &[u8], kind: Kind) -> Reading
 pub fn read(s: &[u8]) -> Reading
     ensures { λ r. ⌜ told r ≡ reading (now (s .entry)) ⌝ }
 {
-    match opened(s) {
-        Opening::Of(kind) => read_fields(s, kind),
+    let mut starts = [0usize; 16];
+    match judge(s, &mut starts) {
+        Opening::Of(kind) => {
+            let m = message_at(s, kind, &starts);
+            Reading::Read(m)
+        }
         Opening::Refused(r) => Reading::Refused(r),
     }
 }

@@ -1,34 +1,38 @@
-use mathlib.Core.Path.{sym, subst, _∙_}
+use mathlib.Core.Path.{sym, ap, subst, _∙_}
+use Rattle.message.specs.Answers.{result}
 use Rattle.reading.specs.declared.Opening.{Opening}
-use Rattle.reading.specs.Walk.{Opens}
+use Rattle.reading.specs.Walk.{Judges}
 use native.Mathlib.Omega.{arith}
 use borrow.Author.Needs.{needs}
 use Rattle.reading.proofs.read.Statement.{statement}
 use Rattle.reading.proofs.read.Tie as tie
 use Rattle.reading.proofs.read.Reads as reads
 use Rattle.reading.proofs.read.Lts as lts
-use Rattle.reading.proofs.opened.Reads as opened-reads
-use Rattle.reading.proofs.read_fields.Reads as read-fields-reads
+use Rattle.reading.proofs.judge.Reads as judge-reads
+use Rattle.reading.proofs.message_at.Reads as message-at-reads
 
-opened-requires : tie.Need-opened-requires
-opened-requires c κs = search needs
+judge-requires : tie.Need-judge-requires
+judge-requires c κs = search needs
 
 enum-known-kind : tie.Need-enum-known-kind
 enum-known-kind c = search needs
 
-read-fields-requires : tie.Need-read-fields-requires
-read-fields-requires c κs = (subst (λ (o : Opening). Opens o (c .before .before .before .before .before .args .s .now)) (c .before .kind .given .1) (c .before .before .before .opened .ensures)) .0
+message-at-requires : tie.Need-message-at-requires
+message-at-requires c κs =
+    (subst (λ (o : Opening). Judges o (c .before .before .before .before .before .before .before .args .s .now) (c .before .before .before .before .judge .last .1 .0)) (c .before .before .kind .given .1) (c .before .before .before .before .judge .ensures)) .1
 
 enum-known-r : tie.Need-enum-known-r
 enum-known-r c = search needs
 
 returns : tie.Need-returns
-returns c = c .read-fields .ensures ∙ sym ((subst (λ (o : Opening). Opens o (c .before .before .before .before .before .before .args .s .now)) (c .before .before .kind .given .1) (c .before .before .before .before .opened .ensures)) .1)
+returns c =
+    ap result (c .message-at .ensures) ∙ sym ((subst (λ (o : Opening). Judges o (c .before .before .before .before .before .before .before .before .args .s .now) (c .before .before .before .before .before .judge .last .1 .0)) (c .before .before .before .kind .given .1) (c .before .before .before .before .before .judge .ensures)) .0)
 
 returns-2 : tie.Need-returns-2
-returns-2 c = sym (subst (λ (o : Opening). Opens o (c .before .before .before .before .before .args .s .now)) (c .before .r .given .1) (c .before .before .before .opened .ensures))
+returns-2 c =
+    sym ((subst (λ (o : Opening). Judges o (c .before .before .before .before .before .before .args .s .now) (c .before .before .before .judge .last .1 .0)) (c .before .r .given .1) (c .before .before .before .judge .ensures)) .0)
 
 pub read-spec : {M : Type 1} → statement M
 read-spec =
     tie.close
-    (tie.spec opened-requires enum-known-kind read-fields-requires enum-known-r returns returns-2)
+    (tie.spec judge-requires enum-known-kind message-at-requires enum-known-r returns returns-2)

@@ -1,0 +1,40 @@
+use mathlib.Core.Path.{subst}
+use Rattle.reading.specs.declared.Opening.{Opening}
+use Rattle.reading.specs.Walk.{Opens}
+use native.Mathlib.Omega.{arith}
+use borrow.Author.Needs.{needs}
+use Rattle.reading.proofs.judge.Statement.{statement}
+use Rattle.reading.proofs.judge.Tie as tie
+use Rattle.reading.proofs.judge.Reads as reads
+use Rattle.reading.proofs.judge.Lts as lts
+use Rattle.reading.proofs.judge_fields.Reads as judge-fields-reads
+use Rattle.reading.proofs.opened.Reads as opened-reads
+
+opened-requires : tie.Need-opened-requires
+opened-requires c κs = search needs
+
+enum-known-kind : tie.Need-enum-known-kind
+enum-known-kind c = search needs
+
+judge-fields-requires : tie.Need-judge-fields-requires
+judge-fields-requires c κs = (
+  c .before .before .before .before .before .before .pre,
+  subst (λ (o : Opening). Opens o (c .before .before .before .before .before .before .args .s .now)) (c .before .before .kind .given .1) (c .before .before .before .before .opened .ensures),
+)
+
+enum-known-r : tie.Need-enum-known-r
+enum-known-r c = search needs
+
+returns : tie.Need-returns
+returns c = c .judge-fields .ensures
+
+returns-2 : tie.Need-returns-2
+returns-2 c = (
+  subst (λ (o : Opening). Opens o (c .before .before .before .before .before .args .s .now)) (c .before .r .given .1) (c .before .before .before .opened .ensures),
+  c .before .before .before .before .before .pre,
+)
+
+pub judge-spec : {M : Type 1} → statement M
+judge-spec =
+    tie.close
+    (tie.spec opened-requires enum-known-kind judge-fields-requires enum-known-r returns returns-2)
