@@ -19,6 +19,8 @@ use Rattle.desk.specs.Events.{step}
 use Rattle.desk.specs.declared.Event.{Event}
 use Rattle.desk.specs.declared.Event.the-variants as event
 use Rattle.call.specs.declared.Called.{Called}
+use Rattle.call.specs.declared.Heard.{Heard}
+use Rattle.call.specs.declared.Heard.the-variants.{As, NotRead}
 
 -- the priority that a request asks for; that the field is missing is a case of its own
 abbrev pub askedIn : Octet → Asked
@@ -56,14 +58,17 @@ ofStep r =
 abbrev pub unread : Core → ℕ → Called
 unread c n = record { answer = n; core = c; first = silence; second = silence; marks = noMarks }
 
+-- what a packet is heard as: only one that was read becomes an event
+abbrev pub heardAs : Answer Message → Heard
+heardAs (refused n) = NotRead n
+heardAs (result m) = As (eventOf m)
+
+abbrev pub followed : Core → Hall → Heard → Called
+followed c h (NotRead n) = unread c n
+followed c h (As e) = ofStep (step c h e)
+
 abbrev pub byReading : Core → Hall → Answer Message → Called
-byReading c h (refused n) = unread c n
-byReading c h (result m) = ofStep (step c h (eventOf m))
+byReading c h a = followed c h (heardAs a)
 
 unfoldable pub hears : Core → Hall → List ℕ → Called
 hears c h packet = byReading c h (reading packet)
-
--- the number of a reader's answer: 0 where it is a message
-abbrev pub answerOf : Answer Message → ℕ
-answerOf (refused n) = n
-answerOf (result m) = 0

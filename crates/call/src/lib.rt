@@ -4,15 +4,21 @@ use hall::Answer;
 use hall::Asked;
 use hall::Hall;
 use message::Kind;
-use message::Message;
-use message::Octet;
-use reading::Reading;
+use reading::Opening;
 use rules::Core;
 use rules::Marks;
 use rules::Step;
 ghost use mathlib.Core.Path.{_≡_};
-ghost use Rattle.reading.specs.Reading.{told};
-ghost use Rattle.call.specs.Call.{askedIn, eventBy, eventOf, ofStep, unread, hears, answerOf};
+ghost use Prim.Native.Nat.{_+_, _≤_};
+ghost use lib.ListN.{length};
+ghost use Rattle.reading.specs.Reading.{octetAt, reading};
+ghost use Rattle.call.specs.Call.{askedIn, eventBy, heardAs, ofStep, unread, followed, hears};
+
+// What a packet is heard as: an event, or the number of the reader's refusal.
+pub enum Heard {
+    As(Event),
+    NotRead(u8),
+}
 
 // What a packet brought about: the answer as the paper's number, the core afterwards, the messages and the marks.
 pub struct Called {
@@ -23,34 +29,22 @@ pub struct Called {
     pub marks: Marks,
 }
 
-// The number of an answer of the reader; 0 is a message.
-pub fn reading_number(answer: Reading) -> u8
-    ensures { λ n. ⌜ n ≡ answerOf (told answer) ⌝ }
+fn asked_at(packet: &[u8], at: usize) -> Asked
+    requires { ⌜ at + 2 ≤ length (now packet) ⌝ }
+    ensures { λ r. ⌜ r ≡ askedIn (octetAt (now (packet .entry)) at) ⌝ }
 {
-    match answer {
-        Reading::Read(_) => 0,
-        Reading::Refused(r) => message::refusal_number(r),
+    if at == 0 {
+        return Asked::NoField;
     }
-}
-
-fn asked_in(priority: Octet) -> Asked
-    ensures { λ r. ⌜ r ≡ askedIn priority ⌝ }
-{
-    match priority {
-        Octet::Absent => Asked::NoField,
-        Octet::Is(p) => Asked::Priority(p),
-    }
+    Asked::Priority(packet[at])
 }
 
 // The event that a message is: Request, Release and Queue Position Request have a rule, all others get 23 if they are heard at all.
-pub fn event_of(m: Message) -> Event
-    ensures { λ r. ⌜ r ≡ eventOf m ⌝ }
+fn event_by(kind: Kind, ssrc: u32, asked: Asked) -> Event
+    ensures { λ r. ⌜ r ≡ eventBy kind ssrc asked ⌝ }
 {
-    let kind = m.kind;
-    let ssrc = m.ssrc;
-    let priority = m.priority;
     match kind {
-        Kind::Request => Event::Request(ssrc, asked_in(priority)),
+        Kind::Request => Event::Request(ssrc, asked),
         Kind::Release => Event::Release(ssrc),
         Kind::QueuePositionRequest => Event::Position(ssrc),
         Kind::Granted => Event::Other(ssrc),
@@ -60,6 +54,21 @@ pub fn event_of(m: Message) -> Event
         Kind::Revoke => Event::Other(ssrc),
         Kind::QueuePositionInfo => Event::Other(ssrc),
         Kind::Ack => Event::Other(ssrc),
+    }
+}
+
+// What a packet is heard as. Of a message that was read only its type, its SSRC and the priority it asks for make the event.
+pub fn heard_as(packet: &[u8]) -> Heard
+    ensures { λ r. ⌜ r ≡ heardAs (reading (now (packet .entry))) ⌝ }
+{
+    let mut starts = [0usize; 16];
+    match reading::judge(packet, &mut starts) {
+        Opening::Of(kind) => {
+            let ssrc = octets::number32(packet, 4);
+            let asked = asked_at(packet, starts[0]);
+            Heard::As(event_by(kind, ssrc, asked))
+        }
+        Opening::Refused(r) => Heard::NotRead(message::refusal_number(r)),
     }
 }
 
@@ -100,13 +109,19 @@ pub fn not_read(core: Core, number: u8) -> Called
     }
 }
 
+// What is heard becomes a step, or leaves all as it was.
+pub fn follow(core: Core, hall: Hall, heard: Heard) -> Called
+    ensures { λ r. ⌜ r ≡ followed core hall heard ⌝ }
+{
+    match heard {
+        Heard::As(event) => of_step(desk::make_step(core, hall, event)),
+        Heard::NotRead(number) => not_read(core, number),
+    }
+}
+
 // A packet comes in: only one that was read becomes an event.
 pub fn hear(core: Core, hall: Hall, packet: &[u8]) -> Called
     ensures { λ r. ⌜ r ≡ hears core hall (now (packet .entry)) ⌝ }
 {
-    let answer = reading::read(packet);
-    let Reading::Read(m) = answer else {
-        return not_read(core, reading_number(answer));
-    };
-    of_step(desk::make_step(core, hall, event_of(m)))
+    follow(core, hall, heard_as(packet))
 }

@@ -10,16 +10,20 @@ use message::Queue;
 use message::Refusal;
 use message::Typed;
 use message::Word;
-use reading::Reading;
+use reading::Opening;
 use writing::Writing;
 ghost use mathlib.Core.Path.{_≡_};
-ghost use mathlib.Core.List.{[]};
-ghost use Prim.Native.Nat.{_+_, _*_, _≤_, _<_, _^_};
+ghost use mathlib.Core.List.{[], _∷_};
+ghost use Prim.Native.Nat.{_+_, _-_, _*_, _≤_, _<_, _^_};
 ghost use lib.ListN.{length, getD};
-ghost use Rattle.octets.specs.Octets.{be16, be32, over};
+ghost use Rattle.octets.specs.Octets.{be16, be32, octets16, octets32, over};
 ghost use Rattle.message.specs.Message.{ofOctet, ofWord, ofNumber, ofQueue, ofPart, ofCause, isGiven};
+ghost use Rattle.message.specs.declared.Part.the-variants as part;
+ghost use Rattle.reading.specs.Reading as reads;
+ghost use Rattle.reading.specs.Walk.{Reach};
 ghost use Rattle.writing.specs.Writing.{told};
-ghost use Rattle.held.specs.Held.{flag, which, worthIf, octetIn, wordIn, numberIn, positionIn, priorityIn, causeIn, phraseIn, startIn, countIn, headOctets, firstOctets, nextOctets, placeOctets, partOctets, heldOctets, bitOf, octetIf, wordIf, numberIf, queueIf, partIf, causeIf, messageWith, unlistedField, heldAt, readHeld, keptIn, writingOf, writtenOf};
+ghost use Rattle.held.specs.Held.{worthIf, octetIn, wordIn, numberIn, causeIn, phraseIn, firstOctets, nextOctets, placeOctets, partOctets, heldOctets, bitOf, octetIf, wordIf, numberIf, queueIf, partIf, causeIf, messageWith, unlistedField, heldAt, readHeld, keptIn, writingOf, writtenOf};
+ghost use Rattle.held.specs.Laying.{Blank, Lays, queueOctets, firstWorth, nextWorth, partsWorth, headBy};
 
 // What octets hold.
 pub enum Held {
@@ -30,266 +34,172 @@ pub enum Held {
 // How many octets a message is held in.
 const SIZE: usize = 40;
 
-// What a field's bit adds to the number that says which fields a message has.
+// A packet's message is laid into zeros, from its fields' starts: what it lacks is there already. Each field that it has adds the worth of
+// its bit to that of the fields before it.
 
-fn octet_bit(o: Octet, worth: u16) -> u16
-    ensures { λ r. ⌜ r ≡ worthIf (isGiven (ofOctet o)) worth ⌝ }
-    ensures { λ r. ⌜ r ≤ worth ⌝ }
+fn lay_octet(room: &mut [u8], to: usize, s: &[u8], at: usize, has: u16, worth: u16) -> u16
+    requires { ⌜ Blank (now room) to × (to + 1 ≤ 40) ⌝ }
+    requires { ⌜ (at + 2 ≤ length (now s)) × (has + worth < 65536) ⌝ }
+    ensures { λ _. ⌜ Lays (now (room .entry)) to (octetIn (reads.octetAt (now (s .entry)) at) ∷ []) (now (room .exit)) ⌝ }
+    ensures { λ r. ⌜ r ≡ has + worthIf (isGiven (ofOctet (reads.octetAt (now (s .entry)) at))) worth ⌝ }
+    ensures { λ r. ⌜ r ≤ has + worth ⌝ }
 {
-    match o {
-        Octet::Absent => 0,
-        Octet::Is(_) => worth,
+    if at == 0 {
+        return has;
     }
+    room[to] = s[at];
+    has + worth
 }
 
-fn word_bit(w: Word, worth: u16) -> u16
-    ensures { λ r. ⌜ r ≡ worthIf (isGiven (ofWord w)) worth ⌝ }
-    ensures { λ r. ⌜ r ≤ worth ⌝ }
+fn lay_word(room: &mut [u8], to: usize, s: &[u8], at: usize, has: u16, worth: u16) -> u16
+    requires { ⌜ Blank (now room) to × (to + 2 ≤ 40) ⌝ }
+    requires { ⌜ (at + 2 ≤ length (now s)) × (has + worth < 65536) ⌝ }
+    ensures { λ _. ⌜ Lays (now (room .entry)) to (octets16 (wordIn (reads.wordAt (now (s .entry)) at))) (now (room .exit)) ⌝ }
+    ensures { λ r. ⌜ r ≡ has + worthIf (isGiven (ofWord (reads.wordAt (now (s .entry)) at))) worth ⌝ }
+    ensures { λ r. ⌜ r ≤ has + worth ⌝ }
 {
-    match w {
-        Word::Absent => 0,
-        Word::Is(_) => worth,
+    if at == 0 {
+        return has;
     }
+    octets::put16(room, to, octets::number16(s, at));
+    has + worth
 }
 
-fn number_bit(n: Number, worth: u16) -> u16
-    ensures { λ r. ⌜ r ≡ worthIf (isGiven (ofNumber n)) worth ⌝ }
-    ensures { λ r. ⌜ r ≤ worth ⌝ }
+fn lay_number(room: &mut [u8], to: usize, s: &[u8], at: usize, has: u16, worth: u16) -> u16
+    requires { ⌜ Blank (now room) to × (to + 4 ≤ 40) ⌝ }
+    requires { ⌜ (at + 4 ≤ length (now s)) × (has + worth < 65536) ⌝ }
+    ensures { λ _. ⌜ Lays (now (room .entry)) to (octets32 (numberIn (reads.numberAt (now (s .entry)) at))) (now (room .exit)) ⌝ }
+    ensures { λ r. ⌜ r ≡ has + worthIf (isGiven (ofNumber (reads.numberAt (now (s .entry)) at))) worth ⌝ }
+    ensures { λ r. ⌜ r ≤ has + worth ⌝ }
 {
-    match n {
-        Number::Absent => 0,
-        Number::Is(_) => worth,
+    if at == 0 {
+        return has;
     }
+    octets::put32(room, to, octets::number32(s, at));
+    has + worth
 }
 
-fn queue_bit(q: Queue, worth: u16) -> u16
-    ensures { λ r. ⌜ r ≡ worthIf (isGiven (ofQueue q)) worth ⌝ }
-    ensures { λ r. ⌜ r ≤ worth ⌝ }
+fn lay_queue(room: &mut [u8], to: usize, s: &[u8], at: usize, has: u16, worth: u16) -> u16
+    requires { ⌜ Blank (now room) to × (to + 2 ≤ 40) ⌝ }
+    requires { ⌜ (at + 2 ≤ length (now s)) × (has + worth < 65536) ⌝ }
+    ensures { λ _. ⌜ Lays (now (room .entry)) to (queueOctets (reads.queueAt (now (s .entry)) at)) (now (room .exit)) ⌝ }
+    ensures { λ r. ⌜ r ≡ has + worthIf (isGiven (ofQueue (reads.queueAt (now (s .entry)) at))) worth ⌝ }
+    ensures { λ r. ⌜ r ≤ has + worth ⌝ }
 {
-    match q {
-        Queue::Absent => 0,
-        Queue::Is(_, _) => worth,
+    if at == 0 {
+        return has;
     }
+    octets::put_pair(room, to, s[at], s[at + 1]);
+    has + worth
 }
 
-fn part_bit(p: Part, worth: u16) -> u16
-    ensures { λ r. ⌜ r ≡ worthIf (isGiven (ofPart [] p)) worth ⌝ }
-    ensures { λ r. ⌜ r ≤ worth ⌝ }
+fn lay_cause(room: &mut [u8], to: usize, s: &[u8], at: usize, has: u16, worth: u16) -> u16
+    requires { ⌜ Blank (now room) to × (to + 2 ≤ 40) ⌝ }
+    requires { ⌜ (at + 2 ≤ length (now s)) × (has + worth < 65536) ⌝ }
+    ensures { λ _. ⌜ Lays (now (room .entry)) to (octets16 (causeIn (reads.causeAt (now (s .entry)) at))) (now (room .exit)) ⌝ }
+    ensures { λ r. ⌜ r ≡ has + worthIf (isGiven (ofCause [] (reads.causeAt (now (s .entry)) at))) worth ⌝ }
+    ensures { λ r. ⌜ r ≤ has + worth ⌝ }
 {
-    match p {
-        Part::Absent => 0,
-        Part::At(_, _) => worth,
+    if at == 0 {
+        return has;
     }
-}
-
-fn cause_bit(c: Cause, worth: u16) -> u16
-    ensures { λ r. ⌜ r ≡ worthIf (isGiven (ofCause [] c)) worth ⌝ }
-    ensures { λ r. ⌜ r ≤ worth ⌝ }
-{
-    match c {
-        Cause::Absent => 0,
-        Cause::Is(_, _, _) => worth,
-    }
-}
-
-// Which fields a message has: bit i for ID i.
-fn which_of(m: Message) -> u16
-    ensures { λ r. ⌜ r ≡ which m ⌝ }
-{
-    let priority = m.priority;
-    let duration = m.duration;
-    let cause = m.cause;
-    let queue = m.queue;
-    let granted = m.granted;
-    let permission = m.permission;
-    let user = m.user;
-    let sequence = m.sequence;
-    let source = m.source;
-    let subject = m.subject;
-    let indicator = m.indicator;
-    let party = m.party;
-    octet_bit(priority, 1)
-        + word_bit(duration, 2)
-        + cause_bit(cause, 4)
-        + queue_bit(queue, 8)
-        + part_bit(granted, 16)
-        + word_bit(permission, 32)
-        + part_bit(user, 64)
-        + word_bit(sequence, 256)
-        + word_bit(source, 1024)
-        + octet_bit(subject, 4096)
-        + word_bit(indicator, 8192)
-        + number_bit(party, 16384)
-}
-
-// What a field holds, and zero where it is absent.
-
-fn octet_of(o: Octet) -> u8
-    ensures { λ r. ⌜ r ≡ octetIn o ⌝ }
-{
-    match o {
-        Octet::Absent => 0,
-        Octet::Is(n) => n,
-    }
-}
-
-fn word_of(w: Word) -> u16
-    ensures { λ r. ⌜ r ≡ wordIn w ⌝ }
-{
-    match w {
-        Word::Absent => 0,
-        Word::Is(n) => n,
-    }
-}
-
-fn number_of(n: Number) -> u32
-    ensures { λ r. ⌜ r ≡ numberIn n ⌝ }
-{
-    match n {
-        Number::Absent => 0,
-        Number::Is(k) => k,
-    }
-}
-
-fn position_of(q: Queue) -> u8
-    ensures { λ r. ⌜ r ≡ positionIn q ⌝ }
-{
-    match q {
-        Queue::Absent => 0,
-        Queue::Is(position, _) => position,
-    }
-}
-
-fn priority_of(q: Queue) -> u8
-    ensures { λ r. ⌜ r ≡ priorityIn q ⌝ }
-{
-    match q {
-        Queue::Absent => 0,
-        Queue::Is(_, priority) => priority,
-    }
-}
-
-fn cause_of(c: Cause) -> u16
-    ensures { λ r. ⌜ r ≡ causeIn c ⌝ }
-{
-    match c {
-        Cause::Absent => 0,
-        Cause::Is(cause, _, _) => cause,
-    }
-}
-
-fn phrase_of(c: Cause) -> Part
-    ensures { λ r. ⌜ r ≡ phraseIn c ⌝ }
-{
-    match c {
-        Cause::Absent => Part::Absent,
-        Cause::Is(_, from, count) => Part::At(from, count),
-    }
-}
-
-fn start_of(p: Part) -> usize
-    ensures { λ r. ⌜ r ≡ startIn p ⌝ }
-{
-    match p {
-        Part::Absent => 0,
-        Part::At(from, _) => from,
-    }
-}
-
-fn count_of(p: Part) -> usize
-    ensures { λ r. ⌜ r ≡ countIn p ⌝ }
-{
-    match p {
-        Part::Absent => 0,
-        Part::At(_, count) => count,
-    }
-}
-
-fn flag_of(b: bool) -> u8
-    ensures { λ r. ⌜ r ≡ flag b ⌝ }
-{
-    if b { 1 } else { 0 }
-}
-
-// Octets written at their places; the rest of the room is untouched.
-
-fn put_head(room: &mut [u8], m: Message)
-    requires { ⌜ 40 ≤ length (now room) ⌝ }
-    ensures { λ _. ⌜ now (room .exit) ≡ over (now (room .entry)) 0 (headOctets m) ⌝ }
-{
-    let kind = m.kind;
-    let number = message::type_number(kind);
-    let ack = flag_of(m.ack);
-    let fields = which_of(m);
-    octets::put_pair(room, 0, number, ack);
-    octets::put16(room, 2, fields);
-    octets::put32(room, 4, m.ssrc);
-}
-
-fn put_first(room: &mut [u8], m: Message)
-    requires { ⌜ 40 ≤ length (now room) ⌝ }
-    ensures { λ _. ⌜ now (room .exit) ≡ over (now (room .entry)) 8 (firstOctets m) ⌝ }
-{
-    let priority = m.priority;
-    let subject = m.subject;
-    let duration = m.duration;
-    let cause = m.cause;
-    let queue = m.queue;
-    octets::put_pair(room, 8, octet_of(priority), octet_of(subject));
-    octets::put16(room, 10, word_of(duration));
-    octets::put16(room, 12, cause_of(cause));
-    octets::put_pair(room, 14, position_of(queue), priority_of(queue));
-}
-
-fn put_next(room: &mut [u8], m: Message)
-    requires { ⌜ 40 ≤ length (now room) ⌝ }
-    ensures { λ _. ⌜ now (room .exit) ≡ over (now (room .entry)) 16 (nextOctets m) ⌝ }
-{
-    let permission = m.permission;
-    let sequence = m.sequence;
-    let source = m.source;
-    let indicator = m.indicator;
-    let party = m.party;
-    octets::put16(room, 16, word_of(permission));
-    octets::put16(room, 18, word_of(sequence));
-    octets::put16(room, 20, word_of(source));
-    octets::put16(room, 22, word_of(indicator));
-    octets::put32(room, 24, number_of(party));
+    octets::put16(room, to, octets::number16(s, at));
+    has + worth
 }
 
 // A place in a packet fits 16 bits: a packet has at most 1,024 octets.
-fn put_place(room: &mut [u8], at: usize, p: Part)
+fn put_place(room: &mut [u8], at: usize, from: usize, count: usize)
     requires { ⌜ at + 4 ≤ length (now room) ⌝ }
-    ensures { λ _. ⌜ now (room .exit) ≡ over (now (room .entry)) at (placeOctets p) ⌝ }
+    ensures { λ _. ⌜ now (room .exit) ≡ over (now (room .entry)) at (placeOctets (part.At from count)) ⌝ }
 {
-    let from = start_of(p);
-    let count = count_of(p);
     octets::put16(room, at, (from % 65536) as u16);
     octets::put16(room, at + 2, (count % 65536) as u16);
 }
 
-fn put_parts(room: &mut [u8], m: Message)
-    requires { ⌜ 40 ≤ length (now room) ⌝ }
-    ensures { λ _. ⌜ now (room .exit) ≡ over (now (room .entry)) 28 (partOctets m) ⌝ }
+fn lay_part(room: &mut [u8], to: usize, s: &[u8], at: usize, has: u16, worth: u16) -> u16
+    requires { ⌜ Blank (now room) to × (to + 4 ≤ 40) ⌝ }
+    requires { ⌜ (at + 2 ≤ length (now s)) × (has + worth < 65536) ⌝ }
+    ensures { λ _. ⌜ Lays (now (room .entry)) to (placeOctets (reads.partAt (now (s .entry)) at)) (now (room .exit)) ⌝ }
+    ensures { λ r. ⌜ r ≡ has + worthIf (isGiven (ofPart [] (reads.partAt (now (s .entry)) at))) worth ⌝ }
+    ensures { λ r. ⌜ r ≤ has + worth ⌝ }
 {
-    let cause = m.cause;
-    let granted = m.granted;
-    let user = m.user;
-    let phrase = phrase_of(cause);
-    put_place(room, 28, phrase);
-    put_place(room, 32, granted);
-    put_place(room, 36, user);
+    if at == 0 {
+        return has;
+    }
+    put_place(room, to, at, s[at - 1] as usize);
+    has + worth
 }
 
-// Writes a message into the first 40 octets of a room.
-fn put_held(room: &mut [u8], m: Message)
-    requires { ⌜ 40 ≤ length (now room) ⌝ }
-    ensures { λ _. ⌜ now (room .exit) ≡ over (now (room .entry)) 0 (heldOctets m) ⌝ }
+// Where a cause's phrase stands; the bit of its field is added where the cause is laid.
+fn lay_phrase(room: &mut [u8], to: usize, s: &[u8], at: usize)
+    requires { ⌜ Blank (now room) to × (to + 4 ≤ 40) ⌝ }
+    requires { ⌜ at + 2 ≤ length (now s) ⌝ }
+    requires { ⌜ ((at ≡ 0 → ⊥) → 2 ≤ getD (now s) (at - 1) 0) ⌝ }
+    ensures { λ _. ⌜ Lays (now (room .entry)) to (placeOctets (phraseIn (reads.causeAt (now (s .entry)) at))) (now (room .exit)) ⌝ }
 {
-    put_head(room, m);
-    put_first(room, m);
-    put_next(room, m);
-    put_parts(room, m);
+    if at == 0 {
+        return;
+    }
+    put_place(room, to, at + 2, s[at - 1] as usize - 2);
+}
+
+fn lay_first(room: &mut [u8], s: &[u8], starts: &[usize; 16]) -> u16
+    requires { ⌜ Blank (now room) 8 ⌝ }
+    requires { ⌜ Reach (now s) (λ i. getD (now starts) i 0) ⌝ }
+    ensures { λ _. ⌜ ((k : Kind) → Lays (now (room .entry)) 8 (firstOctets (reads.messageAt k (now (s .entry)) (λ i. getD (now (starts .entry)) i 0))) (now (room .exit))) ⌝ }
+    ensures { λ r. ⌜ ((k : Kind) → r ≡ firstWorth (reads.messageAt k (now (s .entry)) (λ i. getD (now (starts .entry)) i 0))) ⌝ }
+{
+    let has = lay_octet(room, 8, s, starts[0], 0, 1);
+    let has = lay_octet(room, 9, s, starts[12], has, 4096);
+    let has = lay_word(room, 10, s, starts[1], has, 2);
+    let has = lay_cause(room, 12, s, starts[2], has, 4);
+    lay_queue(room, 14, s, starts[3], has, 8)
+}
+
+fn lay_next(room: &mut [u8], s: &[u8], starts: &[usize; 16]) -> u16
+    requires { ⌜ Blank (now room) 16 ⌝ }
+    requires { ⌜ Reach (now s) (λ i. getD (now starts) i 0) ⌝ }
+    ensures { λ _. ⌜ ((k : Kind) → Lays (now (room .entry)) 16 (nextOctets (reads.messageAt k (now (s .entry)) (λ i. getD (now (starts .entry)) i 0))) (now (room .exit))) ⌝ }
+    ensures { λ r. ⌜ ((k : Kind) → r ≡ nextWorth (reads.messageAt k (now (s .entry)) (λ i. getD (now (starts .entry)) i 0))) ⌝ }
+{
+    let has = lay_word(room, 16, s, starts[5], 0, 32);
+    let has = lay_word(room, 18, s, starts[8], has, 256);
+    let has = lay_word(room, 20, s, starts[10], has, 1024);
+    let has = lay_word(room, 22, s, starts[13], has, 8192);
+    lay_number(room, 24, s, starts[14], has, 16384)
+}
+
+fn lay_parts(room: &mut [u8], s: &[u8], starts: &[usize; 16]) -> u16
+    requires { ⌜ Blank (now room) 28 ⌝ }
+    requires { ⌜ Reach (now s) (λ i. getD (now starts) i 0) ⌝ }
+    ensures { λ _. ⌜ ((k : Kind) → Lays (now (room .entry)) 28 (partOctets (reads.messageAt k (now (s .entry)) (λ i. getD (now (starts .entry)) i 0))) (now (room .exit))) ⌝ }
+    ensures { λ r. ⌜ ((k : Kind) → r ≡ partsWorth (reads.messageAt k (now (s .entry)) (λ i. getD (now (starts .entry)) i 0))) ⌝ }
+{
+    lay_phrase(room, 28, s, starts[2]);
+    let has = lay_part(room, 32, s, starts[4], 0, 16);
+    lay_part(room, 36, s, starts[6], has, 64)
+}
+
+fn put_head(room: &mut [u8], s: &[u8], kind: Kind, fields: u16)
+    requires { ⌜ (12 ≤ length (now s)) × (40 ≤ length (now room)) ⌝ }
+    ensures { λ _. ⌜ now (room .exit) ≡ over (now (room .entry)) 0 (headBy kind (now (s .entry)) fields) ⌝ }
+{
+    octets::put_pair(room, 0, message::type_number(kind), s[0] / 16 % 2);
+    octets::put16(room, 2, fields);
+    octets::put32(room, 4, octets::number32(s, 4));
+}
+
+// Writes a packet's message into the first 40 octets of a room.
+fn put_held(room: &mut [u8], s: &[u8], kind: Kind, starts: &[usize; 16])
+    requires { ⌜ 40 ≤ length (now room) ⌝ }
+    requires { ⌜ Reach (now s) (λ i. getD (now starts) i 0) ⌝ }
+    ensures { λ _. ⌜ now (room .exit) ≡ over (now (room .entry)) 0 (heldOctets (reads.messageAt kind (now (s .entry)) (λ i. getD (now (starts .entry)) i 0))) ⌝ }
+{
+    octets::put_zeros(room, 0, SIZE);
+    let first = lay_first(room, s, starts);
+    let next = lay_next(room, s, starts);
+    let parts = lay_parts(room, s, starts);
+    put_head(room, s, kind, first + next + parts);
 }
 
 // What octets hold of a field, if the bit of this worth says that the message has it.
@@ -436,13 +346,14 @@ pub fn read_held(packet: &[u8], room: &mut [u8]) -> u8
     ensures { λ r. ⌜ r ≡ readHeld (now (packet .entry)) (length (now (room .entry))) ⌝ }
     ensures { λ _. ⌜ now (room .exit) ≡ keptIn (now (packet .entry)) (now (room .entry)) ⌝ }
 {
-    match reading::read(packet) {
-        Reading::Refused(r) => message::refusal_number(r),
-        Reading::Read(m) => {
+    let mut starts = [0usize; 16];
+    match reading::judge(packet, &mut starts) {
+        Opening::Refused(r) => message::refusal_number(r),
+        Opening::Of(kind) => {
             if room.len() < SIZE {
                 return 13;
             }
-            put_held(room, m);
+            put_held(room, packet, kind, &starts);
             0
         }
     }

@@ -1,53 +1,73 @@
-use Prim.Native.Nat.{_+_, zero-le}
-use mathlib.Core.Path.{_≡_, refl}
-use Rattle.octets.specs.Octets.{over, octets16, octets32}
-use Rattle.held.proofs.Runs.{run}
-use Rattle.held.specs.Held.{headOctets, firstOctets, nextOctets, placeOctets, partOctets, heldOctets}
+use Prim.Native.Nat.{ℕ, _+_}
+use mathlib.Core.Path.{_≡_}
+use lib.ListN.{getD}
+use Rattle.octets.specs.Octets.{octets16, octets32}
+use Rattle.reading.specs.Reading.{messageAt}
+use Rattle.held.specs.Held.{which, firstOctets, nextOctets}
+use Rattle.held.proofs.Laying.{blank-room, first-most, next-most, parts-most, which-by-rows, held-by-rows}
+use native.Mathlib.Omega.{arith}
 use borrow.Author.Needs.{needs}
 use Rattle.held.proofs.put_held.Statement.{statement}
 use Rattle.held.proofs.put_held.Tie as tie
+use Rattle.held.proofs.put_held.Reads as reads
+use Rattle.held.proofs.put_held.Lts as lts
+use Rattle.held.proofs.lay_first.Reads as lay-first-reads
+use Rattle.held.proofs.lay_next.Reads as lay-next-reads
+use Rattle.held.proofs.lay_parts.Reads as lay-parts-reads
+use Rattle.held.proofs.put_head.Reads as put-head-reads
+use Rattle.octets.proofs.put_zeros.Reads as put-zeros-reads
+
+put-zeros-requires : tie.Need-put-zeros-requires
+put-zeros-requires c κs = search needs
+
+lay-first-requires : tie.Need-lay-first-requires
+lay-first-requires c κs =
+    (blank-room (c .before .before .before .before .before .before .before .args .room .now) _ (c .before .before .before .before .before .before .before .pre .0) (c .before .before .before .put-zeros .ensures), c .before .before .before .before .before .before .before .pre .1)
+
+lay-next-requires : tie.Need-lay-next-requires
+unfolding firstOctets octets16
+lay-next-requires c κs =
+    (c .before .before .before .lay-first .ensures .0 (c .before .before .before .before .before .before .before .before .before .before .before .args .kind) .blank, c .before .before .before .before .before .before .before .before .before .before .before .pre .1)
+
+lay-parts-requires : tie.Need-lay-parts-requires
+unfolding nextOctets octets16 octets32
+lay-parts-requires c κs =
+    (c .before .before .before .lay-next .ensures .0 (c .before .before .before .before .before .before .before .before .before .before .before .before .before .before .before .args .kind) .blank, c .before .before .before .before .before .before .before .before .before .before .before .before .before .before .before .pre .1)
+
+add-put-head : tie.Need-add-put-head
+add-put-head c =
+    omega (arith, first-most (messageAt (c .before .before .before .before .before .before .before .before .before .before .before .before .before .before .before .before .before .before .before .args .kind) (c .before .before .before .before .before .before .before .before .before .before .before .before .before .before .before .before .before .before .before .args .s .now) (λ i. getD (c .before .before .before .before .before .before .before .before .before .before .before .before .before .before .before .before .before .before .before .args .starts .now) i 0)), next-most (messageAt (c .before .before .before .before .before .before .before .before .before .before .before .before .before .before .before .before .before .before .before .args .kind) (c .before .before .before .before .before .before .before .before .before .before .before .before .before .before .before .before .before .before .before .args .s .now) (λ i. getD (c .before .before .before .before .before .before .before .before .before .before .before .before .before .before .before .before .before .before .before .args .starts .now) i 0)), c .before .before .before .before .before .before .before .before .before .before .before .lay-first .ensures .1 (c .before .before .before .before .before .before .before .before .before .before .before .before .before .before .before .before .before .before .before .args .kind), c .before .before .before .before .before .before .before .lay-next .ensures .1 (c .before .before .before .before .before .before .before .before .before .before .before .before .before .before .before .before .before .before .before .args .kind))
+
+add-put-head-2 : tie.Need-add-put-head-2
+add-put-head-2 c =
+    omega (arith, first-most (messageAt (c .before .before .before .before .before .before .before .before .before .before .before .before .before .before .before .before .before .before .before .args .kind) (c .before .before .before .before .before .before .before .before .before .before .before .before .before .before .before .before .before .before .before .args .s .now) (λ i. getD (c .before .before .before .before .before .before .before .before .before .before .before .before .before .before .before .before .before .before .before .args .starts .now) i 0)), next-most (messageAt (c .before .before .before .before .before .before .before .before .before .before .before .before .before .before .before .before .before .before .before .args .kind) (c .before .before .before .before .before .before .before .before .before .before .before .before .before .before .before .before .before .before .before .args .s .now) (λ i. getD (c .before .before .before .before .before .before .before .before .before .before .before .before .before .before .before .before .before .before .before .args .starts .now) i 0)), parts-most (messageAt (c .before .before .before .before .before .before .before .before .before .before .before .before .before .before .before .before .before .before .before .args .kind) (c .before .before .before .before .before .before .before .before .before .before .before .before .before .before .before .before .before .before .before .args .s .now) (λ i. getD (c .before .before .before .before .before .before .before .before .before .before .before .before .before .before .before .before .before .before .before .args .starts .now) i 0)), c .before .before .before .before .before .before .before .before .before .before .before .lay-first .ensures .1 (c .before .before .before .before .before .before .before .before .before .before .before .before .before .before .before .before .before .before .before .args .kind), c .before .before .before .before .before .before .before .lay-next .ensures .1 (c .before .before .before .before .before .before .before .before .before .before .before .before .before .before .before .before .before .before .before .args .kind), c .before .before .before .lay-parts .ensures .1 (c .before .before .before .before .before .before .before .before .before .before .before .before .before .before .before .before .before .before .before .args .kind))
 
 put-head-requires : tie.Need-put-head-requires
 put-head-requires c κs = search needs
-
-put-first-requires : tie.Need-put-first-requires
-put-first-requires c κs = search needs
-
-put-next-requires : tie.Need-put-next-requires
-put-next-requires c κs = search needs
-
-put-parts-requires : tie.Need-put-parts-requires
-put-parts-requires c κs = search needs
 
 same-length : tie.Need-same-length
 same-length c = search needs
 
 returns : tie.Need-returns
-unfolding heldOctets headOctets firstOctets nextOctets partOctets placeOctets octets16 octets32
 returns c =
-    let a = c .before .before .before .before .before .before .before .before .before .before .before .before .before .before .before .before .before .args in
-    let r = a .room .now in
-    let one = c .before .before .before .before .before .before .before .before .before .before .before .before .before .before .put-head in
-    let two = c .before .before .before .before .before .before .before .before .before .before .put-first in
-    let three = c .before .before .before .before .before .before .put-next in
-    let four = c .before .before .put-parts in
-    let e1 : one .last .0 ≡ over r 0 (headOctets (a .m)) =
-    one .ensures in
-    let e2 : two .last .0 ≡ over (one .last .0) (0 + 8) (firstOctets (a .m)) =
-    two .ensures in
-    let e3 : three .last .0 ≡ over (two .last .0) (0 + 16) (nextOctets (a .m)) =
-    three .ensures in
-    let e4 : four .last .0 ≡ over (three .last .0) (0 + 28) (partOctets (a .m)) =
-    four .ensures in
-    run r _ _ 0 28 _ _ zero-le refl (run r _ _ 0 16 _ _ zero-le refl (run r _ _ 0 8 _ _ zero-le refl e1 e2) e3) e4
+    let a = c .before .before .before .before .before .before .before .before .before .before .before .before .before .before .before .before .before .before .before .before .before .before .args in
+    let start : ℕ → ℕ = λ i. getD (a .starts .now) i 0 in
+    let m = messageAt (a .kind) (a .s .now) start in
+    let sum : c .before .before .before .before .before .before .before .before .before .before .before .before .before .before .lay-first .result + c .before .before .before .before .before .before .before .before .before .before .lay-next .result + c .before .before .before .before .before .before .lay-parts .result ≡ which m =
+    rw (c .before .before .before .before .before .before .before .before .before .before .before .before .before .before .lay-first .ensures .1 (a .kind), c .before .before .before .before .before .before .before .before .before .before .lay-next .ensures .1 (a .kind), c .before .before .before .before .before .before .lay-parts .ensures .1 (a .kind)) (which-by-rows m) in
+    held-by-rows (a .kind) (a .s .now) start (a .room .now) _ _ _ _ _ (c .before .before .before .before .before .before .before .before .before .before .before .before .before .before .before .before .before .before .before .before .before .before .pre .0) (c .before .before .before .before .before .before .before .before .before .before .before .before .before .before .before .before .before .before .put-zeros .ensures) (c .before .before .before .before .before .before .before .before .before .before .before .before .before .before .lay-first .ensures .0 (a .kind))
+    (c .before .before .before .before .before .before .before .before .before .before .lay-next .ensures .0 (a .kind)) (c .before .before .before .before .before .before .lay-parts .ensures .0 (a .kind)) (rw sum at (c .before .before .put-head .ensures))
 
 pub put-held-spec : {M : Type 1} → statement M
 put-held-spec =
     tie.close
     (tie.spec
+    put-zeros-requires
+    lay-first-requires
+    lay-next-requires
+    lay-parts-requires
+    add-put-head
+    add-put-head-2
     put-head-requires
-    put-first-requires
-    put-next-requires
-    put-parts-requires
     same-length
     returns)

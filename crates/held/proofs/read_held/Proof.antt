@@ -1,12 +1,19 @@
-use mathlib.Core.Path.{sym, ap, _∙_}
-use Rattle.reading.specs.Reading.{told}
+use mathlib.Core.Path.{subst}
+use Rattle.reading.specs.declared.Opening.{Opening}
+use Rattle.reading.specs.Walk.{Judges}
 use Rattle.held.proofs.Answers.{refused-is, short-is, kept-is}
+use native.Mathlib.Omega.{arith}
 use borrow.Author.Needs.{needs}
 use Rattle.held.proofs.read_held.Statement.{statement}
 use Rattle.held.proofs.read_held.Tie as tie
+use Rattle.held.proofs.read_held.Reads as reads
+use Rattle.held.proofs.read_held.Lts as lts
+use Rattle.held.proofs.put_held.Reads as put-held-reads
+use Rattle.message.proofs.refusal_number.Reads as refusal-number-reads
+use Rattle.reading.proofs.judge.Reads as judge-reads
 
-read-requires : tie.Need-read-requires
-read-requires c κs = search needs
+judge-requires : tie.Need-judge-requires
+judge-requires c κs = search needs
 
 enum-known-r : tie.Need-enum-known-r
 enum-known-r c = search needs
@@ -14,32 +21,36 @@ enum-known-r c = search needs
 refusal-number-requires : tie.Need-refusal-number-requires
 refusal-number-requires c κs = search needs
 
-enum-known-m : tie.Need-enum-known-m
-enum-known-m c = search needs
+enum-known-kind : tie.Need-enum-known-kind
+enum-known-kind c = search needs
 
 returns : tie.Need-returns
-returns c = short-is (c .before .before .before .before .before .before .before .args .packet .now) (c .before .before .before .before .before .before .before .args .room .now) _ (sym (c .before .before .before .before .read .ensures) ∙ ap told (c .before .before .m .given .1)) (c .if1 .taken)
+returns c =
+    short-is (c .before .before .before .before .before .before .before .before .args .packet .now) (c .before .before .before .before .before .before .before .before .args .room .now) _ ((subst (λ (o : Opening). Judges o (c .before .before .before .before .before .before .before .before .args .packet .now) (c .before .before .before .before .judge .last .1 .0)) (c .before .before .kind .given .1) (c .before .before .before .before .judge .ensures)) .0) (c .if1 .taken)
 
 put-held-requires : tie.Need-put-held-requires
-put-held-requires c κs = search needs
+put-held-requires c κs =
+    (c .before .before .if1 .left, (subst (λ (o : Opening). Judges o (c .before .before .before .before .before .before .before .before .before .before .args .packet .now) (c .before .before .before .before .before .before .judge .last .1 .0)) (c .before .before .before .before .kind .given .1) (c .before .before .before .before .before .before .judge .ensures)) .1)
 
 returns-2 : tie.Need-returns-2
-returns-2 c = rw (c .refusal-number .ensures) (refused-is (c .before .before .before .before .before .before .before .args .packet .now) (c .before .before .before .before .before .before .before .args .room .now) _ (sym (c .before .before .before .before .read .ensures) ∙ ap told (c .before .before .r .given .1)))
+returns-2 c =
+    rw (c .refusal-number .ensures) (refused-is (c .before .before .before .before .before .before .before .before .args .packet .now) (c .before .before .before .before .before .before .before .before .args .room .now) _ ((subst (λ (o : Opening). Judges o (c .before .before .before .before .before .before .before .before .args .packet .now) (c .before .before .before .before .judge .last .1 .0)) (c .before .before .r .given .1) (c .before .before .before .before .judge .ensures)) .0))
 
 same-length : tie.Need-same-length
 same-length c = search needs
 
 returns-3 : tie.Need-returns-3
-returns-3 c = kept-is (c .before .before .before .before .before .before .before .before .before .before .before .args .packet .now) (c .before .before .before .before .before .before .before .before .before .before .before .args .room .now) _ _ (sym (c .before .before .before .before .before .before .before .before .read .ensures) ∙ ap told (c .before .before .before .before .before .before .m .given .1)) (c .before .before .before .before .if1 .left) (c .before .before .put-held .ensures)
+returns-3 c =
+    kept-is (c .before .before .before .before .before .before .before .before .before .before .before .before .before .args .packet .now) (c .before .before .before .before .before .before .before .before .before .before .before .before .before .args .room .now) _ _ ((subst (λ (o : Opening). Judges o (c .before .before .before .before .before .before .before .before .before .before .before .before .before .args .packet .now) (c .before .before .before .before .before .before .before .before .before .judge .last .1 .0)) (c .before .before .before .before .before .before .before .kind .given .1) (c .before .before .before .before .before .before .before .before .before .judge .ensures)) .0) (c .before .before .before .before .before .if1 .left) (c .before .before .put-held .ensures)
 
 pub read-held-spec : {M : Type 1} → statement M
 read-held-spec =
     tie.close
     (tie.spec
-    read-requires
+    judge-requires
     enum-known-r
     refusal-number-requires
-    enum-known-m
+    enum-known-kind
     returns
     put-held-requires
     returns-2

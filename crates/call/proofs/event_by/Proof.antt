@@ -1,17 +1,12 @@
-use Rattle.call.specs.Call.{eventOf}
 use native.Mathlib.Omega.{arith}
 use borrow.Author.Needs.{needs}
-use Rattle.call.proofs.event_of.Statement.{statement}
-use Rattle.call.proofs.event_of.Tie as tie
-use Rattle.call.proofs.event_of.Reads as reads
-use Rattle.call.proofs.event_of.Lts as lts
-use Rattle.call.proofs.asked_in.Reads as asked-in-reads
+use Rattle.call.proofs.event_by.Statement.{statement}
+use Rattle.call.proofs.event_by.Tie as tie
+use Rattle.call.proofs.event_by.Reads as reads
+use Rattle.call.proofs.event_by.Lts as lts
 
 enum-told : tie.Need-enum-told
 enum-told c = search needs
-
-asked-in-requires : tie.Need-asked-in-requires
-asked-in-requires c κs = search needs
 
 enum-told-2 : tie.Need-enum-told-2
 enum-told-2 c = search needs
@@ -41,51 +36,40 @@ enum-told-10 : tie.Need-enum-told-10
 enum-told-10 c = search needs
 
 returns : tie.Need-returns
-unfolding eventOf
-returns c = rw (c .before .enum-told .given .1, c .asked-in .ensures)
+returns c = rw (c .enum-told .given .1)
 
 returns-2 : tie.Need-returns-2
-unfolding eventOf
 returns-2 c = rw (c .enum-told2 .given .1)
 
 returns-3 : tie.Need-returns-3
-unfolding eventOf
 returns-3 c = rw (c .enum-told3 .given .1)
 
 returns-4 : tie.Need-returns-4
-unfolding eventOf
 returns-4 c = rw (c .enum-told4 .given .1)
 
 returns-5 : tie.Need-returns-5
-unfolding eventOf
 returns-5 c = rw (c .enum-told5 .given .1)
 
 returns-6 : tie.Need-returns-6
-unfolding eventOf
 returns-6 c = rw (c .enum-told6 .given .1)
 
 returns-7 : tie.Need-returns-7
-unfolding eventOf
 returns-7 c = rw (c .enum-told7 .given .1)
 
 returns-8 : tie.Need-returns-8
-unfolding eventOf
 returns-8 c = rw (c .enum-told8 .given .1)
 
 returns-9 : tie.Need-returns-9
-unfolding eventOf
 returns-9 c = rw (c .enum-told9 .given .1)
 
 returns-10 : tie.Need-returns-10
-unfolding eventOf
 returns-10 c = rw (c .enum-told10 .given .1)
 
-pub event-of-spec : {M : Type 1} → statement M
-event-of-spec =
+pub event-by-spec : {M : Type 1} → statement M
+event-by-spec =
     tie.close
     (tie.spec
     enum-told
-    asked-in-requires
     enum-told-2
     enum-told-3
     enum-told-4

@@ -1,0 +1,63 @@
+use mathlib.Core.Path.{_≡_, refl}
+use Rattle.octets.specs.Octets.{octets16, octets32}
+use Rattle.reading.specs.Reading.{messageAt}
+use Rattle.held.specs.Held.{placeOctets, firstOctets, nextOctets, partOctets}
+use Rattle.held.specs.Laying.{firstWorth, nextWorth, partsWorth}
+use Rattle.held.proofs.Laying.{lays-two}
+use native.Mathlib.Omega.{arith}
+use borrow.Author.Needs.{needs}
+use Rattle.held.proofs.lay_parts.Statement.{statement}
+use Rattle.held.proofs.lay_parts.Tie as tie
+use Rattle.held.proofs.lay_parts.Reads as reads
+use Rattle.held.proofs.lay_parts.Lts as lts
+use Rattle.held.proofs.lay_part.Reads as lay-part-reads
+use Rattle.held.proofs.lay_phrase.Reads as lay-phrase-reads
+
+element-copy-out-lay-phrase : tie.Need-element-copy-out-lay-phrase
+element-copy-out-lay-phrase c = search needs
+
+lay-phrase-requires : tie.Need-lay-phrase-requires
+lay-phrase-requires c κs =
+    ((c .before .before .before .before .pre .0, omega arith), (c .before .before .before .before .pre .1 .two 2, c .before .before .before .before .pre .1 .cause))
+
+element-copy-out-lay-part : tie.Need-element-copy-out-lay-part
+element-copy-out-lay-part c = search needs
+
+lay-part-requires : tie.Need-lay-part-requires
+unfolding octets16 placeOctets
+lay-part-requires c κs =
+    ((c .before .before .before .before .lay-phrase .ensures .blank, omega arith), (c .before .before .before .before .before .before .before .before .before .pre .1 .two 4, omega arith))
+
+element-copy-out-lay-part-2 : tie.Need-element-copy-out-lay-part-2
+element-copy-out-lay-part-2 c = search needs
+
+lay-part-requires-2 : tie.Need-lay-part-requires-2
+unfolding octets16 placeOctets
+lay-part-requires-2 c κs =
+    ((c .before .before .before .before .lay-part .ensures .0 .blank, omega arith), (c .before .before .before .before .before .before .before .before .before .before .before .before .before .before .pre .1 .two 6, omega (arith, c .before .before .before .before .lay-part .ensures .1 .1)))
+
+same-length : tie.Need-same-length
+same-length c = search needs
+
+returns : tie.Need-returns
+unfolding partOctets partsWorth messageAt placeOctets octets16
+returns c =
+    let a = c .before .before .before .before .before .before .before .before .before .before .before .before .before .before .before .before .before .args in
+    let r = a .room .now in
+    let b = c .before .before .before .before .before .before .before .before .before .before .before .before .before .before .before .before .before .pre .0 in
+    let l1 = lays-two r 28 _ b _ _ _ (c .before .before .before .before .before .before .before .before .before .before .before .before .lay-phrase .ensures) 4 refl (c .before .before .before .before .before .before .before .lay-part .ensures .0) (omega arith) in
+    let l2 = lays-two r 28 _ b _ _ _ (l1) 8 refl (c .before .before .lay-part2 .ensures .0) (omega arith) in
+    (λ k. l2, λ k. rw (c .before .before .lay-part2 .ensures .1 .0, c .before .before .before .before .before .before .before .lay-part .ensures .1 .0))
+
+pub lay-parts-spec : {M : Type 1} → statement M
+lay-parts-spec =
+    tie.close
+    (tie.spec
+    element-copy-out-lay-phrase
+    lay-phrase-requires
+    element-copy-out-lay-part
+    lay-part-requires
+    element-copy-out-lay-part-2
+    lay-part-requires-2
+    same-length
+    returns)
