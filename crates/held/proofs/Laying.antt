@@ -112,7 +112,7 @@ flag-bit zero h = refl
 flag-bit (suc zero) h = refl
 flag-bit (suc (suc n)) h = absurd (omega arith)
 
-pub which-by-rows : (m : Message) → firstWorth m + nextWorth m + partsWorth m ≡ which m
+pub which-by-rows : (m : Message) → partsWorth (nextWorth (firstWorth m) m) m ≡ which m
 unfolding firstWorth nextWorth partsWorth
 which-by-rows m = let e = which-is m in omega (arith, e)
 
@@ -128,9 +128,9 @@ first-most m =
       worth-most (isGiven (ofQueue (m .queue))) 8,
     )
 
-pub next-most : (m : Message) → nextWorth m ≤ 25888
+pub next-most : (has : ℕ) (m : Message) → nextWorth has m ≤ has + 25888
 unfolding nextWorth
-next-most m =
+next-most has m =
     omega (
       arith,
       worth-most (isGiven (ofWord (m .permission))) 32,
@@ -139,10 +139,6 @@ next-most m =
       worth-most (isGiven (ofWord (m .indicator))) 8192,
       worth-most (isGiven (ofNumber (m .party))) 16384,
     )
-
-pub parts-most : (m : Message) → partsWorth m ≤ 80
-unfolding partsWorth
-parts-most m = omega (arith, worth-most (isGiven (ofPart [] (m .granted))) 16, worth-most (isGiven (ofPart [] (m .user))) 64)
 
 head-is : (k : Kind) (s : List ℕ) (start : ℕ → ℕ) → headBy k s (which (messageAt k s start)) ≡ headOctets (messageAt k s start)
 unfolding headBy headOctets messageAt

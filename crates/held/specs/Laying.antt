@@ -26,7 +26,7 @@ pub record Lays (room : List ℕ) (at : ℕ) (octets after : List ℕ) : Type 0 
 abbrev pub queueOctets : Queue → List ℕ
 queueOctets q = positionIn q ∷ priorityIn q ∷ []
 
--- what the bits of the fields are worth whose places stand in a row
+-- what the bits of the fields are worth whose places stand in a row, with those before them
 unfoldable pub firstWorth : Message → ℕ
 firstWorth m =
     0 + worthIf (isGiven (ofOctet (m .priority))) 1 + worthIf (isGiven (ofOctet (m .subject))) 4096
@@ -34,15 +34,15 @@ firstWorth m =
     + worthIf (isGiven (ofCause [] (m .cause))) 4
     + worthIf (isGiven (ofQueue (m .queue))) 8
 
-unfoldable pub nextWorth : Message → ℕ
-nextWorth m =
-    0 + worthIf (isGiven (ofWord (m .permission))) 32 + worthIf (isGiven (ofWord (m .sequence))) 256
+unfoldable pub nextWorth : ℕ → Message → ℕ
+nextWorth has m =
+    has + worthIf (isGiven (ofWord (m .permission))) 32 + worthIf (isGiven (ofWord (m .sequence))) 256
     + worthIf (isGiven (ofWord (m .source))) 1024
     + worthIf (isGiven (ofWord (m .indicator))) 8192
     + worthIf (isGiven (ofNumber (m .party))) 16384
 
-unfoldable pub partsWorth : Message → ℕ
-partsWorth m = 0 + worthIf (isGiven (ofPart [] (m .granted))) 16 + worthIf (isGiven (ofPart [] (m .user))) 64
+unfoldable pub partsWorth : ℕ → Message → ℕ
+partsWorth has m = has + worthIf (isGiven (ofPart [] (m .granted))) 16 + worthIf (isGiven (ofPart [] (m .user))) 64
 
 -- type, Ack bit and SSRC out of the packet's header, and the fields' bits
 unfoldable pub headBy : Kind → List ℕ → ℕ → List ℕ

@@ -156,27 +156,29 @@ fn lay_first(room: &mut [u8], s: &[u8], starts: &[usize; 16]) -> u16
     lay_queue(room, 14, s, starts[3], has, 8)
 }
 
-fn lay_next(room: &mut [u8], s: &[u8], starts: &[usize; 16]) -> u16
+fn lay_next(room: &mut [u8], s: &[u8], starts: &[usize; 16], has: u16) -> u16
     requires { ⌜ Blank (now room) 16 ⌝ }
     requires { ⌜ Reach (now s) (λ i. getD (now starts) i 0) ⌝ }
+    requires { ⌜ has + 25888 < 65536 ⌝ }
     ensures { λ _. ⌜ ((k : Kind) → Lays (now (room .entry)) 16 (nextOctets (reads.messageAt k (now (s .entry)) (λ i. getD (now (starts .entry)) i 0))) (now (room .exit))) ⌝ }
-    ensures { λ r. ⌜ ((k : Kind) → r ≡ nextWorth (reads.messageAt k (now (s .entry)) (λ i. getD (now (starts .entry)) i 0))) ⌝ }
+    ensures { λ r. ⌜ ((k : Kind) → r ≡ nextWorth has (reads.messageAt k (now (s .entry)) (λ i. getD (now (starts .entry)) i 0))) ⌝ }
 {
-    let has = lay_word(room, 16, s, starts[5], 0, 32);
+    let has = lay_word(room, 16, s, starts[5], has, 32);
     let has = lay_word(room, 18, s, starts[8], has, 256);
     let has = lay_word(room, 20, s, starts[10], has, 1024);
     let has = lay_word(room, 22, s, starts[13], has, 8192);
     lay_number(room, 24, s, starts[14], has, 16384)
 }
 
-fn lay_parts(room: &mut [u8], s: &[u8], starts: &[usize; 16]) -> u16
+fn lay_parts(room: &mut [u8], s: &[u8], starts: &[usize; 16], has: u16) -> u16
     requires { ⌜ Blank (now room) 28 ⌝ }
     requires { ⌜ Reach (now s) (λ i. getD (now starts) i 0) ⌝ }
+    requires { ⌜ has + 80 < 65536 ⌝ }
     ensures { λ _. ⌜ ((k : Kind) → Lays (now (room .entry)) 28 (partOctets (reads.messageAt k (now (s .entry)) (λ i. getD (now (starts .entry)) i 0))) (now (room .exit))) ⌝ }
-    ensures { λ r. ⌜ ((k : Kind) → r ≡ partsWorth (reads.messageAt k (now (s .entry)) (λ i. getD (now (starts .entry)) i 0))) ⌝ }
+    ensures { λ r. ⌜ ((k : Kind) → r ≡ partsWorth has (reads.messageAt k (now (s .entry)) (λ i. getD (now (starts .entry)) i 0))) ⌝ }
 {
     lay_phrase(room, 28, s, starts[2]);
-    let has = lay_part(room, 32, s, starts[4], 0, 16);
+    let has = lay_part(room, 32, s, starts[4], has, 16);
     lay_part(room, 36, s, starts[6], has, 64)
 }
 
@@ -196,10 +198,10 @@ fn put_held(room: &mut [u8], s: &[u8], kind: Kind, starts: &[usize; 16])
     ensures { λ _. ⌜ now (room .exit) ≡ over (now (room .entry)) 0 (heldOctets (reads.messageAt kind (now (s .entry)) (λ i. getD (now (starts .entry)) i 0))) ⌝ }
 {
     octets::put_zeros(room, 0, SIZE);
-    let first = lay_first(room, s, starts);
-    let next = lay_next(room, s, starts);
-    let parts = lay_parts(room, s, starts);
-    put_head(room, s, kind, first + next + parts);
+    let has = lay_first(room, s, starts);
+    let has = lay_next(room, s, starts, has);
+    let has = lay_parts(room, s, starts, has);
+    put_head(room, s, kind, has);
 }
 
 // What octets hold of a field, if the bit of this worth says that the message has it.

@@ -18,7 +18,7 @@ element-copy-out-lay-word c = search needs
 
 lay-word-requires : tie.Need-lay-word-requires
 lay-word-requires c κs =
-    ((c .before .before .before .before .pre .0, omega arith), (c .before .before .before .before .pre .1 .two 5, omega (arith)))
+    ((c .before .before .before .before .pre .0, omega arith), (c .before .before .before .before .pre .1 .0 .two 5, omega (arith, c .before .before .before .before .pre .1 .1)))
 
 element-copy-out-lay-word-2 : tie.Need-element-copy-out-lay-word-2
 element-copy-out-lay-word-2 c = search needs
@@ -26,7 +26,7 @@ element-copy-out-lay-word-2 c = search needs
 lay-word-requires-2 : tie.Need-lay-word-requires-2
 unfolding octets16 octets32 placeOctets
 lay-word-requires-2 c κs =
-    ((c .before .before .before .before .lay-word .ensures .0 .blank, omega arith), (c .before .before .before .before .before .before .before .before .before .pre .1 .two 8, omega (arith, c .before .before .before .before .lay-word .ensures .1 .1)))
+    ((c .before .before .before .before .lay-word .ensures .0 .blank, omega arith), (c .before .before .before .before .before .before .before .before .before .pre .1 .0 .two 8, omega (arith, c .before .before .before .before .before .before .before .before .before .pre .1 .1, c .before .before .before .before .lay-word .ensures .1 .1)))
 
 element-copy-out-lay-word-3 : tie.Need-element-copy-out-lay-word-3
 element-copy-out-lay-word-3 c = search needs
@@ -34,7 +34,7 @@ element-copy-out-lay-word-3 c = search needs
 lay-word-requires-3 : tie.Need-lay-word-requires-3
 unfolding octets16 octets32 placeOctets
 lay-word-requires-3 c κs =
-    ((c .before .before .before .before .lay-word2 .ensures .0 .blank, omega arith), (c .before .before .before .before .before .before .before .before .before .before .before .before .before .before .pre .1 .two 10, omega (arith, c .before .before .before .before .before .before .before .before .before .lay-word .ensures .1 .1, c .before .before .before .before .lay-word2 .ensures .1 .1)))
+    ((c .before .before .before .before .lay-word2 .ensures .0 .blank, omega arith), (c .before .before .before .before .before .before .before .before .before .before .before .before .before .before .pre .1 .0 .two 10, omega (arith, c .before .before .before .before .before .before .before .before .before .before .before .before .before .before .pre .1 .1, c .before .before .before .before .before .before .before .before .before .lay-word .ensures .1 .1, c .before .before .before .before .lay-word2 .ensures .1 .1)))
 
 element-copy-out-lay-word-4 : tie.Need-element-copy-out-lay-word-4
 element-copy-out-lay-word-4 c = search needs
@@ -42,7 +42,7 @@ element-copy-out-lay-word-4 c = search needs
 lay-word-requires-4 : tie.Need-lay-word-requires-4
 unfolding octets16 octets32 placeOctets
 lay-word-requires-4 c κs =
-    ((c .before .before .before .before .lay-word3 .ensures .0 .blank, omega arith), (c .before .before .before .before .before .before .before .before .before .before .before .before .before .before .before .before .before .before .before .pre .1 .two 13, omega (arith, c .before .before .before .before .before .before .before .before .before .before .before .before .before .before .lay-word .ensures .1 .1, c .before .before .before .before .before .before .before .before .before .lay-word2 .ensures .1 .1, c .before .before .before .before .lay-word3 .ensures .1 .1)))
+    ((c .before .before .before .before .lay-word3 .ensures .0 .blank, omega arith), (c .before .before .before .before .before .before .before .before .before .before .before .before .before .before .before .before .before .before .before .pre .1 .0 .two 13, omega (arith, c .before .before .before .before .before .before .before .before .before .before .before .before .before .before .before .before .before .before .before .pre .1 .1, c .before .before .before .before .before .before .before .before .before .before .before .before .before .before .lay-word .ensures .1 .1, c .before .before .before .before .before .before .before .before .before .lay-word2 .ensures .1 .1, c .before .before .before .before .lay-word3 .ensures .1 .1)))
 
 element-copy-out-lay-number : tie.Need-element-copy-out-lay-number
 element-copy-out-lay-number c = search needs
@@ -50,7 +50,7 @@ element-copy-out-lay-number c = search needs
 lay-number-requires : tie.Need-lay-number-requires
 unfolding octets16 octets32 placeOctets
 lay-number-requires c κs =
-    ((c .before .before .before .before .lay-word4 .ensures .0 .blank, omega arith), (c .before .before .before .before .before .before .before .before .before .before .before .before .before .before .before .before .before .before .before .before .before .before .before .before .pre .1 .four, omega (arith, c .before .before .before .before .before .before .before .before .before .before .before .before .before .before .before .before .before .before .before .lay-word .ensures .1 .1, c .before .before .before .before .before .before .before .before .before .before .before .before .before .before .lay-word2 .ensures .1 .1, c .before .before .before .before .before .before .before .before .before .lay-word3 .ensures .1 .1, c .before .before .before .before .lay-word4 .ensures .1 .1)))
+    ((c .before .before .before .before .lay-word4 .ensures .0 .blank, omega arith), (c .before .before .before .before .before .before .before .before .before .before .before .before .before .before .before .before .before .before .before .before .before .before .before .before .pre .1 .0 .four, omega (arith, c .before .before .before .before .before .before .before .before .before .before .before .before .before .before .before .before .before .before .before .before .before .before .before .before .pre .1 .1, c .before .before .before .before .before .before .before .before .before .before .before .before .before .before .before .before .before .before .before .lay-word .ensures .1 .1, c .before .before .before .before .before .before .before .before .before .before .before .before .before .before .lay-word2 .ensures .1 .1, c .before .before .before .before .before .before .before .before .before .lay-word3 .ensures .1 .1, c .before .before .before .before .lay-word4 .ensures .1 .1)))
 
 same-length : tie.Need-same-length
 same-length c = search needs

@@ -18,7 +18,7 @@ element-copy-out-lay-phrase c = search needs
 
 lay-phrase-requires : tie.Need-lay-phrase-requires
 lay-phrase-requires c κs =
-    ((c .before .before .before .before .pre .0, omega arith), (c .before .before .before .before .pre .1 .two 2, c .before .before .before .before .pre .1 .cause))
+    ((c .before .before .before .before .pre .0, omega arith), (c .before .before .before .before .pre .1 .0 .two 2, c .before .before .before .before .pre .1 .0 .cause))
 
 element-copy-out-lay-part : tie.Need-element-copy-out-lay-part
 element-copy-out-lay-part c = search needs
@@ -26,7 +26,7 @@ element-copy-out-lay-part c = search needs
 lay-part-requires : tie.Need-lay-part-requires
 unfolding octets16 placeOctets
 lay-part-requires c κs =
-    ((c .before .before .before .before .lay-phrase .ensures .blank, omega arith), (c .before .before .before .before .before .before .before .before .before .pre .1 .two 4, omega arith))
+    ((c .before .before .before .before .lay-phrase .ensures .blank, omega arith), (c .before .before .before .before .before .before .before .before .before .pre .1 .0 .two 4, omega (arith, c .before .before .before .before .before .before .before .before .before .pre .1 .1)))
 
 element-copy-out-lay-part-2 : tie.Need-element-copy-out-lay-part-2
 element-copy-out-lay-part-2 c = search needs
@@ -34,7 +34,7 @@ element-copy-out-lay-part-2 c = search needs
 lay-part-requires-2 : tie.Need-lay-part-requires-2
 unfolding octets16 placeOctets
 lay-part-requires-2 c κs =
-    ((c .before .before .before .before .lay-part .ensures .0 .blank, omega arith), (c .before .before .before .before .before .before .before .before .before .before .before .before .before .before .pre .1 .two 6, omega (arith, c .before .before .before .before .lay-part .ensures .1 .1)))
+    ((c .before .before .before .before .lay-part .ensures .0 .blank, omega arith), (c .before .before .before .before .before .before .before .before .before .before .before .before .before .before .pre .1 .0 .two 6, omega (arith, c .before .before .before .before .before .before .before .before .before .before .before .before .before .before .pre .1 .1, c .before .before .before .before .lay-part .ensures .1 .1)))
 
 same-length : tie.Need-same-length
 same-length c = search needs

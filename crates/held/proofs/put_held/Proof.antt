@@ -4,7 +4,7 @@ use lib.ListN.{getD}
 use Rattle.octets.specs.Octets.{octets16, octets32}
 use Rattle.reading.specs.Reading.{messageAt}
 use Rattle.held.specs.Held.{which, firstOctets, nextOctets}
-use Rattle.held.proofs.Laying.{blank-room, first-most, next-most, parts-most, which-by-rows, held-by-rows}
+use Rattle.held.proofs.Laying.{blank-room, first-most, next-most, which-by-rows, held-by-rows}
 use native.Mathlib.Omega.{arith}
 use borrow.Author.Needs.{needs}
 use Rattle.held.proofs.put_held.Statement.{statement}
@@ -27,20 +27,17 @@ lay-first-requires c κs =
 lay-next-requires : tie.Need-lay-next-requires
 unfolding firstOctets octets16
 lay-next-requires c κs =
-    (c .before .before .before .lay-first .ensures .0 (c .before .before .before .before .before .before .before .before .before .before .before .args .kind) .blank, c .before .before .before .before .before .before .before .before .before .before .before .pre .1)
+    (c .before .before .before .lay-first .ensures .0 (c .before .before .before .before .before .before .before .before .before .before .before .args .kind) .blank, (c .before .before .before .before .before .before .before .before .before .before .before .pre .1, omega (arith, first-most (messageAt (c .before .before .before .before .before .before .before .before .before .before .before .args .kind) (c .before .before .before .before .before .before .before .before .before .before .before .args .s .now) (λ i. getD (c .before .before .before .before .before .before .before .before .before .before .before .args .starts .now) i 0)), c .before .before .before .lay-first .ensures .1 (c .before .before .before .before .before .before .before .before .before .before .before .args .kind))))
 
 lay-parts-requires : tie.Need-lay-parts-requires
 unfolding nextOctets octets16 octets32
-lay-parts-requires c κs =
-    (c .before .before .before .lay-next .ensures .0 (c .before .before .before .before .before .before .before .before .before .before .before .before .before .before .before .args .kind) .blank, c .before .before .before .before .before .before .before .before .before .before .before .before .before .before .before .pre .1)
-
-add-put-head : tie.Need-add-put-head
-add-put-head c =
-    omega (arith, first-most (messageAt (c .before .before .before .before .before .before .before .before .before .before .before .before .before .before .before .before .before .before .before .args .kind) (c .before .before .before .before .before .before .before .before .before .before .before .before .before .before .before .before .before .before .before .args .s .now) (λ i. getD (c .before .before .before .before .before .before .before .before .before .before .before .before .before .before .before .before .before .before .before .args .starts .now) i 0)), next-most (messageAt (c .before .before .before .before .before .before .before .before .before .before .before .before .before .before .before .before .before .before .before .args .kind) (c .before .before .before .before .before .before .before .before .before .before .before .before .before .before .before .before .before .before .before .args .s .now) (λ i. getD (c .before .before .before .before .before .before .before .before .before .before .before .before .before .before .before .before .before .before .before .args .starts .now) i 0)), c .before .before .before .before .before .before .before .before .before .before .before .lay-first .ensures .1 (c .before .before .before .before .before .before .before .before .before .before .before .before .before .before .before .before .before .before .before .args .kind), c .before .before .before .before .before .before .before .lay-next .ensures .1 (c .before .before .before .before .before .before .before .before .before .before .before .before .before .before .before .before .before .before .before .args .kind))
-
-add-put-head-2 : tie.Need-add-put-head-2
-add-put-head-2 c =
-    omega (arith, first-most (messageAt (c .before .before .before .before .before .before .before .before .before .before .before .before .before .before .before .before .before .before .before .args .kind) (c .before .before .before .before .before .before .before .before .before .before .before .before .before .before .before .before .before .before .before .args .s .now) (λ i. getD (c .before .before .before .before .before .before .before .before .before .before .before .before .before .before .before .before .before .before .before .args .starts .now) i 0)), next-most (messageAt (c .before .before .before .before .before .before .before .before .before .before .before .before .before .before .before .before .before .before .before .args .kind) (c .before .before .before .before .before .before .before .before .before .before .before .before .before .before .before .before .before .before .before .args .s .now) (λ i. getD (c .before .before .before .before .before .before .before .before .before .before .before .before .before .before .before .before .before .before .before .args .starts .now) i 0)), parts-most (messageAt (c .before .before .before .before .before .before .before .before .before .before .before .before .before .before .before .before .before .before .before .args .kind) (c .before .before .before .before .before .before .before .before .before .before .before .before .before .before .before .before .before .before .before .args .s .now) (λ i. getD (c .before .before .before .before .before .before .before .before .before .before .before .before .before .before .before .before .before .before .before .args .starts .now) i 0)), c .before .before .before .before .before .before .before .before .before .before .before .lay-first .ensures .1 (c .before .before .before .before .before .before .before .before .before .before .before .before .before .before .before .before .before .before .before .args .kind), c .before .before .before .before .before .before .before .lay-next .ensures .1 (c .before .before .before .before .before .before .before .before .before .before .before .before .before .before .before .before .before .before .before .args .kind), c .before .before .before .lay-parts .ensures .1 (c .before .before .before .before .before .before .before .before .before .before .before .before .before .before .before .before .before .before .before .args .kind))
+lay-parts-requires c κs = (
+  c .before .before .before .lay-next .ensures .0 (c .before .before .before .before .before .before .before .before .before .before .before .before .before .before .before .args .kind) .blank,
+  (
+    c .before .before .before .before .before .before .before .before .before .before .before .before .before .before .before .pre .1,
+    omega (arith, first-most (messageAt (c .before .before .before .before .before .before .before .before .before .before .before .before .before .before .before .args .kind) (c .before .before .before .before .before .before .before .before .before .before .before .before .before .before .before .args .s .now) (λ i. getD (c .before .before .before .before .before .before .before .before .before .before .before .before .before .before .before .args .starts .now) i 0)), next-most (c .before .before .before .before .before .before .before .lay-first .result) (messageAt (c .before .before .before .before .before .before .before .before .before .before .before .before .before .before .before .args .kind) (c .before .before .before .before .before .before .before .before .before .before .before .before .before .before .before .args .s .now) (λ i. getD (c .before .before .before .before .before .before .before .before .before .before .before .before .before .before .before .args .starts .now) i 0)), c .before .before .before .before .before .before .before .lay-first .ensures .1 (c .before .before .before .before .before .before .before .before .before .before .before .before .before .before .before .args .kind), c .before .before .before .lay-next .ensures .1 (c .before .before .before .before .before .before .before .before .before .before .before .before .before .before .before .args .kind)),
+  ),
+)
 
 put-head-requires : tie.Need-put-head-requires
 put-head-requires c κs = search needs
@@ -53,8 +50,8 @@ returns c =
     let a = c .before .before .before .before .before .before .before .before .before .before .before .before .before .before .before .before .before .before .before .before .before .before .args in
     let start : ℕ → ℕ = λ i. getD (a .starts .now) i 0 in
     let m = messageAt (a .kind) (a .s .now) start in
-    let sum : c .before .before .before .before .before .before .before .before .before .before .before .before .before .before .lay-first .result + c .before .before .before .before .before .before .before .before .before .before .lay-next .result + c .before .before .before .before .before .before .lay-parts .result ≡ which m =
-    rw (c .before .before .before .before .before .before .before .before .before .before .before .before .before .before .lay-first .ensures .1 (a .kind), c .before .before .before .before .before .before .before .before .before .before .lay-next .ensures .1 (a .kind), c .before .before .before .before .before .before .lay-parts .ensures .1 (a .kind)) (which-by-rows m) in
+    let sum : c .before .before .before .before .before .before .lay-parts .result ≡ which m =
+    rw (c .before .before .before .before .before .before .lay-parts .ensures .1 (a .kind), c .before .before .before .before .before .before .before .before .before .before .lay-next .ensures .1 (a .kind), c .before .before .before .before .before .before .before .before .before .before .before .before .before .before .lay-first .ensures .1 (a .kind)) (which-by-rows m) in
     held-by-rows (a .kind) (a .s .now) start (a .room .now) _ _ _ _ _ (c .before .before .before .before .before .before .before .before .before .before .before .before .before .before .before .before .before .before .before .before .before .before .pre .0) (c .before .before .before .before .before .before .before .before .before .before .before .before .before .before .before .before .before .before .put-zeros .ensures) (c .before .before .before .before .before .before .before .before .before .before .before .before .before .before .lay-first .ensures .0 (a .kind))
     (c .before .before .before .before .before .before .before .before .before .before .lay-next .ensures .0 (a .kind)) (c .before .before .before .before .before .before .lay-parts .ensures .0 (a .kind)) (rw sum at (c .before .before .put-head .ensures))
 
@@ -66,8 +63,6 @@ put-held-spec =
     lay-first-requires
     lay-next-requires
     lay-parts-requires
-    add-put-head
-    add-put-head-2
     put-head-requires
     same-length
     returns)
