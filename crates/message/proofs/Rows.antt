@@ -50,3 +50,7 @@ content-left i l n h k = rw (le-ltb l (rowOf i .least) h, le-ltb (rowOf i .great
 
 pub content-left-above : (i l n : ℕ) → 16 ≤ i → l ≤ 255 → against i l n ≡ atFault i n
 content-left-above i l n h k = content-left i l n (rw (skipped-above i h) (omega arith)) (rw (skipped-above i h) k)
+
+pub no-fault-above : (i n : ℕ) → 16 ≤ i → atFault i n ≡ false
+unfolding atFault if_then_else_
+no-fault-above i n h = rw (ne-eqb i 5 (λ e. omega (arith, e, h)), ne-eqb i 10 (λ e. omega (arith, e, h)))

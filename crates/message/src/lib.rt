@@ -184,8 +184,9 @@ pub fn against(id: u8, len: u8, number: u16) -> bool
         if GREATEST[i] < len {
             return true;
         }
+        return at_fault(id, number);
     }
-    at_fault(id, number)
+    false
 }
 
 fn has_octet(o: Octet) -> bool

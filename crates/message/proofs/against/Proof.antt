@@ -1,9 +1,8 @@
 use mathlib.Core.Bool.{or-true}
-use mathlib.Core.Logic.{⊎-elim}
 use mathlib.Core.Path.{_∙_, sym}
 use borrow.Author.Tests.{lt-ltb, le-ltb}
 use Rattle.message.specs.Table.{against}
-use Rattle.message.proofs.Rows.{least-is, greatest-is, content-left, content-left-above}
+use Rattle.message.proofs.Rows.{least-is, greatest-is, content-left, content-left-above, no-fault-above}
 use native.Mathlib.Omega.{arith}
 use borrow.Author.Needs.{needs}
 use Rattle.message.proofs.against.Statement.{statement}
@@ -35,17 +34,17 @@ at-fault-requires c κs = search needs
 
 returns-3 : tie.Need-returns-3
 returns-3 c =
-    let a = c .before .before .args in
+    let a = c .before .before .before .before .args in
+    let listed = c .before .before .before .if1 .taken in
     c .at-fault .ensures
-    ∙ sym
-    (⊎-elim
-    (λ w.
-    content-left (a .id) (a .len) (a .number) (rw (← (least-is (a .id) (w .0 .taken))) (w .1 .left))
-    (rw (← (greatest-is (a .id) (w .0 .taken))) (w .2 .left)))
-    (λ w. content-left-above (a .id) (a .len) (a .number) (w .left) (omega arith))
-    (c .before .if1 .came))
+    ∙ sym (content-left (a .id) (a .len) (a .number) (rw (← (least-is (a .id) listed)) (c .before .before .if2 .left)) (rw (← (greatest-is (a .id) listed)) (c .before .if3 .left)))
+
+returns-4 : tie.Need-returns-4
+returns-4 c =
+    let a = c .before .args in
+    sym (content-left-above (a .id) (a .len) (a .number) (c .if1 .left) (omega arith) ∙ no-fault-above (a .id) (a .number) (c .if1 .left))
 
 pub against-spec : {M : Type 1} → statement M
 against-spec =
     tie.close
-    (tie.spec array-read-if2 returns array-read-if3 returns-2 at-fault-requires returns-3)
+    (tie.spec array-read-if2 returns array-read-if3 returns-2 at-fault-requires returns-3 returns-4)
