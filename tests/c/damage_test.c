@@ -188,7 +188,7 @@ static void assert_all_refuse(const uint8_t *desk)
         assert_int_equal(room[i], 0x5A);
 }
 
-/* One step by either library. */
+/* One step. */
 enum kind { A_PACKET, MEDIA, A_TIMER, LEAVING, STARTING, STOPPING, JOINING };
 struct step {
     enum kind kind;
@@ -196,44 +196,38 @@ struct step {
     uint8_t packet[16], n;
 };
 
-static uint32_t by_floor(uint8_t *desk, const struct step *s, uint8_t *report)
-{
-    switch (s->kind) {
-    case A_PACKET:
-        return floor_packet(desk, FLOOR_DESK, s->packet, s->n, report, FLOOR_REPORT);
-    case MEDIA:
-        return floor_media(desk, FLOOR_DESK, s->number, report, FLOOR_REPORT);
-    case A_TIMER:
-        return floor_timer(desk, FLOOR_DESK, s->number, report, FLOOR_REPORT);
-    case LEAVING:
-        return floor_leave(desk, FLOOR_DESK, s->number, report, FLOOR_REPORT);
-    case STARTING:
-        return floor_start(desk, FLOOR_DESK, report, FLOOR_REPORT);
-    case STOPPING:
-        return floor_stop(desk, FLOOR_DESK, report, FLOOR_REPORT);
-    case JOINING:
-        return floor_join(desk, FLOOR_DESK, (const uint8_t *)"newcomer", 8, s->number, 9, 1, 0);
-    }
-    return 0;
-}
+/* What takes a step: the library, or plain C. */
+struct library {
+    uint32_t (*packet)(uint8_t *, size_t, const uint8_t *, size_t, uint8_t *, size_t);
+    uint32_t (*media)(uint8_t *, size_t, uint32_t, uint8_t *, size_t);
+    uint32_t (*timer)(uint8_t *, size_t, uint32_t, uint8_t *, size_t);
+    uint32_t (*leave)(uint8_t *, size_t, uint32_t, uint8_t *, size_t);
+    uint32_t (*start)(uint8_t *, size_t, uint8_t *, size_t);
+    uint32_t (*stop)(uint8_t *, size_t, uint8_t *, size_t);
+    uint32_t (*join)(uint8_t *, size_t, const uint8_t *, size_t, uint32_t, uint8_t, uint8_t, uint8_t);
+};
 
-static uint32_t by_plain(uint8_t *desk, const struct step *s, uint8_t *report)
+static const struct library
+    proved = {floor_packet, floor_media, floor_timer, floor_leave, floor_start, floor_stop, floor_join},
+    plain = {plain_packet, plain_media, plain_timer, plain_leave, plain_start, plain_stop, plain_join};
+
+static uint32_t step_by(const struct library *l, uint8_t *desk, const struct step *s, uint8_t *report)
 {
     switch (s->kind) {
     case A_PACKET:
-        return plain_packet(desk, FLOOR_DESK, s->packet, s->n, report, FLOOR_REPORT);
+        return l->packet(desk, FLOOR_DESK, s->packet, s->n, report, FLOOR_REPORT);
     case MEDIA:
-        return plain_media(desk, FLOOR_DESK, s->number, report, FLOOR_REPORT);
+        return l->media(desk, FLOOR_DESK, s->number, report, FLOOR_REPORT);
     case A_TIMER:
-        return plain_timer(desk, FLOOR_DESK, s->number, report, FLOOR_REPORT);
+        return l->timer(desk, FLOOR_DESK, s->number, report, FLOOR_REPORT);
     case LEAVING:
-        return plain_leave(desk, FLOOR_DESK, s->number, report, FLOOR_REPORT);
+        return l->leave(desk, FLOOR_DESK, s->number, report, FLOOR_REPORT);
     case STARTING:
-        return plain_start(desk, FLOOR_DESK, report, FLOOR_REPORT);
+        return l->start(desk, FLOOR_DESK, report, FLOOR_REPORT);
     case STOPPING:
-        return plain_stop(desk, FLOOR_DESK, report, FLOOR_REPORT);
+        return l->stop(desk, FLOOR_DESK, report, FLOOR_REPORT);
     case JOINING:
-        return plain_join(desk, FLOOR_DESK, (const uint8_t *)"newcomer", 8, s->number, 9, 1, 0);
+        return l->join(desk, FLOOR_DESK, (const uint8_t *)"newcomer", 8, s->number, 9, 1, 0);
     }
     return 0;
 }
@@ -243,8 +237,8 @@ static void assert_step(const uint8_t *damaged, const struct step *s)
     uint8_t desk[FLOOR_DESK], other[FLOOR_DESK], report[FLOOR_REPORT] = {0}, second[FLOOR_REPORT] = {0};
     memcpy(desk, damaged, sizeof desk);
     memcpy(other, damaged, sizeof other);
-    uint32_t answer = by_floor(desk, s, report);
-    assert_int_equal(answer, by_plain(other, s, second));
+    uint32_t answer = step_by(&proved, desk, s, report);
+    assert_int_equal(answer, step_by(&plain, other, s, second));
     assert_int_not_equal(answer, FLOOR_NOT_A_DESK);
     assert_memory_equal(report, second, sizeof report);
     assert_memory_equal(desk, other, sizeof desk);
