@@ -8,7 +8,7 @@ use Rattle.message.specs.declared.Message.{Message}
 use Rattle.reading.specs.declared.Opening.{Opening}
 use Rattle.reading.specs.declared.Opening.the-variants.{Of}
 use Rattle.reading.specs.Fields.{Fields, whole, fault, fieldsIn}
-use Rattle.reading.specs.Walk.{Judges, Noted}
+use Rattle.reading.specs.Walk.{Noted}
 use Rattle.reading.proofs.Reaches.{differ}
 use Rattle.message.specs.declared.Refusal.{Refusal}
 use Rattle.message.specs.declared.Refusal.the-variants.{TooShort, TooLong, NotVersion2, Padded, NotApplication, WrongLength, NotNamed, UnlistedType, PastTheEnd, AgainstTheTable, Missing, Unreadable, NoRoom}
@@ -18,8 +18,7 @@ use Rattle.reading.specs.declared.Reading.the-variants.{Read}
 use Rattle.reading.specs.Reading.{messageAt, told as toldByReader}
 use Rattle.writing.specs.declared.Writing.{Writing}
 use Rattle.writing.specs.declared.Writing.the-variants.{Written}
-use Rattle.writing.specs.Writing.{told as toldByWriter}
-use Rattle.again.specs.Again.{NumbersDiffer, ReadersCoincide, WritersCoincide, SameJudgement, JudgesCoincide}
+use Rattle.again.specs.Again.{NumbersDiffer, ReadersCoincide, WritersCoincide, JudgesCoincide}
 
 -- the refusal that each number names, from 1 on; 0 names none
 abbrev refusals : List Refusal

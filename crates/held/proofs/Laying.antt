@@ -4,19 +4,19 @@
 --     lays-two       two runs, the second where the first ends, are one run
 --     held-by-rows   zeros, the rows from 8 on, and at last the head: all 40 octets
 -- Assumes nothing.
-use Prim.Native.Nat.{ℕ, zero, suc, _+_, _-_, _*_, _/_, _%_, _≤_, _<_}
+use Prim.Native.Nat.{ℕ, zero, suc, _+_, _-_, _≤_, _<_}
 use native.Mathlib.Nat.{zero-add, add-assoc}
 use native.Mathlib.Omega.{arith}
 use mathlib.Core.Bool.{Bool, true, false}
 use mathlib.Core.Path.{_≡_, refl, sym, ap, _∙_}
 use mathlib.Core.List.{List, [], _∷_, _++_, append-assoc}
 use lib.Dec.{eqb}
-use lib.ListN.{length, getD, take, drop, replicate, length-append, length-drop, length-replicate, take-append-drop, replicate-append-replicate}
+use lib.ListN.{length, take, drop, replicate, length-append, length-drop, length-replicate, take-append-drop, replicate-append-replicate}
 use lib.Seq.{take-at, drop-at, take-take, take-add, drop-drop, take-append-le, length-take-le}
 use Rattle.octets.specs.Octets.{be32, over, part, octets16, octets32}
 use Rattle.octets.proofs.Over.{length-over, over-two}
 use Rattle.message.specs.Types.{typeNumber}
-use Rattle.message.specs.Message.{ofOctet, ofWord, ofNumber, ofQueue, ofPart, ofCause, isGiven}
+use Rattle.message.specs.Message.{ofOctet, ofWord, ofNumber, ofQueue, ofCause, isGiven}
 use Rattle.message.specs.declared.Kind.{Kind}
 use Rattle.message.specs.declared.Message.{Message}
 use Rattle.reading.specs.Reading.{ackBit, messageAt}

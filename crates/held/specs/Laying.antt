@@ -1,9 +1,9 @@
 -- How a packet's message gets into its 40 octets in the code: the octets are zeros first, and then each field that the packet has is laid
 -- over them at its place, from front to back. What the octets are stands in Held. Assumes nothing.
-use Prim.Native.Nat.{ℕ, _+_, _-_, _/_, _%_, _≤_}
+use Prim.Native.Nat.{ℕ, _+_, _-_, _≤_}
 use mathlib.Core.List.{List, [], _∷_, _++_}
 use mathlib.Core.Path.{_≡_}
-use lib.ListN.{length, getD, replicate}
+use lib.ListN.{length, replicate}
 use Rattle.octets.specs.Octets.{be32, octets16, octets32, part, over}
 use Rattle.message.specs.Types.{typeNumber}
 use Rattle.message.specs.Message.{ofOctet, ofWord, ofNumber, ofQueue, ofPart, ofCause, isGiven}

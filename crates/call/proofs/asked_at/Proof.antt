@@ -1,12 +1,9 @@
 use borrow.Author.Tests.{eq-eqb, ne-eqb}
 use Rattle.words.specs.Choice.{if_then_else_}
 use Rattle.reading.specs.Reading.{octetAt}
-use native.Mathlib.Omega.{arith}
 use borrow.Author.Needs.{needs}
 use Rattle.call.proofs.asked_at.Statement.{statement}
 use Rattle.call.proofs.asked_at.Tie as tie
-use Rattle.call.proofs.asked_at.Reads as reads
-use Rattle.call.proofs.asked_at.Lts as lts
 
 returns : tie.Need-returns
 unfolding octetAt if_then_else_

@@ -1,9 +1,6 @@
-use native.Mathlib.Omega.{arith}
 use borrow.Author.Needs.{needs}
 use Rattle.call.proofs.event_by.Statement.{statement}
 use Rattle.call.proofs.event_by.Tie as tie
-use Rattle.call.proofs.event_by.Reads as reads
-use Rattle.call.proofs.event_by.Lts as lts
 
 enum-told : tie.Need-enum-told
 enum-told c = search needs

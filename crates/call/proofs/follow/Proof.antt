@@ -1,12 +1,6 @@
-use native.Mathlib.Omega.{arith}
 use borrow.Author.Needs.{needs}
 use Rattle.call.proofs.follow.Statement.{statement}
 use Rattle.call.proofs.follow.Tie as tie
-use Rattle.call.proofs.follow.Reads as reads
-use Rattle.call.proofs.follow.Lts as lts
-use Rattle.call.proofs.not_read.Reads as not-read-reads
-use Rattle.call.proofs.of_step.Reads as of-step-reads
-use Rattle.desk.proofs.make_step.Reads as make-step-reads
 
 enum-known-heard : tie.Need-enum-known-heard
 enum-known-heard c = search needs

@@ -7,13 +7,6 @@ use native.Mathlib.Omega.{arith}
 use borrow.Author.Needs.{needs}
 use Rattle.call.proofs.heard_as.Statement.{statement}
 use Rattle.call.proofs.heard_as.Tie as tie
-use Rattle.call.proofs.heard_as.Reads as reads
-use Rattle.call.proofs.heard_as.Lts as lts
-use Rattle.call.proofs.asked_at.Reads as asked-at-reads
-use Rattle.call.proofs.event_by.Reads as event-by-reads
-use Rattle.message.proofs.refusal_number.Reads as refusal-number-reads
-use Rattle.octets.proofs.number32.Reads as number32-reads
-use Rattle.reading.proofs.judge.Reads as judge-reads
 
 judge-requires : tie.Need-judge-requires
 judge-requires c κs = search needs

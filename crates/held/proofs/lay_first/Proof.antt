@@ -1,19 +1,13 @@
-use mathlib.Core.Path.{_≡_, refl}
+use mathlib.Core.Path.{refl}
 use Rattle.octets.specs.Octets.{octets16, octets32}
 use Rattle.reading.specs.Reading.{messageAt}
-use Rattle.held.specs.Held.{placeOctets, firstOctets, nextOctets, partOctets}
-use Rattle.held.specs.Laying.{firstWorth, nextWorth, partsWorth}
+use Rattle.held.specs.Held.{placeOctets, firstOctets}
+use Rattle.held.specs.Laying.{firstWorth}
 use Rattle.held.proofs.Laying.{lays-two}
 use native.Mathlib.Omega.{arith}
 use borrow.Author.Needs.{needs}
 use Rattle.held.proofs.lay_first.Statement.{statement}
 use Rattle.held.proofs.lay_first.Tie as tie
-use Rattle.held.proofs.lay_first.Reads as reads
-use Rattle.held.proofs.lay_first.Lts as lts
-use Rattle.held.proofs.lay_cause.Reads as lay-cause-reads
-use Rattle.held.proofs.lay_octet.Reads as lay-octet-reads
-use Rattle.held.proofs.lay_queue.Reads as lay-queue-reads
-use Rattle.held.proofs.lay_word.Reads as lay-word-reads
 
 element-copy-out-lay-octet : tie.Need-element-copy-out-lay-octet
 element-copy-out-lay-octet c = search needs

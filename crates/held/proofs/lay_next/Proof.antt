@@ -1,17 +1,13 @@
-use mathlib.Core.Path.{_≡_, refl}
+use mathlib.Core.Path.{refl}
 use Rattle.octets.specs.Octets.{octets16, octets32}
 use Rattle.reading.specs.Reading.{messageAt}
-use Rattle.held.specs.Held.{placeOctets, firstOctets, nextOctets, partOctets}
-use Rattle.held.specs.Laying.{firstWorth, nextWorth, partsWorth}
+use Rattle.held.specs.Held.{placeOctets, nextOctets}
+use Rattle.held.specs.Laying.{nextWorth}
 use Rattle.held.proofs.Laying.{lays-two}
 use native.Mathlib.Omega.{arith}
 use borrow.Author.Needs.{needs}
 use Rattle.held.proofs.lay_next.Statement.{statement}
 use Rattle.held.proofs.lay_next.Tie as tie
-use Rattle.held.proofs.lay_next.Reads as reads
-use Rattle.held.proofs.lay_next.Lts as lts
-use Rattle.held.proofs.lay_number.Reads as lay-number-reads
-use Rattle.held.proofs.lay_word.Reads as lay-word-reads
 
 element-copy-out-lay-word : tie.Need-element-copy-out-lay-word
 element-copy-out-lay-word c = search needs

@@ -1,18 +1,14 @@
-use mathlib.Core.Path.{_≡_, refl, sym}
+use mathlib.Core.Path.{refl, sym}
 use native.Mathlib.Nat.{add-zero}
 use borrow.Author.Tests.{eq-eqb, ne-eqb}
 use Rattle.words.specs.Choice.{if_then_else_}
-use Rattle.octets.specs.Octets.{octets16, octets32}
 use Rattle.reading.specs.Reading.{octetAt}
-use Rattle.held.specs.Held.{placeOctets}
 use Rattle.held.proofs.Laying.{lays-nothing, lays-octets}
 use Rattle.octets.proofs.Over.{over-one}
 use native.Mathlib.Omega.{arith}
 use borrow.Author.Needs.{needs}
 use Rattle.held.proofs.lay_octet.Statement.{statement}
 use Rattle.held.proofs.lay_octet.Tie as tie
-use Rattle.held.proofs.lay_octet.Reads as reads
-use Rattle.held.proofs.lay_octet.Lts as lts
 
 returns : tie.Need-returns
 unfolding octetAt if_then_else_

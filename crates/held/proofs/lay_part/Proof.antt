@@ -1,20 +1,16 @@
 use Prim.Native.Nat.{_-_}
-use mathlib.Core.Path.{_≡_, refl, sym}
+use mathlib.Core.Path.{refl, sym}
 use native.Mathlib.Nat.{add-zero}
 use borrow.Author.Tests.{eq-eqb, ne-eqb}
 use Rattle.words.specs.Choice.{if_then_else_}
-use Rattle.octets.specs.Octets.{octets16, octets32}
+use Rattle.octets.specs.Octets.{octets16}
 use Rattle.reading.specs.Reading.{partAt}
 use Rattle.held.specs.Held.{placeOctets}
 use Rattle.held.proofs.Laying.{lays-nothing, lays-octets}
-use Rattle.octets.proofs.Over.{over-one}
 use native.Mathlib.Omega.{arith}
 use borrow.Author.Needs.{needs}
 use Rattle.held.proofs.lay_part.Statement.{statement}
 use Rattle.held.proofs.lay_part.Tie as tie
-use Rattle.held.proofs.lay_part.Reads as reads
-use Rattle.held.proofs.lay_part.Lts as lts
-use Rattle.held.proofs.put_place.Reads as put-place-reads
 
 returns : tie.Need-returns
 unfolding partAt if_then_else_ placeOctets octets16

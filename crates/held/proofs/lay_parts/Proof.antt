@@ -1,17 +1,13 @@
-use mathlib.Core.Path.{_≡_, refl}
-use Rattle.octets.specs.Octets.{octets16, octets32}
+use mathlib.Core.Path.{refl}
+use Rattle.octets.specs.Octets.{octets16}
 use Rattle.reading.specs.Reading.{messageAt}
-use Rattle.held.specs.Held.{placeOctets, firstOctets, nextOctets, partOctets}
-use Rattle.held.specs.Laying.{firstWorth, nextWorth, partsWorth}
+use Rattle.held.specs.Held.{placeOctets, partOctets}
+use Rattle.held.specs.Laying.{partsWorth}
 use Rattle.held.proofs.Laying.{lays-two}
 use native.Mathlib.Omega.{arith}
 use borrow.Author.Needs.{needs}
 use Rattle.held.proofs.lay_parts.Statement.{statement}
 use Rattle.held.proofs.lay_parts.Tie as tie
-use Rattle.held.proofs.lay_parts.Reads as reads
-use Rattle.held.proofs.lay_parts.Lts as lts
-use Rattle.held.proofs.lay_part.Reads as lay-part-reads
-use Rattle.held.proofs.lay_phrase.Reads as lay-phrase-reads
 
 element-copy-out-lay-phrase : tie.Need-element-copy-out-lay-phrase
 element-copy-out-lay-phrase c = search needs

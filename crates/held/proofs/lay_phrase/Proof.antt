@@ -1,20 +1,15 @@
 use Prim.Native.Nat.{_-_}
-use mathlib.Core.Path.{_≡_, refl, sym}
-use native.Mathlib.Nat.{add-zero}
+use mathlib.Core.Path.{refl}
 use borrow.Author.Tests.{eq-eqb, ne-eqb}
 use Rattle.words.specs.Choice.{if_then_else_}
-use Rattle.octets.specs.Octets.{octets16, octets32}
+use Rattle.octets.specs.Octets.{octets16}
 use Rattle.reading.specs.Reading.{causeAt}
 use Rattle.held.specs.Held.{placeOctets}
 use Rattle.held.proofs.Laying.{lays-nothing, lays-octets}
-use Rattle.octets.proofs.Over.{over-one}
 use native.Mathlib.Omega.{arith}
 use borrow.Author.Needs.{needs}
 use Rattle.held.proofs.lay_phrase.Statement.{statement}
 use Rattle.held.proofs.lay_phrase.Tie as tie
-use Rattle.held.proofs.lay_phrase.Reads as reads
-use Rattle.held.proofs.lay_phrase.Lts as lts
-use Rattle.held.proofs.put_place.Reads as put-place-reads
 
 returns : tie.Need-returns
 unfolding causeAt if_then_else_ placeOctets octets16

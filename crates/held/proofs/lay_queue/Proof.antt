@@ -1,19 +1,13 @@
-use mathlib.Core.Path.{_≡_, refl, sym}
+use mathlib.Core.Path.{refl, sym}
 use native.Mathlib.Nat.{add-zero}
 use borrow.Author.Tests.{eq-eqb, ne-eqb}
 use Rattle.words.specs.Choice.{if_then_else_}
-use Rattle.octets.specs.Octets.{octets16, octets32}
 use Rattle.reading.specs.Reading.{queueAt}
-use Rattle.held.specs.Held.{placeOctets}
 use Rattle.held.proofs.Laying.{lays-nothing, lays-octets}
-use Rattle.octets.proofs.Over.{over-one}
 use native.Mathlib.Omega.{arith}
 use borrow.Author.Needs.{needs}
 use Rattle.held.proofs.lay_queue.Statement.{statement}
 use Rattle.held.proofs.lay_queue.Tie as tie
-use Rattle.held.proofs.lay_queue.Reads as reads
-use Rattle.held.proofs.lay_queue.Lts as lts
-use Rattle.octets.proofs.put_pair.Reads as put-pair-reads
 
 returns : tie.Need-returns
 unfolding queueAt if_then_else_

@@ -1,20 +1,14 @@
-use mathlib.Core.Path.{_≡_, refl, sym}
+use mathlib.Core.Path.{refl, sym}
 use native.Mathlib.Nat.{add-zero}
 use borrow.Author.Tests.{eq-eqb, ne-eqb}
 use Rattle.words.specs.Choice.{if_then_else_}
-use Rattle.octets.specs.Octets.{octets16, octets32}
+use Rattle.octets.specs.Octets.{octets16}
 use Rattle.reading.specs.Reading.{wordAt}
-use Rattle.held.specs.Held.{placeOctets}
 use Rattle.held.proofs.Laying.{lays-nothing, lays-octets}
-use Rattle.octets.proofs.Over.{over-one}
 use native.Mathlib.Omega.{arith}
 use borrow.Author.Needs.{needs}
 use Rattle.held.proofs.lay_word.Statement.{statement}
 use Rattle.held.proofs.lay_word.Tie as tie
-use Rattle.held.proofs.lay_word.Reads as reads
-use Rattle.held.proofs.lay_word.Lts as lts
-use Rattle.octets.proofs.number16.Reads as number16-reads
-use Rattle.octets.proofs.put16.Reads as put16-reads
 
 returns : tie.Need-returns
 unfolding wordAt if_then_else_ octets16

@@ -6,17 +6,9 @@ use Rattle.message.specs.Types.{typeNumber}
 use Rattle.reading.specs.Reading.{ackBit}
 use Rattle.held.specs.Laying.{headBy}
 use Rattle.held.proofs.Runs.{run}
-use native.Mathlib.Omega.{arith}
 use borrow.Author.Needs.{needs}
 use Rattle.held.proofs.put_head.Statement.{statement}
 use Rattle.held.proofs.put_head.Tie as tie
-use Rattle.held.proofs.put_head.Reads as reads
-use Rattle.held.proofs.put_head.Lts as lts
-use Rattle.message.proofs.type_number.Reads as type-number-reads
-use Rattle.octets.proofs.number32.Reads as number32-reads
-use Rattle.octets.proofs.put16.Reads as put16-reads
-use Rattle.octets.proofs.put32.Reads as put32-reads
-use Rattle.octets.proofs.put_pair.Reads as put-pair-reads
 
 type-number-requires : tie.Need-type-number-requires
 type-number-requires c κs = search needs

@@ -1,4 +1,4 @@
-use Prim.Native.Nat.{ℕ, _+_}
+use Prim.Native.Nat.{ℕ}
 use mathlib.Core.Path.{_≡_}
 use lib.ListN.{getD}
 use Rattle.octets.specs.Octets.{octets16, octets32}
@@ -9,13 +9,6 @@ use native.Mathlib.Omega.{arith}
 use borrow.Author.Needs.{needs}
 use Rattle.held.proofs.put_held.Statement.{statement}
 use Rattle.held.proofs.put_held.Tie as tie
-use Rattle.held.proofs.put_held.Reads as reads
-use Rattle.held.proofs.put_held.Lts as lts
-use Rattle.held.proofs.lay_first.Reads as lay-first-reads
-use Rattle.held.proofs.lay_next.Reads as lay-next-reads
-use Rattle.held.proofs.lay_parts.Reads as lay-parts-reads
-use Rattle.held.proofs.put_head.Reads as put-head-reads
-use Rattle.octets.proofs.put_zeros.Reads as put-zeros-reads
 
 put-zeros-requires : tie.Need-put-zeros-requires
 put-zeros-requires c κs = search needs

@@ -8,9 +8,6 @@ use native.Mathlib.Omega.{arith}
 use borrow.Author.Needs.{needs}
 use Rattle.held.proofs.put_place.Statement.{statement}
 use Rattle.held.proofs.put_place.Tie as tie
-use Rattle.held.proofs.put_place.Reads as reads
-use Rattle.held.proofs.put_place.Lts as lts
-use Rattle.octets.proofs.put16.Reads as put16-reads
 
 cast-put16 : tie.Need-cast-put16
 cast-put16 c = search needs

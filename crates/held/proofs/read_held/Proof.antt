@@ -2,15 +2,9 @@ use mathlib.Core.Path.{subst}
 use Rattle.reading.specs.declared.Opening.{Opening}
 use Rattle.reading.specs.Walk.{Judges}
 use Rattle.held.proofs.Answers.{refused-is, short-is, kept-is}
-use native.Mathlib.Omega.{arith}
 use borrow.Author.Needs.{needs}
 use Rattle.held.proofs.read_held.Statement.{statement}
 use Rattle.held.proofs.read_held.Tie as tie
-use Rattle.held.proofs.read_held.Reads as reads
-use Rattle.held.proofs.read_held.Lts as lts
-use Rattle.held.proofs.put_held.Reads as put-held-reads
-use Rattle.message.proofs.refusal_number.Reads as refusal-number-reads
-use Rattle.reading.proofs.judge.Reads as judge-reads
 
 judge-requires : tie.Need-judge-requires
 judge-requires c κs = search needs

@@ -1,15 +1,12 @@
 use mathlib.Core.Bool.{or-true}
 use mathlib.Core.Path.{_∙_, sym}
-use borrow.Author.Tests.{lt-ltb, le-ltb}
+use borrow.Author.Tests.{lt-ltb}
 use Rattle.message.specs.Table.{against}
 use Rattle.message.proofs.Rows.{least-is, greatest-is, content-left, content-left-above, no-fault-above}
 use native.Mathlib.Omega.{arith}
 use borrow.Author.Needs.{needs}
 use Rattle.message.proofs.against.Statement.{statement}
 use Rattle.message.proofs.against.Tie as tie
-use Rattle.message.proofs.against.Reads as reads
-use Rattle.message.proofs.against.Lts as lts
-use Rattle.message.proofs.at_fault.Reads as at-fault-reads
 
 array-read-if2 : tie.Need-array-read-if2
 array-read-if2 c = search needs

@@ -1,6 +1,5 @@
-use Prim.Native.Nat.{ℕ}
-use mathlib.Core.Bool.{Bool, _&&_, and-true}
-use mathlib.Core.Path.{_≡_, refl, ap}
+use mathlib.Core.Bool.{_&&_, and-true}
+use mathlib.Core.Path.{refl}
 use lib.ListN.{getD}
 use Rattle.words.specs.Choice.{if_then_else_}
 use Rattle.message.specs.Message.{complete, said, hasAll, has, isGiven, ofOctet, ofWord, ofPart, ofCause, ofQueue}
@@ -9,12 +8,9 @@ use Rattle.message.specs.declared.Octet.{Octet}
 use Rattle.message.specs.declared.Word.{Word}
 use Rattle.octets.specs.Octets.{be16}
 use Rattle.reading.proofs.Reaches.{given-at}
-use native.Mathlib.Omega.{arith}
 use borrow.Author.Needs.{needs}
 use Rattle.reading.proofs.has_all.Statement.{statement}
 use Rattle.reading.proofs.has_all.Tie as tie
-use Rattle.reading.proofs.has_all.Reads as reads
-use Rattle.reading.proofs.has_all.Lts as lts
 
 enum-told : tie.Need-enum-told
 enum-told c = search needs

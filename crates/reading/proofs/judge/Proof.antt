@@ -1,14 +1,9 @@
 use mathlib.Core.Path.{subst}
 use Rattle.reading.specs.declared.Opening.{Opening}
 use Rattle.reading.specs.Walk.{Opens}
-use native.Mathlib.Omega.{arith}
 use borrow.Author.Needs.{needs}
 use Rattle.reading.proofs.judge.Statement.{statement}
 use Rattle.reading.proofs.judge.Tie as tie
-use Rattle.reading.proofs.judge.Reads as reads
-use Rattle.reading.proofs.judge.Lts as lts
-use Rattle.reading.proofs.judge_fields.Reads as judge-fields-reads
-use Rattle.reading.proofs.opened.Reads as opened-reads
 
 opened-requires : tie.Need-opened-requires
 opened-requires c κs = search needs

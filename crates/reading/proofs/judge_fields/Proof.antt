@@ -2,15 +2,9 @@ use mathlib.Core.Path.{sym, _∙_}
 use lib.Dec.{lit<}
 use Rattle.message.specs.declared.Refusal.the-variants.{PastTheEnd, AgainstTheTable}
 use Rattle.reading.proofs.Reaches.{judges-fault, judges-missing, judges-whole}
-use native.Mathlib.Omega.{arith}
 use borrow.Author.Needs.{needs}
 use Rattle.reading.proofs.judge_fields.Statement.{statement}
 use Rattle.reading.proofs.judge_fields.Tie as tie
-use Rattle.reading.proofs.judge_fields.Reads as reads
-use Rattle.reading.proofs.judge_fields.Lts as lts
-use Rattle.reading.proofs.forget.Reads as forget-reads
-use Rattle.reading.proofs.has_all.Reads as has-all-reads
-use Rattle.reading.proofs.note_all.Reads as note-all-reads
 
 note-all-requires : tie.Need-note-all-requires
 note-all-requires c κs = search needs

@@ -2,14 +2,9 @@ use mathlib.Core.Path.{sym, ap, subst, _∙_}
 use Rattle.message.specs.Answers.{result}
 use Rattle.reading.specs.declared.Opening.{Opening}
 use Rattle.reading.specs.Walk.{Judges}
-use native.Mathlib.Omega.{arith}
 use borrow.Author.Needs.{needs}
 use Rattle.reading.proofs.read.Statement.{statement}
 use Rattle.reading.proofs.read.Tie as tie
-use Rattle.reading.proofs.read.Reads as reads
-use Rattle.reading.proofs.read.Lts as lts
-use Rattle.reading.proofs.judge.Reads as judge-reads
-use Rattle.reading.proofs.message_at.Reads as message-at-reads
 
 judge-requires : tie.Need-judge-requires
 judge-requires c κs = search needs
