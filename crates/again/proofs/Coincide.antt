@@ -18,6 +18,7 @@ use Rattle.reading.specs.declared.Reading.the-variants.{Read}
 use Rattle.reading.specs.Reading.{messageAt, told as toldByReader}
 use Rattle.writing.specs.declared.Writing.{Writing}
 use Rattle.writing.specs.declared.Writing.the-variants.{Written}
+use Rattle.writing.specs.Writing.{told as toldByWriter}
 use Rattle.again.specs.Again.{NumbersDiffer, ReadersCoincide, WritersCoincide, JudgesCoincide}
 
 -- the refusal that each number names, from 1 on; 0 names none
