@@ -216,9 +216,8 @@ fn idle_again(core: Core, hall: Hall) -> Step
             c7: core.c7 + 1,
             c20: core.c20,
         };
-        let step = rules::answer(counted, Answer::Done);
         let to = hall.present;
-        rules::send(step, Kind::Idle(sequence), to)
+        rules::say(counted, Kind::Idle(sequence), to)
     } else {
         let quiet = rules::in_phase(core, Phase::Idle(false));
         rules::answer(quiet, Answer::Done)
@@ -234,9 +233,8 @@ fn revoke_again(core: Core) -> Step
         Phase::Idle(_) => rules::answer(core, Answer::NotExpected),
         Phase::Taken(_, _) => rules::answer(core, Answer::NotExpected),
         Phase::Revoking(e, cause) => {
-            let step = rules::answer(core, Answer::Done);
             let to = hall::only_seat(e.seat);
-            rules::send(step, Kind::Revoke(cause), to)
+            rules::say(core, Kind::Revoke(cause), to)
         }
     }
 }
@@ -372,9 +370,8 @@ fn tell_place(core: Core, seat: u8) -> Step
 {
     let line = core.line;
     let info = rules::info_of(line, seat);
-    let step = rules::answer(core, Answer::Done);
     let to = hall::only_seat(seat);
-    rules::send(step, info, to)
+    rules::say(core, info, to)
 }
 
 fn talk(core: Core, seat: u8) -> Step

@@ -4,7 +4,7 @@ ghost use mathlib.Core.Path.{_≡_};
 ghost use Prim.Native.Nat.{_≤_};
 ghost use mathlib.Core.Bool.{true, false};
 ghost use lib.ListN.{length, getD, set};
-ghost use Rattle.hall.specs.Seats.{inRange, emptyHall, isPresent, queues, receivesOnly, only, others, alone, effective, hasSsrc, seatOf, freeSeat, withSeat, vacated};
+ghost use Rattle.hall.specs.Seats.{inRange, emptyHall, isPresent, queues, receivesOnly, only, others, alone, effective, seatOf, freeSeat, withSeat, vacated};
 ghost use Rattle.hall.specs.Identity.{octetsOf, nameOf, noNames, nameAt, withName, same, hasName, seatNamed, lengthAllowed};
 ghost use Rattle.hall.specs.Answers.{number, settingsAnswer};
 ghost use Rattle.hall.specs.Join.{join, seated, notJoined, ssrcTaken};
@@ -90,13 +90,6 @@ fn flag(column: [bool; 16], seat: u8) -> bool
 }
 
 fn octet(column: [u8; 16], seat: u8) -> u8
-    ensures { λ r. ⌜ r ≡ getD column seat 0 ⌝ }
-{
-    let s = seat as usize;
-    if s < 16 { column[s] } else { 0 }
-}
-
-fn word(column: [u32; 16], seat: u8) -> u32
     ensures { λ r. ⌜ r ≡ getD column seat 0 ⌝ }
 {
     let s = seat as usize;
@@ -276,29 +269,23 @@ pub fn is_alone(hall: Hall, seat: u8) -> bool
 
 // Seats looked for: by SSRC, and a free one; the lowest counts.
 
-fn has_ssrc(hall: Hall, ssrc: u32, seat: u8) -> bool
-    ensures { λ r. ⌜ r ≡ hasSsrc hall ssrc seat ⌝ }
-{
-    let present = hall.present;
-    let ssrcs = hall.ssrcs;
-    if flag(present, seat) {
-        word(ssrcs, seat) == ssrc
-    } else {
-        false
-    }
-}
-
+// The test is the loop's one way out: with a return inside, compilers unroll it and load every seat, whatever the event.
 pub fn seat_of(hall: Hall, ssrc: u32) -> Found
     ensures { λ r. ⌜ r ≡ seatOf hall ssrc ⌝ }
 {
-    let mut s: u8 = 0;
-    while s < 16 {
-        if has_ssrc(hall, ssrc, s) {
-            return Found::At(s);
-        }
+    let present = hall.present;
+    let ssrcs = hall.ssrcs;
+    let mut found = false;
+    let mut s: usize = 0;
+    while (s < 16) & !found {
+        found = present[s] & (ssrcs[s] == ssrc);
         s += 1;
     }
-    Found::Nowhere
+    if found {
+        Found::At((s - 1) as u8)
+    } else {
+        Found::Nowhere
+    }
 }
 
 fn free_seat(hall: Hall) -> Found

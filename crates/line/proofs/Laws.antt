@@ -3,7 +3,7 @@ use Prim.Native.Nat.{ℕ, zero, suc, _+_, _≤_, _<_, _-_, min}
 use mathlib.Core.Path.{_≡_, refl, ap, sym, _∙_}
 use mathlib.Core.Bool.{Bool, true, false}
 use mathlib.Core.List.{List, [], _∷_, _++_, append-nil}
-use native.Mathlib.Numerals.{add-one}
+use native.Mathlib.Numerals.{add-one, unary-clauses}
 use native.Mathlib.Omega.{arith}
 use lib.Dec.{eqb, leb}
 use lib.ListN.{length, take, drop, getD, set, replicate, length-take, length-append, length-drop, drop-of-length-le, List·getD-append}
@@ -44,6 +44,23 @@ pub ahead-le : (p : ℕ) (es : List Entry) → ahead p es ≤ length es
 unfolding ahead
 ahead-le p es = leading-le (atLeast p) es
 
+take-least : (n : ℕ) (es : List Entry) → take (min n (length es)) es ≡ take n es
+take-least zero es = simp unary-clauses refl
+take-least (suc n) [] = simp unary-clauses refl
+take-least (suc n) (e ∷ es) = simp unary-clauses (ap (λ (l : List Entry). e ∷ l) (take-least n es))
+
+-- who waits, by their number: the first so many entries
+pub waiting-first : (l : Line) (n : ℕ) → n ≡ length (waiting l) → take n (l .entries) ≡ waiting l
+unfolding waiting
+waiting-first l n h = rw (h, length-take) (take-least (l .len) (l .entries))
+
+pub first-there : (l : Line) (n i : ℕ) → n ≡ length (waiting l) → i < n → getD (waiting l) i empty ≡ getD (l .entries) i empty
+first-there l n i h k = sym (ap (λ (es : List Entry). getD es i empty) (waiting-first l n h)) ∙ getD-take n (l .entries) i empty k
+
+pub waiting-within : (l : Line) → length (waiting l) ≤ length (l .entries)
+unfolding waiting
+waiting-within l = rw length-take (omega arith)
+
 -- the array of fifteen that holds a list
 abbrev pub padded : List Entry → List Entry
 padded es = table.padded empty 15 es
@@ -83,6 +100,10 @@ padded-more es e h =
 pub padded-next : (a es : List Entry) (n : ℕ) (e x : Entry) → a ≡ padded es → n ≡ length es → e ≡ x → length es < 15 → set a n e ≡ padded (es ++ x ∷ [])
 padded-next a es n e x p q r h = rw (p, q, r) (padded-more es x h)
 
+-- the first so many, and one more
+pub next-taken : (es : List Entry) (i : ℕ) → i < length es → take (i + 1) es ≡ take i es ++ (getD es i empty ∷ [])
+next-taken es i h = rw add-one (take-suc es i empty h)
+
 -- the list with an entry put in at a place
 module _ (es : List Entry) (k : ℕ) (e : Entry) (h : k ≤ length es) where
   front-length : length (take k es) ≡ k
@@ -106,6 +127,13 @@ module _ (es : List Entry) (k : ℕ) (e : Entry) (h : k ≤ length es) where
   pub put-length : length (take k es ++ e ∷ drop k es) ≡ length es + 1
   put-length = simp (length-append, length-take, length-drop) (omega arith)
 
+-- what is put in among the first stays among them
+pub put-first : (k n : ℕ) (es : List Entry) (e : Entry) → k ≤ n → take (suc n) (take k es ++ e ∷ drop k es) ≡ take k (take n es) ++ e ∷ drop k (take n es)
+put-first zero n es e h = refl
+put-first (suc k) zero es e h = absurd (omega arith)
+put-first (suc k) (suc n) [] e h = refl
+put-first (suc k) (suc n) (x ∷ es) e h = ap (λ (l : List Entry). x ∷ l) (put-first k n es e (omega arith))
+
 -- an entry goes in, place by place
 pub enter-nil : (e : Entry) → enter e [] ≡ e ∷ []
 unfolding enter ahead
@@ -128,10 +156,14 @@ pub before-later : (e : Entry) (es : List Entry) (s : ℕ) → eqb (e .seat) s �
 unfolding before if_then_else_
 before-later e es s t = rw t
 
--- the line with an entry put in, from its array and its count
-pub line-put : (a es : List Entry) (n k : ℕ) (e : Entry) → k ≤ length es → length a ≡ 15 → ((i : ℕ) → i < 15 → getD a i empty ≡ getD (take k es ++ e ∷ drop k es) i empty) →
-    n ≡ min 15 (length es + 1) → lineWith a n ≡ lineOf (take k es ++ e ∷ drop k es)
-line-put a es n k e h l f q = line-is a (take k es ++ e ∷ drop k es) n (table.padded-is empty 15 a (take k es ++ e ∷ drop k es) l f) (q ∙ rw (length-take, put-length es k e h))
+-- the line of the first so many of a list
+take-front : (n : ℕ) (es r : List Entry) → take n (take n es ++ r) ≡ take n (es ++ r)
+take-front zero es r = refl
+take-front (suc n) [] r = refl
+take-front (suc n) (e ∷ es) r = ap (λ (l : List Entry). e ∷ l) (take-front n es r)
+
+pub line-front : (a es : List Entry) (n : ℕ) → a ≡ padded (take 15 es) → n ≡ length (take 15 es) → lineWith a n ≡ lineOf es
+line-front a es n p q = line-is a es n (p ∙ take-front 15 es (replicate 15 empty)) q
 
 -- striking off goes entry by entry
 pub without-append : (seats : List Bool) (a b : List Entry) → without seats (a ++ b) ≡ without seats a ++ without seats b
@@ -149,16 +181,13 @@ without-le seats (e ∷ es) = let h : length (without seats es) ≤ length es = 
     (λ t. rw t (omega arith))
 
 module _ (seats : List Bool) (es : List Entry) (i : ℕ) (h : i < length es) where
-  next-taken : take (i + 1) es ≡ take i es ++ (getD es i empty ∷ [])
-  next-taken = rw add-one (take-suc es i empty h)
-
   pub without-struck : getD seats (getD es i empty .seat) false ≡ true → without seats (take (i + 1) es) ≡ without seats (take i es)
   unfolding without if_then_else_
-  without-struck t = rw (next-taken, without-append seats (take i es), t) (append-nil _)
+  without-struck t = rw (next-taken es i h, without-append seats (take i es), t) (append-nil _)
 
   pub without-kept : getD seats (getD es i empty .seat) false ≡ false → without seats (take (i + 1) es) ≡ without seats (take i es) ++ (getD es i empty ∷ [])
   unfolding without if_then_else_
-  without-kept t = rw (next-taken, without-append seats (take i es), t)
+  without-kept t = rw (next-taken es i h, without-append seats (take i es), t)
 
 -- the set of those in line, entry by entry
 pub added-on : (seats : List Bool) (es : List Entry) (i : ℕ) → i < length es → added seats (drop i es) ≡ added (set seats (getD es i empty .seat) true) (drop (i + 1) es)

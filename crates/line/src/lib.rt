@@ -1,7 +1,7 @@
 // The line: seats waiting for the floor, highest priority first, earlier first among equals (document 01, "The desk"). What each
 // function gives is said of the list of entries that the array and the length stand for: specs/Line.antt.
 ghost use mathlib.Core.Path.{_≡_};
-ghost use Prim.Native.Nat.{_≤_};
+ghost use Prim.Native.Nat.{_≤_, _<_};
 ghost use mathlib.Core.List.{_++_, _∷_, []};
 ghost use mathlib.Core.Bool.{true, false};
 ghost use lib.ListN.{length, take, drop, getD, set};
@@ -60,9 +60,10 @@ pub fn place_of(line: Line, seat: u8) -> usize
     ensures { λ r. ⌜ r ≡ before seat (waiting line) ⌝ }
 {
     let n = count(line);
+    let entries = line.entries;
     let mut i = 0;
     while i < n {
-        let e = entry_at(line, i);
+        let e = entries[i];
         if e.seat == seat {
             return i;
         }
@@ -76,9 +77,10 @@ fn place_for(line: Line, priority: u8) -> usize
     ensures { λ r. ⌜ r ≡ ahead priority (waiting line) ⌝ }
 {
     let n = count(line);
+    let entries = line.entries;
     let mut i = 0;
     while i < n {
-        let e = entry_at(line, i);
+        let e = entries[i];
         if e.priority < priority {
             return i;
         }
@@ -102,9 +104,10 @@ pub fn another_at_least(line: Line, seat: u8, priority: u8) -> bool
     ensures { λ r. ⌜ r ≡ anotherAtLeast seat priority (waiting line) ⌝ }
 {
     let n = count(line);
+    let entries = line.entries;
     let mut i = 0;
     while i < n {
-        let e = entry_at(line, i);
+        let e = entries[i];
         if other_at_least(e, seat, priority) {
             return true;
         }
@@ -114,18 +117,14 @@ pub fn another_at_least(line: Line, seat: u8, priority: u8) -> bool
 }
 
 // The entry at a place once `e` stands behind `k` others.
-fn entry_after(line: Line, k: usize, e: Entry, place: usize) -> Entry
-    requires { ⌜ k ≤ length (waiting line) ⌝ }
-    ensures { λ r. ⌜ r ≡ getD (take k (waiting line) ++ e ∷ drop k (waiting line)) place empty ⌝ }
+fn entry_after(entries: [Entry; 15], k: usize, e: Entry, place: usize) -> Entry
+    requires { ⌜ (k ≤ 15) × (place < 15) ⌝ }
+    ensures { λ r. ⌜ r ≡ getD (take k entries ++ e ∷ drop k entries) place empty ⌝ }
 {
     if place < k {
-        entry_at(line, place)
+        entries[place]
     } else {
-        if place == k {
-            e
-        } else {
-            entry_at(line, place - 1)
-        }
+        if place == k { e } else { entries[place - 1] }
     }
 }
 
@@ -134,23 +133,18 @@ fn insert(line: Line, k: usize, e: Entry) -> Line
     ensures { λ r. ⌜ r ≡ lineOf (take k (waiting line) ++ e ∷ drop k (waiting line)) ⌝ }
 {
     let n = count(line);
+    let old = line.entries;
     let mut entries = [Entry {
         seat: 0,
         priority: 0,
     }; 15];
+    let len = if n < 15 { n + 1 } else { 15 };
     let mut i = 0;
-    while i < 15 {
-        entries[i] = entry_after(line, k, e, i);
+    while i < len {
+        entries[i] = entry_after(old, k, e, i);
         i += 1;
     }
-    if n < 15 {
-        Line {
-            entries,
-            len: n + 1,
-        }
-    } else {
-        Line { entries, len: 15 }
-    }
+    Line { entries, len }
 }
 
 // The line with a newcomer in its place: behind all of at least its priority.
@@ -178,10 +172,11 @@ pub fn struck(line: Line, seats: [bool; 16]) -> Line
         seat: 0,
         priority: 0,
     }; 15];
+    let old = line.entries;
     let mut len = 0;
     let mut i = 0;
     while i < n {
-        let e = entry_at(line, i);
+        let e = old[i];
         i += 1;
         if has(seats, e.seat) {
             continue;

@@ -1,19 +1,28 @@
--- What becomes of the floor when it ends, by whether anyone waits; and rule 5 by its tests. Assumes nothing.
+-- What becomes of the floor when it ends, by whether anyone waits; and rules 4 to 6 by one way for who waits and who comes. Assumes nothing.
 use Prim.Native.Nat.{ℕ}
-use mathlib.Core.Path.{_≡_, refl}
+use mathlib.Core.Path.{_≡_, refl, ap, sym, _∙_}
 use mathlib.Core.List.{List, [], _∷_}
 use native.Mathlib.Omega.{arith}
+use lib.Dec.{eqb}
 use lib.ListN.{length, getD}
-use mathlib.Core.Bool.{Bool, true, false}
-use Rattle.words.specs.Choice.{if_then_else_}
+use mathlib.Core.Bool.{Bool, true, false, not, _&&_}
+use Rattle.words.specs.Choice.{if_then_else_, by-test}
 use Rattle.line.specs.declared.Entry.{Entry}
 use Rattle.line.specs.Line.{lineOf, without, empty}
 use Rattle.hall.specs.declared.Hall.{Hall}
+use Rattle.hall.specs.declared.Answer.the-variants.{Done}
 use Rattle.hall.specs.Seats.{only, queues}
+use Rattle.rules.specs.declared.Phase.{Phase}
+use Rattle.rules.specs.declared.Phase.the-variants.{Stopped, Idle, Taken, Revoking}
 use Rattle.rules.specs.declared.Core.{Core}
-use Rattle.rules.specs.Words.{_withLine_}
-use Rattle.rules.specs.Request.{rule5, placedUnlessFull, denied}
-use Rattle.rules.specs.Floor.{passesOn, entersIdle, givenOutOfLine}
+use Rattle.rules.specs.declared.Message.{Message}
+use Rattle.rules.specs.declared.Mark.{Mark}
+use Rattle.rules.specs.declared.Mark.the-variants.{NoSeat}
+use Rattle.rules.specs.declared.Report.{Report}
+use Rattle.rules.specs.declared.Step.{Step}
+use Rattle.rules.specs.Words.{_withLine_, isNothing, more, silence, noMarks, _placing_}
+use Rattle.rules.specs.Request.{waits, priorityIn, full, denied, informed, pressed, rule6, infoFor, asksAgain, placed, lineAfter, markAfter, stands, refusalOf, asks}
+use Rattle.rules.specs.Floor.{passesOn, entersIdle, givenOutOfLine, revokes}
 
 module _ (c : Core) (h : Hall) where
   pub passes-none : (es : List Entry) → length es ≡ 0 → passesOn c h es ≡ entersIdle c h
@@ -26,15 +35,68 @@ module _ (c : Core) (h : Hall) where
   passes-head [] n = absurd (n refl)
   passes-head (x ∷ es) n = refl
 
-  pub rule5-press : (s p : ℕ) (press : Bool) → press ≡ true → rule5 c h s p press ≡ placedUnlessFull c h s p press
-  unfolding if_then_else_
-  rule5-press s p press e = rw e
+-- the mark of who was placed does not change what a step says, and rule 6 sets none by itself
+placed-more : (b : Bool) (r : Report) (m : Message) (k : Core) (x : Mark) →
+    (record { core = k; report = more b r m } placing x) ≡ record { core = k; report = more b ((record { core = k; report = r } placing x) .report) m }
+placed-more true r m k x = refl
+placed-more false r m k x = refl
 
-  pub rule5-queues : (s p : ℕ) (press : Bool) → queues h s ≡ true → rule5 c h s p press ≡ placedUnlessFull c h s p press
-  unfolding if_then_else_
-  rule5-queues s p true e = refl
-  rule5-queues s p false e = rw e
+module _ (r : Step) (x : Mark) where
+  revoked-placing : (e : Entry) (n : ℕ) → revokes (r placing x) e n ≡ (revokes r e n placing x)
+  unfolding revokes
+  revoked-placing e n = sym (placed-more (isNothing (r .report .first .kind)) (r .report) _ _ x)
 
-  pub rule5-neither : (s p : ℕ) (press : Bool) → press ≡ false → queues h s ≡ false → rule5 c h s p press ≡ denied c s 1
+  pub pressed-placing : (p : Phase) (press : Bool) → pressed (r placing x) p press ≡ (pressed r p press placing x)
+  unfolding pressed if_then_else_
+  pressed-placing Stopped press = refl
+  pressed-placing (Idle t7) press = refl
+  pressed-placing (Taken e b) true = revoked-placing e 4
+  pressed-placing (Taken e b) false = refl
+  pressed-placing (Revoking e n) press = refl
+
+module _ (c : Core) (h : Hall) (s : ℕ) where
+  pub informed-placing : (x : Mark) → (informed c h s placing x) ≡ (record { core = c; report = record { answer = Done; first = infoFor (c .line) s (queues h s); second = silence; marks = noMarks } } placing x)
+  unfolding informed if_then_else_
+  informed-placing x = by-test (queues h s) (λ q. rw q) (λ q. rw q)
+
+  unplaced : (informed c h s placing NoSeat) ≡ informed c h s
+  unfolding informed if_then_else_
+  unplaced = by-test (queues h s) (λ q. rw q) (λ q. rw q)
+
+  rule6-alone : (press : Bool) → (rule6 c h s press placing NoSeat) ≡ rule6 c h s press
+  unfolding rule6
+  rule6-alone press =
+      sym (pressed-placing (informed c h s) NoSeat (c .phase) press) ∙ ap (λ (r : Step). pressed r (c .phase) press) unplaced
+
+-- who waits and who comes, by rule 6 in one way
+pub stands-alike : (c : Core) (h : Hall) (s p : ℕ) (press w : Bool) →
+    (rule6 (c withLine lineAfter (c .line) w s p) h s press placing markAfter w s) ≡ stands c h s p press w
+unfolding asksAgain placed if_then_else_
+stands-alike c h s p press false = refl
+stands-alike c h s p press true = rule6-alone (c withLine lineAfter (c .line) true s p) h s press
+    ∙ by-test (eqb (priorityIn (c .line) s) p) (λ q. rw q) (λ q. rw q)
+
+-- a cause found first, and then the answer
+module _ (d : ℕ → Step) (a b : Step) (n : ℕ) where
+  found : (w q f : Bool) → n ≡ (if w then 0 else if q then 1 else if f then 7 else 0) → (n ≡ 0 → ⊥) →
+      d n ≡ (if w then a else if q then d 1 else if f then d 7 else b)
   unfolding if_then_else_
-  rule5-neither s p press e q = rw (e, q)
+  found true q f e z = absurd (z e)
+  found false true f e z = ap d e
+  found false false true e z = ap d e
+  found false false false e z = absurd (z e)
+
+  none : (w q f : Bool) → n ≡ (if w then 0 else if q then 1 else if f then 7 else 0) → n ≡ 0 →
+      (if w then a else b) ≡ (if w then a else if q then d 1 else if f then d 7 else b)
+  unfolding if_then_else_
+  none true q f e z = refl
+  none false true f e z = absurd (omega arith)
+  none false false true e z = absurd (omega arith)
+  none false false false e z = refl
+
+module _ (c : Core) (h : Hall) (s p : ℕ) (press : Bool) (n : ℕ) (e : n ≡ refusalOf c h s press (waits c s)) where
+  pub denies : (n ≡ 0 → ⊥) → denied c s n ≡ asks c h s p press
+  denies z = found (denied c s) (asksAgain c h s p press) (placed c h s p press) n (waits c s) (not press && not (queues h s)) (full c h) e z
+
+  pub goes-in : n ≡ 0 → stands c h s p press (waits c s) ≡ asks c h s p press
+  goes-in z = none (denied c s) (asksAgain c h s p press) (placed c h s p press) n (waits c s) (not press && not (queues h s)) (full c h) e z

@@ -15,8 +15,11 @@ use Rattle.rules.specs.declared.Phase.the-variants.{Stopped, Idle, Taken
 use Rattle.rules.specs.declared.Core.{Core}
 use Rattle.rules.specs.declared.Kind.{Kind}
 use Rattle.rules.specs.declared.Kind.the-variants as say
+use Rattle.rules.specs.declared.Message.{Message}
+use Rattle.rules.specs.declared.Mark.{Mark}
+use Rattle.rules.specs.declared.Mark.the-variants.{NoSeat, Seat}
 use Rattle.rules.specs.declared.Step.{Step}
-use Rattle.rules.specs.Words.{_withLine_, _⇒_, done, refused, _sends_, _marksPlaced_}
+use Rattle.rules.specs.Words.{_withLine_, _⇒_, silence, done, refused, _sends_, _marksPlaced_}
 use Rattle.rules.specs.Floor.{holds, givenAtOnce, revokes}
 
 abbrev pub isIdle : Phase → Bool
@@ -96,14 +99,39 @@ placed c h s p press = rule6 (c withLine lineOf (enter (entry s p) (waiting (c .
 abbrev pub idleRequest : Core → Hall → ℕ → ℕ → Step
 idleRequest c h s p = if alone h s then denied c s 3 else givenAtOnce c h (entry s p)
 
-abbrev pub placedUnlessFull : Core → Hall → ℕ → ℕ → Bool → Step
-placedUnlessFull c h s p press = if full c h then denied c s 7 else placed c h s p press
+-- what Info is to an asker, with or without queueing
+abbrev pub infoFor : Line → ℕ → Bool → Message
+infoFor l s queueing = if queueing then infoOf l s ⇒ only s else silence
+
+-- the line after a request of one who waits, and of a newcomer that may go in; and the mark
+abbrev pub staysOrMoves : Line → ℕ → ℕ → Line
+staysOrMoves l s p = if eqb (priorityIn l s) p then l else moved l (entry s p)
+
+abbrev pub lineAfter : Line → Bool → ℕ → ℕ → Line
+lineAfter l waiting-already s p = if waiting-already then staysOrMoves l s p else lineOf (enter (entry s p) (waiting l))
+
+abbrev pub markAfter : Bool → ℕ → Mark
+markAfter waiting-already s = if waiting-already then NoSeat else Seat s
+
+abbrev pub stands : Core → Hall → ℕ → ℕ → Bool → Bool → Step
+stands c h s p press waiting-already = if waiting-already then asksAgain c h s p press else placed c h s p press
+
+-- the cause by which a newcomer is denied; 0 for none
+abbrev pub refusalOf : Core → Hall → ℕ → Bool → Bool → ℕ
+refusalOf c h s press waiting-already =
+    if waiting-already then 0
+    else if not press && not (queues h s) then 1
+    else if full c h then 7
+    else 0
 
 abbrev pub rule5 : Core → Hall → ℕ → ℕ → Bool → Step
 rule5 c h s p press =
     if not press && not (queues h s) then denied c s 1
     else if full c h then denied c s 7
     else placed c h s p press
+
+abbrev pub asks : Core → Hall → ℕ → ℕ → Bool → Step
+asks c h s p press = if waits c s then asksAgain c h s p press else rule5 c h s p press
 
 unfoldable pub request : Core → Hall → ℕ → ℕ → Step
 request c h s p =

@@ -12,6 +12,7 @@ use Rattle.rules.specs.declared.Core.{Core}
 use Rattle.rules.specs.declared.Kind.{Kind}
 use Rattle.rules.specs.declared.Kind.the-variants as say
 use Rattle.rules.specs.declared.Message.{Message}
+use Rattle.rules.specs.declared.Mark.{Mark}
 use Rattle.rules.specs.declared.Mark.the-variants.{NoSeat, Seat}
 use Rattle.rules.specs.declared.Given.{Given}
 use Rattle.rules.specs.declared.Given.the-variants.{NotGiven}
@@ -20,7 +21,7 @@ use Rattle.rules.specs.declared.Report.{Report}
 use Rattle.rules.specs.declared.Step.{Step}
 
 infixl 30 _inPhase_ _withLine_ _countingC7_ _countingC20_
-infixl 20 _turns_ _sends_ _marksPlaced_ _marksStruck_ _marksEnded_ _marksGiven_
+infixl 20 _turns_ _sends_ _placing_ _marksPlaced_ _marksStruck_ _marksEnded_ _marksGiven_
 infix 40 _⇒_
 -- the core with one thing changed
 abbrev pub _inPhase_ : Core → Phase → Core
@@ -88,8 +89,11 @@ r sends m = record { core = r .core; report = more (isNothing (r .report .first 
 abbrev pub marked : Step → Marks → Step
 marked r m = record { core = r .core; report = record { answer = r .report .answer; first = r .report .first; second = r .report .second; marks = m } }
 
+abbrev pub _placing_ : Step → Mark → Step
+r placing m = marked r (record { placed = m; struck = r .report .marks .struck; ended = r .report .marks .ended; given = r .report .marks .given })
+
 abbrev pub _marksPlaced_ : Step → ℕ → Step
-r marksPlaced s = marked r (record { placed = Seat s; struck = r .report .marks .struck; ended = r .report .marks .ended; given = r .report .marks .given })
+r marksPlaced s = r placing Seat s
 
 abbrev pub _marksStruck_ : Step → List Bool → Step
 r marksStruck seats = marked r (record { placed = r .report .marks .placed; struck = seats; ended = r .report .marks .ended; given = r .report .marks .given })

@@ -7,9 +7,9 @@ use line::Line;
 ghost use mathlib.Core.Path.{_≡_};
 ghost use mathlib.Core.Bool.{true, false};
 ghost use Rattle.line.specs.Line.{waiting};
-ghost use Rattle.rules.specs.Words.{_inPhase_, _withLine_, next, _⇒_, isNothing, answered, _sends_, _marksPlaced_, _marksStruck_, _marksEnded_, _marksGiven_, marked};
+ghost use Rattle.rules.specs.Words.{_inPhase_, _withLine_, next, _⇒_, isNothing, answered, done, _sends_, _marksStruck_, _marksEnded_, _marksGiven_, _placing_, marked};
 ghost use Rattle.rules.specs.Floor.{holds, given, givenAtOnce, givenOutOfLine, entersIdle, passesOn, floorEnds, revokes};
-ghost use Rattle.rules.specs.Request.{isIdle, waits, priorityIn, full, holderAtLeast, presses, denied, infoOf, grantedAgain, holderAsks, informed, pressed, rule6, asksAgain, placed, idleRequest, placedUnlessFull, rule5, request};
+ghost use Rattle.rules.specs.Request.{isIdle, waits, priorityIn, full, holderAtLeast, presses, denied, infoOf, infoFor, grantedAgain, holderAsks, informed, pressed, rule6, staysOrMoves, lineAfter, markAfter, stands, idleRequest, refusalOf, asks, request};
 
 // What runs in Taken beside T1.
 pub enum Beside {
@@ -155,6 +155,31 @@ pub fn send(step: Step, kind: Kind, to: [bool; 16]) -> Step
     }
 }
 
+// A step that is done, with one message.
+pub fn say(core: Core, kind: Kind, to: [bool; 16]) -> Step
+    ensures { λ r. ⌜ r ≡ (done core sends kind ⇒ to) ⌝ }
+{
+    let nobody = [false; 16];
+    let first = Message { kind, to };
+    let second = Message {
+        kind: Kind::Nothing,
+        to: nobody,
+    };
+    let marks = Marks {
+        placed: Mark::NoSeat,
+        struck: nobody,
+        ended: Mark::NoSeat,
+        given: Given::NotGiven,
+    };
+    let report = Report {
+        answer: Answer::Done,
+        first,
+        second,
+        marks,
+    };
+    Step { core, report }
+}
+
 fn with_marks(step: Step, marks: Marks) -> Step
     ensures { λ r. ⌜ r ≡ marked step marks ⌝ }
 {
@@ -170,23 +195,6 @@ fn with_marks(step: Step, marks: Marks) -> Step
         marks,
     };
     Step { core, report }
-}
-
-pub fn mark_placed(step: Step, seat: u8) -> Step
-    ensures { λ r. ⌜ r ≡ (step marksPlaced seat) ⌝ }
-{
-    let report = step.report;
-    let old = report.marks;
-    let struck = old.struck;
-    let ended = old.ended;
-    let given = old.given;
-    let marks = Marks {
-        placed: Mark::Seat(seat),
-        struck,
-        ended,
-        given,
-    };
-    with_marks(step, marks)
 }
 
 pub fn mark_struck(step: Step, seats: [bool; 16]) -> Step
@@ -218,23 +226,6 @@ pub fn mark_ended(step: Step, seat: u8) -> Step
         placed,
         struck,
         ended: Mark::Seat(seat),
-        given,
-    };
-    with_marks(step, marks)
-}
-
-fn mark_given(step: Step, given: Given) -> Step
-    ensures { λ r. ⌜ r ≡ (step marksGiven given) ⌝ }
-{
-    let report = step.report;
-    let old = report.marks;
-    let placed = old.placed;
-    let struck = old.struck;
-    let ended = old.ended;
-    let marks = Marks {
-        placed,
-        struck,
-        ended,
         given,
     };
     with_marks(step, marks)
@@ -287,8 +278,9 @@ pub fn is_holder(phase: Phase, seat: u8) -> bool
     }
 }
 
-fn give(core: Core, hall: Hall, e: Entry, beside: Beside) -> Step
-    ensures { λ r. ⌜ r ≡ given core hall e beside ⌝ }
+// The report is built at once, with its mark: a step that is built and then changed is copied whole each time.
+fn give(core: Core, hall: Hall, e: Entry, beside: Beside, mark: Given) -> Step
+    ensures { λ r. ⌜ r ≡ (given core hall e beside marksGiven mark) ⌝ }
 {
     let sequence = next_number(core.sequence);
     let line = core.line;
@@ -299,18 +291,39 @@ fn give(core: Core, hall: Hall, e: Entry, beside: Beside) -> Step
         c7: core.c7,
         c20: core.c20,
     };
-    let step = answer(taken, Answer::Done);
     let to = hall::only_seat(e.seat);
-    let step = send(step, Kind::Granted(e.priority), to);
+    let first = Message {
+        kind: Kind::Granted(e.priority),
+        to,
+    };
     let to = hall::all_others(hall, e.seat);
-    send(step, Kind::Taken(e.seat, sequence), to)
+    let second = Message {
+        kind: Kind::Taken(e.seat, sequence),
+        to,
+    };
+    let nobody = [false; 16];
+    let marks = Marks {
+        placed: Mark::NoSeat,
+        struck: nobody,
+        ended: Mark::NoSeat,
+        given: mark,
+    };
+    let report = Report {
+        answer: Answer::Done,
+        first,
+        second,
+        marks,
+    };
+    Step {
+        core: taken,
+        report,
+    }
 }
 
 fn give_at_once(core: Core, hall: Hall, e: Entry) -> Step
     ensures { λ r. ⌜ r ≡ givenAtOnce core hall e ⌝ }
 {
-    let step = give(core, hall, e, Beside::NoMore);
-    mark_given(step, Given::AtOnce(e.seat))
+    give(core, hall, e, Beside::NoMore, Given::AtOnce(e.seat))
 }
 
 fn give_out_of_line(core: Core, hall: Hall, e: Entry) -> Step
@@ -325,8 +338,7 @@ fn give_out_of_line(core: Core, hall: Hall, e: Entry) -> Step
         c7: core.c7,
         c20: 1,
     };
-    let step = give(counting, hall, e, Beside::T20);
-    mark_given(step, Given::OutOfLine(e.seat))
+    give(counting, hall, e, Beside::T20, Given::OutOfLine(e.seat))
 }
 
 pub fn enter_idle(core: Core, hall: Hall) -> Step
@@ -341,9 +353,8 @@ pub fn enter_idle(core: Core, hall: Hall) -> Step
         c7: 1,
         c20: core.c20,
     };
-    let step = answer(idle, Answer::Done);
     let to = hall.present;
-    send(step, Kind::Idle(sequence), to)
+    say(idle, Kind::Idle(sequence), to)
 }
 
 fn pass_on(core: Core, hall: Hall) -> Step
@@ -447,9 +458,8 @@ fn is_press(core: Core, hall: Hall, seat: u8, priority: u8) -> bool
 fn deny(core: Core, seat: u8, cause: u16) -> Step
     ensures { λ r. ⌜ r ≡ denied core seat cause ⌝ }
 {
-    let step = answer(core, Answer::Done);
     let to = hall::only_seat(seat);
-    send(step, Kind::Deny(cause), to)
+    say(core, Kind::Deny(cause), to)
 }
 
 pub fn info_of(line: Line, seat: u8) -> Kind
@@ -458,8 +468,8 @@ pub fn info_of(line: Line, seat: u8) -> Kind
     let n = line::count(line);
     let place = line::place_of(line, seat);
     if place < n {
-        let priority = priority_in(line, seat);
-        Kind::Info(place as u8 + 1, priority)
+        let e = line::entry_at(line, place);
+        Kind::Info(place as u8 + 1, e.priority)
     } else {
         Kind::Info(255, 0)
     }
@@ -468,9 +478,8 @@ pub fn info_of(line: Line, seat: u8) -> Kind
 pub fn grant_again(core: Core, e: Entry) -> Step
     ensures { λ r. ⌜ r ≡ grantedAgain core e ⌝ }
 {
-    let step = answer(core, Answer::Done);
     let to = hall::only_seat(e.seat);
-    send(step, Kind::Granted(e.priority), to)
+    say(core, Kind::Granted(e.priority), to)
 }
 
 fn holder_asks(core: Core) -> Step
@@ -485,18 +494,47 @@ fn holder_asks(core: Core) -> Step
     }
 }
 
-fn inform(core: Core, hall: Hall, seat: u8) -> Step
-    ensures { λ r. ⌜ r ≡ informed core hall seat ⌝ }
+// What Info says, and to whom, for an asker that may not have negotiated queueing.
+fn info_for(line: Line, seat: u8, queueing: bool) -> Message
+    ensures { λ r. ⌜ r ≡ infoFor line seat queueing ⌝ }
 {
-    let step = answer(core, Answer::Done);
-    if hall::negotiated_queueing(hall, seat) {
-        let line = core.line;
+    if queueing {
         let info = info_of(line, seat);
         let to = hall::only_seat(seat);
-        send(step, info, to)
+        Message { kind: info, to }
     } else {
-        step
+        let nobody = [false; 16];
+        Message {
+            kind: Kind::Nothing,
+            to: nobody,
+        }
     }
+}
+
+fn inform(core: Core, hall: Hall, seat: u8, placed: Mark) -> Step
+    ensures { λ r. ⌜ r ≡ (informed core hall seat placing placed) ⌝ }
+{
+    let line = core.line;
+    let queueing = hall::negotiated_queueing(hall, seat);
+    let first = info_for(line, seat, queueing);
+    let nobody = [false; 16];
+    let second = Message {
+        kind: Kind::Nothing,
+        to: nobody,
+    };
+    let marks = Marks {
+        placed,
+        struck: nobody,
+        ended: Mark::NoSeat,
+        given: Given::NotGiven,
+    };
+    let report = Report {
+        answer: Answer::Done,
+        first,
+        second,
+        marks,
+    };
+    Step { core, report }
 }
 
 fn press_on(step: Step, phase: Phase, press: bool) -> Step
@@ -510,36 +548,54 @@ fn press_on(step: Step, phase: Phase, press: bool) -> Step
     }
 }
 
-fn rule_6(core: Core, hall: Hall, seat: u8, press: bool) -> Step
-    ensures { λ r. ⌜ r ≡ rule6 core hall seat press ⌝ }
+fn rule_6(core: Core, hall: Hall, seat: u8, press: bool, placed: Mark) -> Step
+    ensures { λ r. ⌜ r ≡ (rule6 core hall seat press placing placed) ⌝ }
 {
-    let step = inform(core, hall, seat);
+    let step = inform(core, hall, seat, placed);
     let phase = core.phase;
     press_on(step, phase, press)
 }
 
-fn ask_again(core: Core, hall: Hall, seat: u8, priority: u8, press: bool) -> Step
-    ensures { λ r. ⌜ r ≡ asksAgain core hall seat priority press ⌝ }
+fn stay_or_move(line: Line, seat: u8, priority: u8) -> Line
+    ensures { λ r. ⌜ r ≡ staysOrMoves line seat priority ⌝ }
 {
-    let line = core.line;
     if priority_in(line, seat) == priority {
-        return rule_6(core, hall, seat, press);
+        return line;
     }
     let leaving = hall::only_seat(seat);
     let others = line::struck(line, leaving);
-    let back = line::entered(others, Entry { seat, priority });
-    let changed = with_line(core, back);
-    rule_6(changed, hall, seat, press)
+    line::entered(others, Entry { seat, priority })
 }
 
-fn place(core: Core, hall: Hall, seat: u8, priority: u8, press: bool) -> Step
-    ensures { λ r. ⌜ r ≡ placed core hall seat priority press ⌝ }
+fn line_after(line: Line, waits: bool, seat: u8, priority: u8) -> Line
+    ensures { λ r. ⌜ r ≡ lineAfter line waits seat priority ⌝ }
+{
+    if waits {
+        stay_or_move(line, seat, priority)
+    } else {
+        line::entered(line, Entry { seat, priority })
+    }
+}
+
+fn mark_after(waits: bool, seat: u8) -> Mark
+    ensures { λ r. ⌜ r ≡ markAfter waits seat ⌝ }
+{
+    if waits {
+        Mark::NoSeat
+    } else {
+        Mark::Seat(seat)
+    }
+}
+
+// Who waits and who comes end alike, by rule 6: one way for both.
+fn stand(core: Core, hall: Hall, seat: u8, priority: u8, press: bool, waits: bool) -> Step
+    ensures { λ r. ⌜ r ≡ stands core hall seat priority press waits ⌝ }
 {
     let line = core.line;
-    let longer = line::entered(line, Entry { seat, priority });
-    let changed = with_line(core, longer);
-    let step = rule_6(changed, hall, seat, press);
-    mark_placed(step, seat)
+    let next = line_after(line, waits, seat, priority);
+    let changed = with_line(core, next);
+    let placed = mark_after(waits, seat);
+    rule_6(changed, hall, seat, press, placed)
 }
 
 fn idle_request(core: Core, hall: Hall, seat: u8, priority: u8) -> Step
@@ -552,26 +608,29 @@ fn idle_request(core: Core, hall: Hall, seat: u8, priority: u8) -> Step
     }
 }
 
-fn place_unless_full(core: Core, hall: Hall, seat: u8, priority: u8, press: bool) -> Step
-    ensures { λ r. ⌜ r ≡ placedUnlessFull core hall seat priority press ⌝ }
+// The cause by which a newcomer is denied its place; 0, and for who waits already, if it is not.
+fn refusal(core: Core, hall: Hall, seat: u8, press: bool, waits: bool) -> u16
+    ensures { λ r. ⌜ r ≡ refusalOf core hall seat press waits ⌝ }
 {
-    if is_full(core, hall) {
-        deny(core, seat, 7)
-    } else {
-        place(core, hall, seat, priority, press)
+    if waits {
+        return 0;
     }
+    let queueing = hall::negotiated_queueing(hall, seat);
+    if !press & !queueing {
+        return 1;
+    }
+    if is_full(core, hall) { 7 } else { 0 }
 }
 
-fn newcomer(core: Core, hall: Hall, seat: u8, priority: u8, press: bool) -> Step
-    ensures { λ r. ⌜ r ≡ rule5 core hall seat priority press ⌝ }
+fn ask(core: Core, hall: Hall, seat: u8, priority: u8, press: bool) -> Step
+    ensures { λ r. ⌜ r ≡ asks core hall seat priority press ⌝ }
 {
-    if press {
-        return place_unless_full(core, hall, seat, priority, press);
+    let waits = is_waiting(core, seat);
+    let cause = refusal(core, hall, seat, press, waits);
+    if cause != 0 {
+        return deny(core, seat, cause);
     }
-    if hall::negotiated_queueing(hall, seat) {
-        return place_unless_full(core, hall, seat, priority, press);
-    }
-    deny(core, seat, 1)
+    stand(core, hall, seat, priority, press, waits)
 }
 
 pub fn request_floor(core: Core, hall: Hall, seat: u8, priority: u8) -> Step
@@ -588,9 +647,5 @@ pub fn request_floor(core: Core, hall: Hall, seat: u8, priority: u8) -> Step
         return idle_request(core, hall, seat, priority);
     }
     let press = is_press(core, hall, seat, priority);
-    if is_waiting(core, seat) {
-        ask_again(core, hall, seat, priority, press)
-    } else {
-        newcomer(core, hall, seat, priority, press)
-    }
+    ask(core, hall, seat, priority, press)
 }

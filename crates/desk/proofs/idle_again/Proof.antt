@@ -9,44 +9,39 @@ use Rattle.desk.proofs.idle_again.Tie as tie
 next-number-requires : tie.Need-next-number-requires
 next-number-requires c κs = search needs
 
-add-t13 : tie.Need-add-t13
-add-t13 c = search needs
+add-t12 : tie.Need-add-t12
+add-t12 c = search needs
 
-answer-requires : tie.Need-answer-requires
-answer-requires c κs = search needs
-
-send-requires : tie.Need-send-requires
-send-requires c κs = search needs
+say-requires : tie.Need-say-requires
+say-requires c κs = search needs
 
 in-phase-requires : tie.Need-in-phase-requires
 in-phase-requires c κs = search needs
 
-answer-requires-2 : tie.Need-answer-requires-2
-answer-requires-2 c κs = search needs
+answer-requires : tie.Need-answer-requires
+answer-requires c κs = search needs
 
 returns : tie.Need-returns
 unfolding idleAgain if_then_else_
 returns c =
     rw (
-      lt-ltb _ _ (c .before .before .before .before .before .if1 .taken),
-      c .send .ensures,
-      c .before .before .answer .ensures,
-      c .before .before .before .before .next-number .ensures,
+      lt-ltb _ _ (c .before .before .before .before .if1 .taken),
+      c .say .ensures,
+      c .before .before .before .next-number .ensures,
     )
 
 returns-2 : tie.Need-returns-2
 unfolding idleAgain if_then_else_
-returns-2 c = rw (le-ltb _ _ (c .before .before .if1 .left), c .answer2 .ensures, c .before .in-phase .ensures)
+returns-2 c = rw (le-ltb _ _ (c .before .before .if1 .left), c .answer .ensures, c .before .in-phase .ensures)
 
 pub idle-again-spec : {M : Type 1} → statement M
 idle-again-spec =
     tie.close
     (tie.spec
     next-number-requires
-    add-t13
-    answer-requires
-    send-requires
+    add-t12
+    say-requires
     in-phase-requires
-    answer-requires-2
+    answer-requires
     returns
     returns-2)

@@ -26,14 +26,11 @@ answer-requires-3 c κs = search needs
 enum-known-phase : tie.Need-enum-known-phase
 enum-known-phase c = search needs
 
-answer-requires-4 : tie.Need-answer-requires-4
-answer-requires-4 c κs = search needs
-
 only-seat-requires : tie.Need-only-seat-requires
 only-seat-requires c κs = search needs
 
-send-requires : tie.Need-send-requires
-send-requires c κs = search needs
+say-requires : tie.Need-say-requires
+say-requires c κs = search needs
 
 returns : tie.Need-returns
 unfolding revokesAgain
@@ -50,8 +47,8 @@ returns-3 c = c .answer3 .ensures ∙ sym (ap (revokesAgain (c .before .before .
 returns-4 : tie.Need-returns-4
 unfolding revokesAgain
 returns-4 c =
-    c .send .ensures ∙ rw (c .before .only-seat .ensures, c .before .before .answer4 .ensures)
-    (sym (ap (revokesAgain (c .before .before .before .before .before .before .args .core)) (c .before .before .before .before .phase .given .1)))
+    c .say .ensures ∙ rw (c .before .only-seat .ensures)
+    (sym (ap (revokesAgain (c .before .before .before .before .before .args .core)) (c .before .before .before .phase .given .1)))
 
 pub revoke-again-spec : {M : Type 1} → statement M
 revoke-again-spec =
@@ -64,9 +61,8 @@ revoke-again-spec =
     enum-told-3
     answer-requires-3
     enum-known-phase
-    answer-requires-4
     only-seat-requires
-    send-requires
+    say-requires
     returns
     returns-2
     returns-3

@@ -7,19 +7,16 @@ use Rattle.desk.proofs.tell_place.Tie as tie
 info-of-requires : tie.Need-info-of-requires
 info-of-requires c κs = search needs
 
-answer-requires : tie.Need-answer-requires
-answer-requires c κs = search needs
-
 only-seat-requires : tie.Need-only-seat-requires
 only-seat-requires c κs = search needs
 
-send-requires : tie.Need-send-requires
-send-requires c κs = search needs
+say-requires : tie.Need-say-requires
+say-requires c κs = search needs
 
 returns : tie.Need-returns
 unfolding asksPlace
-returns c = rw (c .send .ensures, c .before .only-seat .ensures, c .before .before .answer .ensures, c .before .before .before .info-of .ensures)
+returns c = rw (c .say .ensures, c .before .only-seat .ensures, c .before .before .info-of .ensures)
 
 pub tell-place-spec : {M : Type 1} → statement M
 tell-place-spec =
-    tie.close (tie.spec info-of-requires answer-requires only-seat-requires send-requires returns)
+    tie.close (tie.spec info-of-requires only-seat-requires say-requires returns)

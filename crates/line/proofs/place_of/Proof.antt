@@ -1,35 +1,41 @@
 -- `line::place_of` meets its contract. The invariant says what is done at the present place, and what is left. Assumes nothing.
-use Prim.Native.Nat.{_+_, _-_, _≤_}
+use Prim.Native.Nat.{_+_, _-_, _≤_, _<_}
 use mathlib.Core.Path.{_≡_, sym, _∙_}
 use native.Mathlib.Omega.{arith}
-use lib.ListN.{length, drop}
+use lib.ListN.{length, drop, take}
 use borrow.Author.Tests.{eq-eqb, ne-eqb}
 use borrow.Author.Needs.{needs}
 use Rattle.line.specs.Line.{waiting, before, leading, isOther}
-use Rattle.line.proofs.Laws.{leading-on, leading-stops, leading-ends}
+use Rattle.line.proofs.Laws.{waiting-first, first-there, leading-on, leading-stops, leading-ends}
 use Rattle.line.proofs.place_of.Statement.{statement}
 use Rattle.line.proofs.place_of.Tie as tie
 
 abbrev Inv-loop : tie.InvT-loop
-Inv-loop line seat n i₀ i = (n ≡ length (waiting line)) × (i ≤ n) × (before seat (waiting line) ≡ i + leading (isOther seat) (drop i (waiting line)))
+Inv-loop seat n entries i₀ i = (i ≤ n) × (before seat (take n entries) ≡ i + leading (isOther seat) (drop i (take n entries)))
 
 abbrev μ-loop : tie.MeasureT-loop
-μ-loop line seat n i₀ i = n - i
+μ-loop seat n entries i₀ i = n - i
 
 count-requires : tie.Need-count-requires Inv-loop μ-loop
 count-requires c κs = search needs
 
 loop-holds : tie.Need-loop-holds Inv-loop μ-loop
 unfolding before
-loop-holds c = (c .count .ensures .0, omega arith, omega arith)
+loop-holds c = (omega arith, omega arith)
 
-entry-at-requires : tie.Need-entry-at-requires Inv-loop μ-loop
-entry-at-requires c κs = search needs
+mul-e : tie.Need-mul-e Inv-loop μ-loop
+mul-e c = search needs
+
+array-copy-out-e : tie.Need-array-copy-out-e Inv-loop μ-loop
+array-copy-out-e c = search needs
 
 returns : tie.Need-returns Inv-loop μ-loop
 returns c =
-    sym (c .before .before .before .before .loop .inv .2
-    ∙ leading-stops _ _ _ (omega arith) (simp (sym (c .before .before .entry-at .ensures), eq-eqb _ _ (c .if1 .taken))))
+    let l = c .before .before .before .before .before .before .before .args .line in
+    let n = c .before .before .before .before .before .before .count .ensures .0 in
+    let h : c .before .before .before .before .loop .i < length (waiting l) = omega (arith, n) in
+    let v = rw (waiting-first l _ n) at (c .before .before .before .before .loop .inv .1) in
+    sym (v ∙ leading-stops _ _ _ h (simp (first-there l _ _ n (c .before .before .before .loop-test .taken), eq-eqb _ _ (c .if1 .taken))))
 
 add-i : tie.Need-add-i Inv-loop μ-loop
 add-i c = search needs
@@ -38,17 +44,22 @@ loop-less : tie.Need-loop-less Inv-loop μ-loop
 loop-less c = search needs
 
 loop-again : tie.Need-loop-again Inv-loop μ-loop
-loop-again c = (
-  c .before .before .before .before .loop .inv .0,
-  omega arith,
-  c .before .before .before .before .loop .inv .2
-      ∙ leading-on _ _ _ (omega arith) (simp (sym (c .before .before .entry-at .ensures), ne-eqb _ _ (c .if1 .left))),
-)
+loop-again c =
+    let l = c .before .before .before .before .before .before .before .args .line in
+    let n = c .before .before .before .before .before .before .count .ensures .0 in
+    let h : c .before .before .before .before .loop .i < length (waiting l) = omega (arith, n) in
+    let v = rw (waiting-first l _ n) at (c .before .before .before .before .loop .inv .1) in (
+      omega arith,
+      rw (waiting-first l _ n) (v ∙ leading-on _ _ _ h (simp (first-there l _ _ n (c .before .before .before .loop-test .taken), ne-eqb _ _ (c .if1 .left)))),
+    )
 
 returns-2 : tie.Need-returns-2 Inv-loop μ-loop
 returns-2 c =
-    let e : c .before .loop .i ≡ c .before .before .count .result = omega arith in
-    sym (c .before .loop .inv .2 ∙ leading-ends _ _ _ (omega arith) ∙ e)
+    let l = c .before .before .before .before .args .line in
+    let n = c .before .before .before .count .ensures .0 in
+    let e : c .before .loop .i ≡ c .before .before .before .count .result = omega arith in
+    let v = rw (waiting-first l _ n) at (c .before .loop .inv .1) in
+    sym (v ∙ leading-ends _ _ _ (omega (arith, n)) ∙ e)
 
 pub place-of-spec : {M : Type 1} → statement M
 place-of-spec =
@@ -58,7 +69,8 @@ place-of-spec =
     μ-loop
     count-requires
     loop-holds
-    entry-at-requires
+    mul-e
+    array-copy-out-e
     returns
     add-i
     loop-less

@@ -1,35 +1,35 @@
 -- `line::struck` meets its contract. The invariant says what is done at the present place, and what is left. Assumes nothing.
 use Prim.Native.Nat.{_+_, _-_, _≤_, _<_}
-use mathlib.Core.Bool.{false}
 use mathlib.Core.List.{_++_, _∷_, []}
 use mathlib.Core.Path.{_≡_, refl, ap, sym, _∙_}
 use native.Mathlib.Omega.{arith}
 use lib.ListN.{length-append, length, take, getD}
 use lib.Seq.{take-all}
 use borrow.Author.Needs.{needs}
-use Rattle.line.specs.declared.Entry.{Entry}
 use Rattle.line.specs.Line.{empty, waiting, without, lineOf}
-use Rattle.line.proofs.Laws.{line-is, waiting-lineOf, padded, padded-next, without-struck, without-kept}
+use Rattle.line.proofs.Laws.{waiting-first, waiting-within, line-is, waiting-lineOf, padded, padded-next, without-struck, without-kept}
 use Rattle.line.proofs.struck.Statement.{statement}
 use Rattle.line.proofs.struck.Tie as tie
 
 abbrev Inv-loop : tie.InvT-loop
-Inv-loop line seats n entries₀ len₀ i₀ entries len i =
-    (n ≡ length (waiting line)) × (i ≤ n) × (n ≤ 15) × (len ≡ length (without seats (take i (waiting line)))) × (len ≤ i)
-    × (entries ≡ padded (without seats (take i (waiting line))))
+Inv-loop seats n entries₀ old len₀ i₀ entries len i =
+    (i ≤ n) × (len ≡ length (without seats (take i old))) × (len ≤ i) × (entries ≡ padded (without seats (take i old)))
 
 abbrev μ-loop : tie.MeasureT-loop
-μ-loop line seats n entries₀ len₀ i₀ entries len i = n - i
+μ-loop seats n entries₀ old len₀ i₀ entries len i = n - i
 
 count-requires : tie.Need-count-requires Inv-loop μ-loop
 count-requires c κs = search needs
 
 loop-holds : tie.Need-loop-holds Inv-loop μ-loop
 unfolding without
-loop-holds c = (c .count .ensures .0, omega arith, c .count .ensures .1, refl, omega arith, refl)
+loop-holds c = (omega arith, refl, omega arith, refl)
 
-entry-at-requires : tie.Need-entry-at-requires Inv-loop μ-loop
-entry-at-requires c κs = search needs
+mul-e : tie.Need-mul-e Inv-loop μ-loop
+mul-e c = search needs
+
+array-copy-out-e : tie.Need-array-copy-out-e Inv-loop μ-loop
+array-copy-out-e c = search needs
 
 add-i : tie.Need-add-i Inv-loop μ-loop
 add-i c = search needs
@@ -42,18 +42,14 @@ loop-less c = search needs
 
 loop-again : tie.Need-loop-again Inv-loop μ-loop
 loop-again c =
-    let l = c .before .before .before .before .before .before .args .line in
-    let h : c .before .before .before .before .loop .i < length (waiting l) = omega (arith, c .before .before .before .before .loop .inv .0) in
-    let q = without-struck (c .before .before .before .before .before .before .args .seats)
-    (waiting l) _ h (sym (ap (λ (x : Entry). getD (c .before .before .before .before .before .before .args .seats) (x .seat) false)
-    (c .before .before .entry-at .ensures)) ∙ sym (c .before .has .ensures) ∙ c .if1 .taken) in (
-      c .before .before .before .before .loop .inv .0,
+    let l = c .before .before .before .before .before .before .before .args .line in
+    let n = c .before .before .before .before .before .before .count .ensures .0 in
+    let h : c .before .before .before .before .loop .i < length (l .entries) = omega (arith, n, waiting-within l) in
+    let q = without-struck (c .before .before .before .before .before .before .before .args .seats) (l .entries) _ h (sym (c .before .has .ensures) ∙ c .if1 .taken) in (
       omega arith,
-      c .before .before .before .before .loop .inv .2,
-      c .before .before .before .before .loop .inv .3 ∙ ap length (sym q),
+      c .before .before .before .before .loop .inv .1 ∙ ap length (sym q),
       omega arith,
-      c .before .before .before .before .loop .inv .5
-          ∙ ap padded (sym q),
+      c .before .before .before .before .loop .inv .3 ∙ ap padded (sym q),
     )
 
 mul-entries : tie.Need-mul-entries Inv-loop μ-loop
@@ -70,35 +66,34 @@ loop-less-2 c = search needs
 
 loop-again-2 : tie.Need-loop-again-2 Inv-loop μ-loop
 loop-again-2 c =
-    let l = c .before .before .before .before .before .before .args .line in
-    let h : c .before .before .before .before .loop .i < length (waiting l) = omega (arith, c .before .before .before .before .loop .inv .0) in
-    let k = without (c .before .before .before .before .before .before .args .seats)
-    (take (c .before .before .before .before .loop .i) (waiting l)) in
-    let x = getD (waiting l) (c .before .before .before .before .loop .i) empty in
-    let q : without (c .before .before .before .before .before .before .args .seats)
-    (take (c .before .before .before .before .loop .i + 1)
-    (waiting l)) ≡ k ++ (x ∷ []) = without-kept (c .before .before .before .before .before .before .args .seats)
-    (waiting l) _ h (sym (ap (λ (x : Entry). getD (c .before .before .before .before .before .before .args .seats) (x .seat) false)
-    (c .before .before .entry-at .ensures)) ∙ sym (c .before .has .ensures) ∙ c .if1 .left) in
-    let m : c .before .before .before .before .loop .len ≡ length k = c .before .before .before .before .loop .inv .3 in
-    let z : length k < 15 = omega (arith, c .before .before .before .before .loop .inv .2) in (
-      c .before .before .before .before .loop .inv .0,
+    let l = c .before .before .before .before .before .before .before .args .line in
+    let n = c .before .before .before .before .before .before .count .ensures .0 in
+    let h : c .before .before .before .before .loop .i < length (l .entries) = omega (arith, n, waiting-within l) in
+    let k = without (c .before .before .before .before .before .before .before .args .seats) (take (c .before .before .before .before .loop .i) (l .entries)) in
+    let x = getD (l .entries) (c .before .before .before .before .loop .i) empty in
+    let q : without (c .before .before .before .before .before .before .before .args .seats) (take (c .before .before .before .before .loop .i + 1) (l .entries)) ≡ k ++ (x ∷ []) =
+    without-kept (c .before .before .before .before .before .before .before .args .seats) (l .entries) _ h (sym (c .before .has .ensures) ∙ c .if1 .left) in
+    let m : c .before .before .before .before .loop .len ≡ length k = c .before .before .before .before .loop .inv .1 in
+    let z : length k < 15 = omega (arith, c .before .before .before .before .before .before .count .ensures .1) in (
       omega arith,
-      c .before .before .before .before .loop .inv .2,
       rw (q, length-append) (omega arith),
       omega arith,
-      rw q (padded-next _ k _ _ x (c .before .before .before .before .loop .inv .5) m (c .before .before .entry-at .ensures) z),
+      rw q (padded-next _ k _ _ x (c .before .before .before .before .loop .inv .3) m refl z),
     )
 
 returns : tie.Need-returns Inv-loop μ-loop
-returns c = let l = waiting (c .before .before .before .args .line) in
-    let h : length l ≤ c .before .loop .i = omega (arith, c .before .loop .inv .0) in
-    let t : take (c .before .loop .i) l ≡ l = take-all _ l h in
-    let e : c .before .loop .entries ≡ padded (without (c .before .before .before .args .seats) l) = rw t at (c .before .loop .inv .5) in
-    let n : c .before .loop .len ≡ length (without (c .before .before .before .args .seats) l) = rw t at (c .before .loop .inv .3) in
-    let w : length (without (c .before .before .before .args .seats) l) ≤ 15 = omega (arith, c .before .loop .inv .2, c .before .loop .inv .4) in
-    let q : record { entries = c .before .loop .entries; len = c .before .loop .len } ≡ lineOf (without (c .before .before .before .args .seats) l) = line-is _ _ _ e (n ∙ sym (ap length (take-all 15 (without (c .before .before .before .args .seats) l) w))) in
-    (q, ap waiting q ∙ waiting-lineOf (without (c .before .before .before .args .seats) l) w)
+returns c =
+    let l = c .before .before .before .before .args .line in
+    let n = c .before .before .before .count .ensures .0 in
+    let s = c .before .before .before .before .args .seats in
+    let i : c .before .loop .i ≡ c .before .before .before .count .result = omega arith in
+    let t : take (c .before .loop .i) (l .entries) ≡ waiting l = rw i (waiting-first l _ n) in
+    let e : c .before .loop .entries ≡ padded (without s (waiting l)) = rw t at (c .before .loop .inv .3) in
+    let n : c .before .loop .len ≡ length (without s (waiting l)) = rw t at (c .before .loop .inv .1) in
+    let w : length (without s (waiting l)) ≤ 15 = omega (arith, c .before .before .before .count .ensures .1, c .before .loop .inv .2) in
+    let q : record { entries = c .before .loop .entries; len = c .before .loop .len } ≡ lineOf (without s (waiting l)) =
+    line-is _ _ _ e (n ∙ sym (ap length (take-all 15 (without s (waiting l)) w))) in
+    (q, ap waiting q ∙ waiting-lineOf (without s (waiting l)) w)
 
 pub struck-spec : {M : Type 1} → statement M
 struck-spec =
@@ -108,7 +103,8 @@ struck-spec =
     μ-loop
     count-requires
     loop-holds
-    entry-at-requires
+    mul-e
+    array-copy-out-e
     add-i
     has-requires
     loop-less

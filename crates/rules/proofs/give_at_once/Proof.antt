@@ -1,18 +1,15 @@
 -- `rules::give_at_once` meets its contract. Assumes nothing.
-use borrow.Author.Needs.{needs}
 use Rattle.rules.specs.Floor.{givenAtOnce}
+use borrow.Author.Needs.{needs}
 use Rattle.rules.proofs.give_at_once.Statement.{statement}
 use Rattle.rules.proofs.give_at_once.Tie as tie
 
 give-requires : tie.Need-give-requires
 give-requires c κs = search needs
 
-mark-given-requires : tie.Need-mark-given-requires
-mark-given-requires c κs = search needs
-
 returns : tie.Need-returns
 unfolding givenAtOnce
-returns c = rw (c .mark-given .ensures, c .before .give .ensures)
+returns c = c .give .ensures
 
 pub give-at-once-spec : {M : Type 1} → statement M
-give-at-once-spec = tie.close (tie.spec give-requires mark-given-requires returns)
+give-at-once-spec = tie.close (tie.spec give-requires returns)

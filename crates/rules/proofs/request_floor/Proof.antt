@@ -53,44 +53,21 @@ returns-3 c =
 is-press-requires : tie.Need-is-press-requires
 is-press-requires c κs = search needs
 
-is-waiting-requires : tie.Need-is-waiting-requires
-is-waiting-requires c κs = search needs
-
-ask-again-requires : tie.Need-ask-again-requires
-ask-again-requires c κs = search needs
-
-newcomer-requires : tie.Need-newcomer-requires
-newcomer-requires c κs = search needs
+ask-requires : tie.Need-ask-requires
+ask-requires c κs = search needs
 
 returns-4 : tie.Need-returns-4
 unfolding request if_then_else_
 returns-4 c =
     rw (
-      sym (c .before .before .before .before .before .before .before .before .before .is-holder .ensures),
-      c .before .before .before .before .before .before .before .before .if1 .left,
-      sym (c .before .before .before .before .before .before .before .receives-only .ensures),
-      c .before .before .before .before .before .before .if2 .left,
-      sym (c .before .before .before .before .before .is-idle .ensures),
-      c .before .before .before .before .if3 .left,
-      sym (c .before .before .before .is-press .ensures),
-      sym (c .before .before .is-waiting .ensures),
-      c .before .if4 .taken,
-    ) (c .ask-again .ensures)
-
-returns-5 : tie.Need-returns-5
-unfolding request if_then_else_
-returns-5 c =
-    rw (
-      sym (c .before .before .before .before .before .before .before .before .before .is-holder .ensures),
-      c .before .before .before .before .before .before .before .before .if1 .left,
-      sym (c .before .before .before .before .before .before .before .receives-only .ensures),
-      c .before .before .before .before .before .before .if2 .left,
-      sym (c .before .before .before .before .before .is-idle .ensures),
-      c .before .before .before .before .if3 .left,
-      sym (c .before .before .before .is-press .ensures),
-      sym (c .before .before .is-waiting .ensures),
-      c .before .if4 .left,
-    ) (c .newcomer .ensures)
+      sym (c .before .before .before .before .before .before .before .is-holder .ensures),
+      c .before .before .before .before .before .before .if1 .left,
+      sym (c .before .before .before .before .before .receives-only .ensures),
+      c .before .before .before .before .if2 .left,
+      sym (c .before .before .before .is-idle .ensures),
+      c .before .before .if3 .left,
+      sym (c .before .is-press .ensures),
+    ) (c .ask .ensures)
 
 pub request-floor-spec : {M : Type 1} → statement M
 request-floor-spec =
@@ -106,8 +83,5 @@ request-floor-spec =
     idle-request-requires
     returns-3
     is-press-requires
-    is-waiting-requires
-    ask-again-requires
-    newcomer-requires
-    returns-4
-    returns-5)
+    ask-requires
+    returns-4)

@@ -1,7 +1,8 @@
 -- `rules::rule_6` meets its contract. Assumes nothing.
-use mathlib.Core.Path.{sym}
-use borrow.Author.Needs.{needs}
+use mathlib.Core.Path.{_∙_}
 use Rattle.rules.specs.Request.{rule6}
+use Rattle.rules.proofs.Laws.{pressed-placing}
+use borrow.Author.Needs.{needs}
 use Rattle.rules.proofs.rule_6.Statement.{statement}
 use Rattle.rules.proofs.rule_6.Tie as tie
 
@@ -13,7 +14,7 @@ press-on-requires c κs = search needs
 
 returns : tie.Need-returns
 unfolding rule6
-returns c = rw (sym (c .before .inform .ensures)) (c .press-on .ensures)
+returns c = rw (c .before .inform .ensures) at (c .press-on .ensures) ∙ pressed-placing _ _ _ _
 
 pub rule-6-spec : {M : Type 1} → statement M
 rule-6-spec = tie.close (tie.spec inform-requires press-on-requires returns)
