@@ -12,7 +12,6 @@ use rules::Marks;
 use rules::Step;
 ghost use mathlib.Core.Path.{_≡_};
 ghost use Rattle.reading.specs.Reading.{told};
-ghost use Rattle.hall.specs.Answers.{number};
 ghost use Rattle.call.specs.Call.{askedIn, eventBy, eventOf, ofStep, unread, hears, answerOf};
 
 // What a packet brought about: the answer as the paper's number, the core afterwards, the messages and the marks.
@@ -22,23 +21,6 @@ pub struct Called {
     pub first: rules::Message,
     pub second: rules::Message,
     pub marks: Marks,
-}
-
-// The number of an answer of the desk; 0 is done.
-pub fn answer_number(answer: Answer) -> u8
-    ensures { λ n. ⌜ n ≡ number answer ⌝ }
-{
-    match answer {
-        Answer::Done => 0,
-        Answer::CallStopped => 21,
-        Answer::NoSuchSeat => 22,
-        Answer::NotExpected => 23,
-        Answer::AllSeatsTaken => 24,
-        Answer::IdentityLength => 25,
-        Answer::IdentityPresent => 26,
-        Answer::SsrcPresent => 27,
-        Answer::OutsideRange => 28,
-    }
 }
 
 // The number of an answer of the reader; 0 is a message.
@@ -92,7 +74,7 @@ pub fn of_step(step: Step) -> Called
     let second = report.second;
     let marks = report.marks;
     Called {
-        answer: answer_number(answer),
+        answer: hall::number_of(answer),
         core,
         first,
         second,

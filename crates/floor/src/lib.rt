@@ -205,7 +205,7 @@ fn settle_left(desk: &mut [u8], report: &mut [u8], left: Left) -> u32
     let first = said.first;
     let second = said.second;
     let marks = said.marks;
-    let n = call::answer_number(answer);
+    let n = hall::number_of(answer);
     if n != 0 {
         return n as u32;
     }
@@ -343,7 +343,7 @@ pub extern "C" fn floor_join(
         let answer = joined.answer;
         let more = joined.hall;
         let named = joined.names;
-        write_desk(desk, call::answer_number(answer), core, more, named)
+        write_desk(desk, hall::number_of(answer), core, more, named)
     } else {
         20
     }

@@ -361,7 +361,7 @@ fn steps(title: &[u8], b: Bench, event: Event) -> Bench {
     let first = report.first;
     let second = report.second;
     let marks = report.marks;
-    show_answer(call::answer_number(answer));
+    show_answer(hall::number_of(answer));
     show_message(hall, names, first);
     show_message(hall, names, second);
     show_marks(marks);
@@ -383,7 +383,7 @@ fn leaves(title: &[u8], b: Bench, seat: u8) -> Bench {
     let first = report.first;
     let second = report.second;
     let marks = report.marks;
-    show_answer(call::answer_number(answer));
+    show_answer(hall::number_of(answer));
     show_message(hall, names, first);
     show_message(hall, names, second);
     show_marks(marks);

@@ -4,13 +4,13 @@ use Rattle.call.proofs.of_step.Statement.{statement}
 use Rattle.call.proofs.of_step.Tie as tie
 use Rattle.call.proofs.of_step.Reads as reads
 use Rattle.call.proofs.of_step.Lts as lts
-use Rattle.call.proofs.answer_number.Reads as answer-number-reads
+use Rattle.hall.proofs.number_of.Reads as number-of-reads
 
-answer-number-requires : tie.Need-answer-number-requires
-answer-number-requires c κs = search needs
+number-of-requires : tie.Need-number-of-requires
+number-of-requires c κs = search needs
 
 returns : tie.Need-returns
-returns c = rw (c .answer-number .ensures)
+returns c = rw (c .number-of .ensures)
 
 pub of-step-spec : {M : Type 1} → statement M
-of-step-spec = tie.close (tie.spec answer-number-requires returns)
+of-step-spec = tie.close (tie.spec number-of-requires returns)

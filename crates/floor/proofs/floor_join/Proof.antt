@@ -6,7 +6,7 @@ use Rattle.floor.proofs.floor_join.Statement.{statement}
 use Rattle.floor.proofs.floor_join.Tie as tie
 use Rattle.floor.proofs.floor_join.Reads as reads
 use Rattle.floor.proofs.floor_join.Lts as lts
-use Rattle.call.proofs.answer_number.Reads as answer-number-reads
+use Rattle.hall.proofs.number_of.Reads as number-of-reads
 use Rattle.floor.proofs.is_desk.Reads as is-desk-reads
 use Rattle.floor.proofs.write_desk.Reads as write-desk-reads
 use Rattle.form.proofs.core_at.Reads as core-at-reads
@@ -29,8 +29,8 @@ names-at-requires c κs = has-room _ (sym (c .before .before .before .before .be
 join-call-requires : tie.Need-join-call-requires
 join-call-requires c κs = search needs
 
-answer-number-requires : tie.Need-answer-number-requires
-answer-number-requires c κs = search needs
+number-of-requires : tie.Need-number-of-requires
+number-of-requires c κs = search needs
 
 write-desk-requires : tie.Need-write-desk-requires
 write-desk-requires c κs = search needs
@@ -39,7 +39,7 @@ same-length : tie.Need-same-length
 same-length c = search needs
 
 returns : tie.Need-returns
-returns c = rw (← (c .before .before .before .before .before .before .before .before .before .before .before .before .core-at .ensures), ← (c .before .before .before .before .before .before .before .before .before .before .hall-at .ensures), ← (c .before .before .before .before .before .before .before .before .names-at .ensures), ← (c .before .before .before .before .before .before .before .join-call .ensures), ← (c .before .before .before .answer-number .ensures)) (c .before .before .write-desk .ensures ∙ sym (if-yes _ _ _ (sym (c .before .before .before .before .before .before .before .before .before .before .before .before .before .before .before .is-desk .ensures) ∙ c .before .before .before .before .before .before .before .before .before .before .before .before .before .before .if1 .taken)))
+returns c = rw (← (c .before .before .before .before .before .before .before .before .before .before .before .before .core-at .ensures), ← (c .before .before .before .before .before .before .before .before .before .before .hall-at .ensures), ← (c .before .before .before .before .before .before .before .before .names-at .ensures), ← (c .before .before .before .before .before .before .before .join-call .ensures), ← (c .before .before .before .number-of .ensures)) (c .before .before .write-desk .ensures ∙ sym (if-yes _ _ _ (sym (c .before .before .before .before .before .before .before .before .before .before .before .before .before .before .before .is-desk .ensures) ∙ c .before .before .before .before .before .before .before .before .before .before .before .before .before .before .if1 .taken)))
 
 same-length-2 : tie.Need-same-length-2
 same-length-2 c = search needs
@@ -56,7 +56,7 @@ floor-join-spec =
     hall-at-requires
     names-at-requires
     join-call-requires
-    answer-number-requires
+    number-of-requires
     write-desk-requires
     same-length
     returns
