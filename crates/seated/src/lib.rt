@@ -2,13 +2,13 @@
 // proofs/Seated.antt has that it is the test of the seats that the octets stand for.
 ghost use mathlib.Core.Path.{_≡_};
 ghost use mathlib.Core.Bool.{true};
-ghost use Prim.Native.Nat.{_+_, _*_, _≤_, _<_};
+ghost use Prim.Native.Nat.{_+_, _*_, _-_, _≤_, _<_, min};
 ghost use lib.ListN.{length};
 ghost use Rattle.words.specs.Below.{allBelow};
 ghost use Rattle.octets.specs.Octets.{be32};
 ghost use Rattle.form.specs.Form.{octetAt, flagAt, hallAt, namesAt, upTo, namesFit};
 ghost use Rattle.sound.specs.Test.{seatsSound};
-ghost use Rattle.seated.specs.Seated.{sameOctets, hasSsrcOf, hasNameOf, ssrcFirst, nameFirst, behind, takenFits, freeFits, seatFits};
+ghost use Rattle.seated.specs.Seated.{ssrcAt, sameOctets, hasSsrcOf, hasNameOf, ssrcFirst, nameFirst, behind, takenFits, freeFits, seatFits};
 
 fn wide(x: u8) -> usize
     ensures { λ r. ⌜ r ≡ x ⌝ }
@@ -17,24 +17,7 @@ fn wide(x: u8) -> usize
 }
 
 // Sixty-two octets at a time: thirty-two from the start and thirty-two up to the end, two of them in both. So all of it is whole vectors,
-// and nothing is left over. Zeros are asked from two places more: a shorter turn would be unrolled octet by octet before it is made vectors.
-
-fn none_at(s: &[u8], at: usize) -> bool
-    requires { ⌜ at + 62 ≤ length (now s) ⌝ }
-    ensures { λ r. ⌜ r ≡ upTo 0 (now (s .entry)) at 62 ⌝ }
-{
-    let mut ok = true;
-    let mut i = 0;
-    while i < 32 {
-        let j = 10 + i;
-        let k = 20 + i;
-        let l = 30 + i;
-        let here = (s[at + i] <= 0) & (s[at + j] <= 0) & (s[at + k] <= 0) & (s[at + l] <= 0);
-        ok = here & ok;
-        i += 1;
-    }
-    ok
-}
+// and nothing is left over.
 
 fn same_octets(s: &[u8], a: usize, b: usize) -> bool
     requires { ⌜ a + 62 ≤ length (now s) ⌝ }
@@ -52,7 +35,34 @@ fn same_octets(s: &[u8], a: usize, b: usize) -> bool
     ok
 }
 
-// The zeros behind a seat's identity; a seat that has none is the most frequent, and has a test of its own.
+// The zeros behind a seat's identity: four times sixteen octets at once, a later sixteen moved back where it would pass the end. Only an
+// identity of more than 46 octets has fewer than sixteen behind it.
+
+fn at_most_46(n: usize) -> usize
+    ensures { λ r. ⌜ r ≡ min n 46 ⌝ }
+{
+    if n < 46 { n } else { 46 }
+}
+
+fn zero_from(s: &[u8], at: usize, len: usize) -> bool
+    requires { ⌜ at + 62 ≤ length (now s) ⌝ }
+    requires { ⌜ len ≤ 46 ⌝ }
+    ensures { λ r. ⌜ r ≡ upTo 0 (now (s .entry)) (at + len) (62 - len) ⌝ }
+{
+    let a = at + len;
+    let b = at + at_most_46(len + 16);
+    let c = at + at_most_46(len + 32);
+    let d = at + 46;
+    let mut ok = true;
+    let mut i = 0;
+    while i < 16 {
+        let here = (s[a + i] <= 0) & (s[b + i] <= 0) & (s[c + i] <= 0) & (s[d + i] <= 0);
+        ok = here & ok;
+        i += 1;
+    }
+    ok
+}
+
 fn behind_is_zero(s: &[u8], seat: usize) -> bool
     requires { ⌜ 1200 ≤ length (now s) ⌝ }
     requires { ⌜ seat < 16 ⌝ }
@@ -61,10 +71,11 @@ fn behind_is_zero(s: &[u8], seat: usize) -> bool
 {
     let at = 208 + 62 * seat;
     let len = wide(s[192 + seat]);
-    if len == 0 {
-        return none_at(s, at);
+    if len <= 46 {
+        zero_from(s, at, len)
+    } else {
+        form::up_to(s, 0, at + len, 62 - len)
     }
-    form::up_to(s, 0, at + len, 62 - len)
 }
 
 // A seat against those before it.
@@ -79,12 +90,12 @@ fn has_ssrc(s: &[u8], seat: usize, ssrc: u32) -> bool
     taken & same
 }
 
-fn ssrc_is_first(s: &[u8], seat: usize) -> bool
+fn ssrc_is_first(s: &[u8], seat: usize, ssrc: u32) -> bool
     requires { ⌜ 1200 ≤ length (now s) ⌝ }
     requires { ⌜ seat < 16 ⌝ }
+    requires { ⌜ ssrc ≡ ssrcAt (now s) seat ⌝ }
     ensures { λ r. ⌜ r ≡ ssrcFirst (now (s .entry)) seat ⌝ }
 {
-    let ssrc = octets::number32(s, 64 + 4 * seat);
     let mut ok = true;
     let mut t = 0;
     while t < seat {
@@ -127,24 +138,26 @@ fn name_is_first(s: &[u8], seat: usize) -> bool
 
 // The seats.
 
-fn taken_fits(s: &[u8], seat: usize) -> bool
+fn taken_fits(s: &[u8], seat: usize, ssrc: u32) -> bool
     requires { ⌜ 1200 ≤ length (now s) ⌝ }
     requires { ⌜ seat < 16 ⌝ }
+    requires { ⌜ ssrc ≡ ssrcAt (now s) seat ⌝ }
     ensures { λ r. ⌜ r ≡ takenFits (now (s .entry)) seat ⌝ }
 {
-    let own = octets::number32(s, 64 + 4 * seat) == octets::number32(s, 176);
-    let by_ssrc = ssrc_is_first(s, seat);
+    let own = ssrc == octets::number32(s, 176);
+    let by_ssrc = ssrc_is_first(s, seat, ssrc);
     let named = 1 <= s[192 + seat];
     let by_name = name_is_first(s, seat);
     !own & by_ssrc & named & by_name
 }
 
-fn free_fits(s: &[u8], seat: usize) -> bool
+fn free_fits(s: &[u8], seat: usize, ssrc: u32) -> bool
     requires { ⌜ 1200 ≤ length (now s) ⌝ }
     requires { ⌜ seat < 16 ⌝ }
+    requires { ⌜ ssrc ≡ ssrcAt (now s) seat ⌝ }
     ensures { λ r. ⌜ r ≡ freeFits (now (s .entry)) seat ⌝ }
 {
-    let no_ssrc = octets::number32(s, 64 + 4 * seat) == 0;
+    let no_ssrc = ssrc == 0;
     let no_priority = s[128 + seat] == 0;
     let queueing = s[144 + seat] == 1;
     let listener = s[160 + seat] == 1;
@@ -159,11 +172,12 @@ fn seat_fits(s: &[u8], seat: usize) -> bool
     ensures { λ r. ⌜ r ≡ seatFits (now (s .entry)) seat ⌝ }
 {
     let whole = behind_is_zero(s, seat);
+    let ssrc = octets::number32(s, 64 + 4 * seat);
     if s[48 + seat] == 1 {
-        let taken = taken_fits(s, seat);
+        let taken = taken_fits(s, seat, ssrc);
         whole & taken
     } else {
-        let free = free_fits(s, seat);
+        let free = free_fits(s, seat, ssrc);
         whole & free
     }
 }

@@ -5,15 +5,6 @@ use borrow.Author.Needs.{needs}
 use Rattle.seated.proofs.free_fits.Statement.{statement}
 use Rattle.seated.proofs.free_fits.Tie as tie
 
-mul-number32 : tie.Need-mul-number32
-mul-number32 c = search needs
-
-add-number32 : tie.Need-add-number32
-add-number32 c = search needs
-
-number32-requires : tie.Need-number32-requires
-number32-requires c κs = search needs
-
 add-no-priority : tie.Need-add-no-priority
 add-no-priority c = search needs
 
@@ -40,15 +31,12 @@ shared-slice-read-no-name c = search needs
 
 returns : tie.Need-returns
 unfolding freeFits
-returns c = rw (c .before .before .before .before .number32 .ensures)
+returns c = rw (c .before .before .before .before .pre .1 .1)
 
 pub free-fits-spec : {M : Type 1} → statement M
 free-fits-spec =
     tie.close
     (tie.spec
-    mul-number32
-    add-number32
-    number32-requires
     add-no-priority
     shared-slice-read-no-priority
     add-queueing
