@@ -50,10 +50,8 @@ fn is_desk(desk: &[u8]) -> bool
     ensures { λ r. ⌜ r ≡ formed (now (desk .entry)) ⌝ }
 {
     if form::is_canonical(desk) {
-        let core = form::core_at(desk);
-        let hall = form::hall_at(desk);
         let seats = seated::seats_are_sound(desk);
-        let floor = sound::core_is_sound(hall, core);
+        let floor = sound::core_is_sound(desk);
         seats & floor
     } else {
         false

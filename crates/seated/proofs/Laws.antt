@@ -19,23 +19,9 @@ use Rattle.form.specs.Columns.{every}
 use Rattle.form.specs.Form.{octetAt, upTo, namesFit}
 use Rattle.form.proofs.Columns.{every-at, every-all}
 use Rattle.sound.specs.Test.{finds}
-use Rattle.sound.proofs.Laws.{all-below}
+use Rattle.sound.proofs.Laws.{all-below, together}
 use Rattle.sound.proofs.Seats.{finds-at}
 use Rattle.seated.specs.Seated.{lengthAt}
-
--- two tests that pass together are the same
-pub together : (a b : Bool) → (a ≡ true → b ≡ true) → (b ≡ true → a ≡ true) → a ≡ b
-together true b f g = sym (f refl)
-together false true f g = g refl
-together false false f g = refl
-
--- two tests of every number below n that are the same at each
-pub below-same : (f g : ℕ → Bool) (n : ℕ) → ((i : ℕ) → i < n → f i ≡ g i) → allBelow f n ≡ allBelow g n
-below-same f g zero h = refl
-below-same f g (suc n) h =
-    let e : f n ≡ g n = h n (omega arith) in
-    let r : allBelow f n ≡ allBelow g n = below-same f g n (λ i b. h i (omega arith)) in
-    rw (e, r)
 
 -- thirty-two places from the start and thirty-two up to the end are all sixty-two
 pub halves : (f : ℕ → Bool) → allBelow (λ i. f i && f (30 + i)) 32 ≡ allBelow f 62
