@@ -43,6 +43,10 @@ pub fits-core : (d : List ℕ) → canonical d ≡ true → coreFits d ≡ true
 unfolding canonical
 fits-core d q = and-five (eqb (length d) 1200) (lettersFit d) (coreFits d) (hallFits d) (namesFit d) q .2
 
+pub fits-hall : (d : List ℕ) → canonical d ≡ true → hallFits d ≡ true
+unfolding canonical
+fits-hall d q = and-five (eqb (length d) 1200) (lettersFit d) (coreFits d) (hallFits d) (namesFit d) q .3
+
 module _ (d : List ℕ) (q : formed d ≡ true) where
   pub fits : canonical d ≡ true
   unfolding formed

@@ -10,18 +10,18 @@ use lib.Dec.{eqb, leb, ltb}
 use borrow.Author.Tests.{eqb-true, eqb-false, eq-eqb, leb-true, ltb-true, ltb-false, not-true}
 use Rattle.words.specs.Choice.{if-yes, if-no, by-test}
 use Rattle.words.specs.Below.{allBelow, below, and-left, and-right}
-use Rattle.words.proofs.Tests.{both, and-four, four}
+use Rattle.words.proofs.Tests.{clash, both, and-four, and-five, four, and-no}
 use Rattle.hall.specs.declared.Found.{Found}
 use Rattle.hall.specs.declared.Found.the-variants.{At}
 use Rattle.hall.specs.Seats.{firstFrom, lowest}
 use Rattle.hall.proofs.Laws.{at-same}
 use Rattle.form.specs.Columns.{every}
-use Rattle.form.specs.Form.{octetAt, upTo, namesFit}
+use Rattle.form.specs.Form.{octetAt, flagAt, upTo, hallFits, namesFit}
 use Rattle.form.proofs.Columns.{every-at, every-all}
 use Rattle.sound.specs.Test.{finds}
 use Rattle.sound.proofs.Laws.{all-below, together}
 use Rattle.sound.proofs.Seats.{finds-at}
-use Rattle.seated.specs.Seated.{lengthAt}
+use Rattle.seated.specs.Seated.{ssrcAt, lengthAt, startOf, behind, freeFits}
 
 -- thirty-two places from the start and thirty-two up to the end are all sixty-two
 pub halves : (f : ℕ → Bool) → allBelow (λ i. f i && f (30 + i)) 32 ≡ allBelow f 62
@@ -33,6 +33,17 @@ halves f =
     ap f (sym e) ∙ and-right (f (i - 30)) (f (30 + (i - 30))) (below (λ k. f k && f (30 + k)) 32 q (i - 30) (omega arith)))))
     (λ q. all-below (λ i. f i && f (30 + i)) 32
     (λ i b. both (f i) (f (30 + i)) (below f 62 q i (omega arith)) (below f 62 q (30 + i) (omega arith))))
+
+-- and so they are with thirty-two from two places more
+pub quarters : (f : ℕ → Bool) → allBelow (λ i. f i && f (10 + i) && f (20 + i) && f (30 + i)) 32 ≡ allBelow f 62
+quarters f =
+    together (allBelow (λ i. f i && f (10 + i) && f (20 + i) && f (30 + i)) 32) (allBelow f 62)
+    (λ q. sym (halves f) ∙ all-below (λ i. f i && f (30 + i)) 32
+    (λ i b. let a = and-four (f i) (f (10 + i)) (f (20 + i)) (f (30 + i)) (below (λ k. f k && f (10 + k) && f (20 + k) && f (30 + k)) 32 q i b) in
+    both (f i) (f (30 + i)) (a .0) (a .3)))
+    (λ q. all-below (λ i. f i && f (10 + i) && f (20 + i) && f (30 + i)) 32
+    (λ i b. four (f i) (f (10 + i)) (f (20 + i)) (f (30 + i)) (below f 62 q i (omega arith)) (below f 62 q (10 + i) (omega arith))
+    (below f 62 q (20 + i) (omega arith)) (below f 62 q (30 + i) (omega arith))))
 
 -- four times sixteen places, each beginning at most sixteen behind the one before, are all from the first to the end of the last
 abbrev pub at-four : (ℕ → Bool) → ℕ → ℕ → ℕ → ℕ → ℕ → Bool
@@ -70,10 +81,44 @@ counted top s at n =
     (λ q. every-all (λ i. leb (octetAt s i) top) at n (below (λ i. leb (octetAt s (at + i)) top) n q))
     (λ q. all-below (λ i. leb (octetAt s (at + i)) top) n (every-at (λ i. leb (octetAt s i) top) at n q))
 
--- lengths are at most 62
+-- two tests that have the same start are the same only if it is
+pub starts : (f : ℕ → Bool) (m n : ℕ) → m ≤ n → allBelow f m ≡ false → allBelow f n ≡ false
+starts f m n h q =
+    by-test (allBelow f n) (λ t. clash (all-below f m (λ i b. below f n t i (omega arith))) q) (λ t. t)
+
+-- a flag that is not set is zero
+pub flag-zero : (o : ℕ) → o ≤ 1 → eqb o 0 ≡ not (eqb o 1)
+flag-zero zero h = refl
+flag-zero (suc zero) h = refl
+flag-zero (suc (suc n)) h = absurd (omega arith)
+
+-- lengths are at most 62, and flags at most 1
 pub fits-length : (s : List ℕ) → namesFit s ≡ true → (seat : ℕ) → seat < 16 → lengthAt s seat ≤ 62
 unfolding namesFit upTo
 fits-length s q seat b = leb-true _ _ (every-at (λ i. leb (octetAt s i) 62) 192 16 q seat b)
+
+pub fits-flags : (s : List ℕ) → hallFits s ≡ true → (seat : ℕ) → seat < 16 → (octetAt s (144 + seat) ≤ 1) × (octetAt s (160 + seat) ≤ 1)
+unfolding hallFits upTo
+fits-flags s q seat b =
+    let a = and-four (upTo 1 s 48 16) (upTo 1 s 144 16) (upTo 1 s 160 16) (upTo 0 s 186 6) q in
+    (leb-true _ _ (every-at (λ i. leb (octetAt s i) 1) 144 16 (a .1) seat b), leb-true _ _ (every-at (λ i. leb (octetAt s i) 1) 160 16 (a .2) seat b))
+
+no-length : (s : List ℕ) (seat : ℕ) → freeFits s seat ≡ true → lengthAt s seat ≡ 0
+unfolding freeFits
+no-length s seat q =
+    eqb-true (lengthAt s seat) 0
+    (and-five (eqb (ssrcAt s seat) 0) (eqb (octetAt s (128 + seat)) 0) (not (flagAt s (144 + seat))) (not (flagAt s (160 + seat))) (eqb (lengthAt s seat) 0) q .4)
+
+-- of a free seat, that has no identity, all sixty-two octets are asked
+pub free-whole : (s : List ℕ) (seat : ℕ) → (upTo 0 s (startOf seat) 62 && freeFits s seat) ≡ (behind s seat && freeFits s seat)
+unfolding behind
+free-whole s seat =
+    by-test (freeFits s seat)
+    (λ t. ap (λ (b : Bool). b && freeFits s seat) (none (no-length s seat t)))
+    (λ t. and-no (upTo 0 s (startOf seat) 62) (freeFits s seat) t ∙ sym (and-no (upTo 0 s (startOf seat + lengthAt s seat) (62 - lengthAt s seat)) (freeFits s seat) t))
+  where
+    none : lengthAt s seat ≡ 0 → upTo 0 s (startOf seat) 62 ≡ upTo 0 s (startOf seat + lengthAt s seat) (62 - lengthAt s seat)
+    none e = rw (e, add-zero (startOf seat))
 
 -- the search for the lowest seat finds a seat that passes exactly if none before it does
 module _ (p : ℕ → Bool) where

@@ -6,9 +6,9 @@ ghost use Prim.Native.Nat.{_+_, _*_, _-_, _≤_, _<_, min};
 ghost use lib.ListN.{length};
 ghost use Rattle.words.specs.Below.{allBelow};
 ghost use Rattle.octets.specs.Octets.{be32};
-ghost use Rattle.form.specs.Form.{octetAt, flagAt, hallAt, namesAt, upTo, namesFit};
+ghost use Rattle.form.specs.Form.{octetAt, flagAt, hallAt, namesAt, upTo, hallFits, namesFit};
 ghost use Rattle.sound.specs.Test.{seatsSound};
-ghost use Rattle.seated.specs.Seated.{ssrcAt, sameOctets, hasSsrcOf, hasNameOf, ssrcFirst, nameFirst, behind, takenFits, freeFits, seatFits};
+ghost use Rattle.seated.specs.Seated.{ssrcAt, agree, sameOctets, hasSsrcOf, hasNameOf, ssrcFirst, nameFirst, behind, takenFits, freeFits, seatFits};
 
 fn wide(x: u8) -> usize
     ensures { λ r. ⌜ r ≡ x ⌝ }
@@ -17,7 +17,24 @@ fn wide(x: u8) -> usize
 }
 
 // Sixty-two octets at a time: thirty-two from the start and thirty-two up to the end, two of them in both. So all of it is whole vectors,
-// and nothing is left over.
+// and nothing is left over. Zeros are asked from two places more: a shorter turn would be unrolled octet by octet before it is made vectors.
+
+fn none_at(s: &[u8], at: usize) -> bool
+    requires { ⌜ at + 62 ≤ length (now s) ⌝ }
+    ensures { λ r. ⌜ r ≡ upTo 0 (now (s .entry)) at 62 ⌝ }
+{
+    let mut ok = true;
+    let mut i = 0;
+    while i < 32 {
+        let j = 10 + i;
+        let k = 20 + i;
+        let l = 30 + i;
+        let here = (s[at + i] <= 0) & (s[at + j] <= 0) & (s[at + k] <= 0) & (s[at + l] <= 0);
+        ok = here & ok;
+        i += 1;
+    }
+    ok
+}
 
 fn same_octets(s: &[u8], a: usize, b: usize) -> bool
     requires { ⌜ a + 62 ≤ length (now s) ⌝ }
@@ -106,6 +123,34 @@ fn ssrc_is_first(s: &[u8], seat: usize, ssrc: u32) -> bool
     ok
 }
 
+// Most identities differ in their first sixteen octets.
+fn same_start(s: &[u8], a: usize, b: usize) -> bool
+    requires { ⌜ a + 62 ≤ length (now s) ⌝ }
+    requires { ⌜ b + 62 ≤ length (now s) ⌝ }
+    ensures { λ r. ⌜ r ≡ allBelow (agree (now (s .entry)) a b) 16 ⌝ }
+{
+    let mut ok = true;
+    let mut i = 0;
+    while i < 16 {
+        let here = s[a + i] == s[b + i];
+        ok = here & ok;
+        i += 1;
+    }
+    ok
+}
+
+fn same_name(s: &[u8], a: usize, b: usize) -> bool
+    requires { ⌜ a + 62 ≤ length (now s) ⌝ }
+    requires { ⌜ b + 62 ≤ length (now s) ⌝ }
+    ensures { λ r. ⌜ r ≡ sameOctets (now (s .entry)) a b ⌝ }
+{
+    if same_start(s, a, b) {
+        same_octets(s, a, b)
+    } else {
+        false
+    }
+}
+
 fn has_name(s: &[u8], seat: usize, other: usize) -> bool
     requires { ⌜ 1200 ≤ length (now s) ⌝ }
     requires { ⌜ seat < 16 ⌝ }
@@ -115,7 +160,7 @@ fn has_name(s: &[u8], seat: usize, other: usize) -> bool
     let taken = s[48 + seat] == 1;
     let as_long = s[192 + seat] == s[192 + other];
     if taken & as_long {
-        same_octets(s, 208 + 62 * seat, 208 + 62 * other)
+        same_name(s, 208 + 62 * seat, 208 + 62 * other)
     } else {
         false
     }
@@ -155,28 +200,31 @@ fn free_fits(s: &[u8], seat: usize, ssrc: u32) -> bool
     requires { ⌜ 1200 ≤ length (now s) ⌝ }
     requires { ⌜ seat < 16 ⌝ }
     requires { ⌜ ssrc ≡ ssrcAt (now s) seat ⌝ }
+    requires { ⌜ (octetAt (now s) (144 + seat) ≤ 1) × (octetAt (now s) (160 + seat) ≤ 1) ⌝ }
     ensures { λ r. ⌜ r ≡ freeFits (now (s .entry)) seat ⌝ }
 {
     let no_ssrc = ssrc == 0;
     let no_priority = s[128 + seat] == 0;
-    let queueing = s[144 + seat] == 1;
-    let listener = s[160 + seat] == 1;
+    let no_queueing = s[144 + seat] == 0;
+    let no_listener = s[160 + seat] == 0;
     let no_name = s[192 + seat] == 0;
-    no_ssrc & no_priority & !queueing & !listener & no_name
+    no_ssrc & no_priority & no_queueing & no_listener & no_name
 }
 
 fn seat_fits(s: &[u8], seat: usize) -> bool
     requires { ⌜ 1200 ≤ length (now s) ⌝ }
     requires { ⌜ seat < 16 ⌝ }
     requires { ⌜ octetAt (now s) (192 + seat) ≤ 62 ⌝ }
+    requires { ⌜ (octetAt (now s) (144 + seat) ≤ 1) × (octetAt (now s) (160 + seat) ≤ 1) ⌝ }
     ensures { λ r. ⌜ r ≡ seatFits (now (s .entry)) seat ⌝ }
 {
-    let whole = behind_is_zero(s, seat);
     let ssrc = octets::number32(s, 64 + 4 * seat);
     if s[48 + seat] == 1 {
+        let whole = behind_is_zero(s, seat);
         let taken = taken_fits(s, seat, ssrc);
         whole & taken
     } else {
+        let whole = none_at(s, 208 + 62 * seat);
         let free = free_fits(s, seat, ssrc);
         whole & free
     }
@@ -184,6 +232,7 @@ fn seat_fits(s: &[u8], seat: usize) -> bool
 
 fn each_seat_fits(s: &[u8]) -> bool
     requires { ⌜ 1200 ≤ length (now s) ⌝ }
+    requires { ⌜ hallFits (now s) ≡ true ⌝ }
     requires { ⌜ namesFit (now s) ≡ true ⌝ }
     ensures { λ r. ⌜ r ≡ allBelow (seatFits (now (s .entry))) 16 ⌝ }
 {
@@ -200,6 +249,7 @@ fn each_seat_fits(s: &[u8]) -> bool
 // Whether the seats and the settings that octets stand for are sound.
 pub fn seats_are_sound(s: &[u8]) -> bool
     requires { ⌜ 1200 ≤ length (now s) ⌝ }
+    requires { ⌜ hallFits (now s) ≡ true ⌝ }
     requires { ⌜ namesFit (now s) ≡ true ⌝ }
     ensures { λ r. ⌜ r ≡ seatsSound (hallAt (now (s .entry))) (namesAt (now (s .entry))) ⌝ }
 {

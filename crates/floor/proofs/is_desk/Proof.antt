@@ -3,7 +3,7 @@ use mathlib.Core.Path.{sym, _∙_}
 use borrow.Author.Needs.{needs}
 use Rattle.sound.specs.Test.{isSound}
 use Rattle.floor.specs.Floor.{formed}
-use Rattle.floor.proofs.Desks.{fits-room, fits-core, fits-names}
+use Rattle.floor.proofs.Desks.{fits-room, fits-core, fits-hall, fits-names}
 use Rattle.floor.proofs.is_desk.Statement.{statement}
 use Rattle.floor.proofs.is_desk.Tie as tie
 
@@ -11,7 +11,7 @@ is-canonical-requires : tie.Need-is-canonical-requires
 is-canonical-requires c κs = search needs
 
 seats-are-sound-requires : tie.Need-seats-are-sound-requires
-seats-are-sound-requires c κs = let q = sym (c .before .is-canonical .ensures) ∙ c .if1 .taken in (fits-room _ q, fits-names _ q)
+seats-are-sound-requires c κs = let q = sym (c .before .is-canonical .ensures) ∙ c .if1 .taken in (fits-room _ q, (fits-hall _ q, fits-names _ q))
 
 core-is-sound-requires : tie.Need-core-is-sound-requires
 core-is-sound-requires c κs =
