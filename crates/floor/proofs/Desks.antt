@@ -1,7 +1,7 @@
 -- What octets that are a desk's have, and what a step on them leaves, a law for each way it can end. Assumes nothing.
 use Prim.Native.Nat.{ℕ, _<_, _≤_}
 use mathlib.Core.Path.{_≡_}
-use mathlib.Core.Bool.{true, false, _&&_}
+use mathlib.Core.Bool.{true, false}
 use mathlib.Core.List.{List, append-nil}
 use native.Mathlib.Omega.{arith}
 use lib.Dec.{eqb, leb, ltb}
@@ -11,7 +11,7 @@ use mir.Syntax.{w8}
 use mir.Val.{Fits}
 use borrow.Author.Tests.{eqb-true, ltb-true}
 use Rattle.words.specs.Choice.{if_then_else_}
-use Rattle.words.specs.Below.{and-left, and-right}
+use Rattle.words.specs.Below.{and-left}
 use Rattle.octets.specs.Octets.{over}
 use Rattle.message.specs.Answers.{Answer}
 use Rattle.rules.specs.declared.Core.{Core}
@@ -30,19 +30,22 @@ octets-lent d f i = omega (arith, f i)
 
 pub fits-whole : (d : List ℕ) → canonical d ≡ true → length d ≡ 1200
 unfolding canonical
-fits-whole d q =
-    let l = eqb (length d) 1200 in
-    let a = and-left (l && lettersFit d && coreFits d && hallFits d) (namesFit d) q in
-    let b = and-left (l && lettersFit d && coreFits d) (hallFits d) a in
-    let e = and-left (l && lettersFit d) (coreFits d) b in
-    eqb-true (length d) 1200 (and-left l (lettersFit d) e)
+fits-whole d q = eqb-true (length d) 1200 (and-five (eqb (length d) 1200) (lettersFit d) (coreFits d) (hallFits d) (namesFit d) q .0)
 
 pub fits-room : (d : List ℕ) → canonical d ≡ true → 1200 ≤ length d
 fits-room d q = omega (arith, fits-whole d q)
 
 pub fits-names : (d : List ℕ) → canonical d ≡ true → namesFit d ≡ true
 unfolding canonical
-fits-names d q = and-right (eqb (length d) 1200 && lettersFit d && coreFits d && hallFits d) (namesFit d) q
+fits-names d q = and-five (eqb (length d) 1200) (lettersFit d) (coreFits d) (hallFits d) (namesFit d) q .4
+
+pub fits-core : (d : List ℕ) → canonical d ≡ true → coreFits d ≡ true
+unfolding canonical
+fits-core d q = and-five (eqb (length d) 1200) (lettersFit d) (coreFits d) (hallFits d) (namesFit d) q .2
+
+pub fits-hall : (d : List ℕ) → canonical d ≡ true → hallFits d ≡ true
+unfolding canonical
+fits-hall d q = and-five (eqb (length d) 1200) (lettersFit d) (coreFits d) (hallFits d) (namesFit d) q .3
 
 module _ (d : List ℕ) (q : formed d ≡ true) where
   pub fits : canonical d ≡ true

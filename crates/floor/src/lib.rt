@@ -50,10 +50,8 @@ fn is_desk(desk: &[u8]) -> bool
     ensures { λ r. ⌜ r ≡ formed (now (desk .entry)) ⌝ }
 {
     if form::is_canonical(desk) {
-        let core = form::core_at(desk);
-        let hall = form::hall_at(desk);
         let seats = seated::seats_are_sound(desk);
-        let floor = sound::core_is_sound(hall, core);
+        let floor = sound::core_is_sound(desk);
         seats & floor
     } else {
         false
@@ -66,18 +64,18 @@ fn settle(desk: &mut [u8], report: &mut [u8], called: Called) -> u32
     ensures { λ r. ⌜ leaves r (now (desk .exit)) (now (report .exit)) ≡ calledOn (now (desk .entry)) (now (report .entry)) called ⌝ }
 {
     let answer = called.answer;
-    let core = called.core;
-    let first = called.first;
-    let second = called.second;
-    let marks = called.marks;
     if answer != 0 {
         return answer as u32;
     }
     if report.len() < 24 {
         return 13;
     }
-    form::put_core(desk, core);
+    let core = called.core;
+    let first = called.first;
+    let second = called.second;
+    let marks = called.marks;
     report::put_report(report, first, second, marks);
+    form::put_core(desk, core);
     0
 }
 

@@ -9,7 +9,7 @@ ghost use mathlib.Core.List.{List, [], _∷_, _++_};
 ghost use Prim.Native.Nat.{_+_, _<_, _≤_, _^_};
 ghost use lib.ListN.{length, getD};
 ghost use Rattle.octets.specs.Octets.{octets16, over};
-ghost use Rattle.report.specs.Report.{maskOf, seatOctet, givenOctet, howOctet, with, particulars, octetsWith, messageOctets, marksOctets, reportOctets, particularsAt, kindOf, alike, saidBy, saidAt, messageIn};
+ghost use Rattle.report.specs.Report.{one, maskOf, seatOctet, givenOctet, howOctet, with, particulars, octetsWith, messageOctets, marksOctets, reportOctets, particularsAt, kindOf, alike, saidBy, saidAt, messageIn};
 
 // What a message has beside its receivers: its kind's number, a seat, a number, a priority; zeros for what it has not.
 pub struct Particulars {
@@ -25,20 +25,26 @@ pub enum Told {
     NoMessage,
 }
 
-// A set of seats as a number, seat 0 the lowest bit.
+fn one_of(b: bool) -> u8
+    ensures { λ r. ⌜ r ≡ one b ⌝ }
+    ensures { λ r. ⌜ r ≤ 1 ⌝ }
+{
+    if b { 1 } else { 0 }
+}
+
+// A set of seats as a number, seat 0 the lowest bit. Each of its two octets is gathered by itself, side by side.
 pub fn mask_of(set: [bool; 16]) -> u16
     ensures { λ r. ⌜ r ≡ maskOf set ⌝ }
 {
-    let mut mask = 0u16;
-    let mut i = 16;
+    let mut low = 0u8;
+    let mut high = 0u8;
+    let mut i = 8;
     while 0 < i {
         i -= 1;
-        mask = mask * 2;
-        if set[i] {
-            mask = mask + 1;
-        }
+        low = low * 2 + one_of(set[i]);
+        high = high * 2 + one_of(set[8 + i]);
     }
-    mask
+    (high as u16) * 256 + (low as u16)
 }
 
 fn seat_octet(mark: Mark) -> u8
@@ -95,44 +101,48 @@ pub fn particulars_of(kind: Kind) -> Particulars
     }
 }
 
-// Writes a message of a report at a place.
-pub fn put_message(room: &mut [u8], at: usize, m: Message)
+// Writes a message of a report at a place; the mask is its receivers.
+fn put_message(room: &mut [u8], at: usize, m: Message, mask: u16)
     requires { ⌜ at + 8 ≤ length (now room) ⌝ }
+    requires { ⌜ mask ≡ maskOf (m .to) ⌝ }
     ensures { λ _. ⌜ now (room .exit) ≡ over (now (room .entry)) at (messageOctets m) ⌝ }
 {
     let kind = m.kind;
-    let to = m.to;
     let q = particulars_of(kind);
-    let mask = mask_of(to);
     octets::put_pair(room, at, q.kind, q.seat);
     octets::put16(room, at + 2, q.number);
     octets::put_pair(room, at + 4, q.priority, 0);
     octets::put16(room, at + 6, mask);
 }
 
-fn put_marks(room: &mut [u8], m: Marks)
+fn put_marks(room: &mut [u8], m: Marks, mask: u16)
     requires { ⌜ 8 ≤ length (now room) ⌝ }
+    requires { ⌜ mask ≡ maskOf (m .struck) ⌝ }
     ensures { λ _. ⌜ now (room .exit) ≡ over (now (room .entry)) 0 (marksOctets m) ⌝ }
 {
-    let struck = m.struck;
     let placed = m.placed;
     let ended = m.ended;
     let given = m.given;
-    let mask = mask_of(struck);
     octets::put16(room, 0, mask);
     octets::put_pair(room, 2, 0, seat_octet(placed));
     octets::put_pair(room, 4, seat_octet(ended), given_octet(given));
     octets::put_pair(room, 6, how_octet(given), 0);
 }
 
-// Writes a report into the first 24 octets of a room.
+// Writes a report into the first 24 octets of a room. The sets become numbers before anything is written, so that none is kept meanwhile.
 pub fn put_report(room: &mut [u8], first: Message, second: Message, marks: Marks)
     requires { ⌜ 24 ≤ length (now room) ⌝ }
     ensures { λ _. ⌜ now (room .exit) ≡ over (now (room .entry)) 0 (reportOctets first second marks) ⌝ }
 {
-    put_marks(room, marks);
-    put_message(room, 8, first);
-    put_message(room, 16, second);
+    let struck = marks.struck;
+    let to = first.to;
+    let also_to = second.to;
+    let strikes = mask_of(struck);
+    let tells = mask_of(to);
+    let also_tells = mask_of(also_to);
+    put_marks(room, marks, strikes);
+    put_message(room, 8, first, tells);
+    put_message(room, 16, second, also_tells);
 }
 
 // What the octets of a report say.

@@ -19,10 +19,9 @@ use Rattle.form.specs.Form.{octetAt, nameIn, namesAt, upTo}
 use Rattle.form.proofs.Columns.{length-column, getD-column, every-at, every-all}
 use Rattle.form.proofs.Pieces.{name-of-seat}
 use Rattle.sound.specs.Test.{octetBehind, nameSound}
-use Rattle.sound.proofs.Laws.{all-below}
+use Rattle.sound.proofs.Laws.{all-below, together}
 use Rattle.sound.proofs.Seats.{same-self, same-is}
 use Rattle.seated.specs.Seated.{lengthAt, startOf, agree, sameOctets, behind}
-use Rattle.seated.proofs.Laws.{together}
 
 -- the octets of a seat's identity
 module _ (s : List ℕ) (seat : ℕ) (b : seat < 16) (fits : lengthAt s seat ≤ 62) where

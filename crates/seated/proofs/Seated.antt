@@ -18,18 +18,15 @@ use Rattle.form.specs.Form.{octetAt, flagAt, flagsAt, octetsAt, wordsAt, settin
 use Rattle.form.proofs.Columns.{getD-column}
 use Rattle.sound.specs.Test.{nameSound, finds, takenSound, freeSound, seatSound, seatsSound}
 use Rattle.sound.specs.Test as test
-use Rattle.sound.proofs.Laws.{allowed-by-least}
+use Rattle.sound.proofs.Laws.{together, below-same, allowed-by-least}
+use Rattle.sound.proofs.InOctets.{present-is}
 use Rattle.sound.proofs.Seats.{same-self}
 use Rattle.seated.specs.Seated.{takenAt, ssrcAt, lengthAt, startOf, sameOctets, hasSsrcOf, hasNameOf, ssrcFirst, nameFirst, behind, takenFits, freeFits, seatFits, seatsFit}
-use Rattle.seated.proofs.Laws.{together, below-same, finds-lowest, fits-length}
+use Rattle.seated.proofs.Laws.{finds-lowest, fits-length}
 use Rattle.seated.proofs.Names.{octets-length, name-sound, names-same}
 
 -- what the hall has of a seat
 module _ (s : List ℕ) (seat : ℕ) (b : seat < 16) where
-  present-is : takenAt s seat ≡ isPresent (hallAt s) seat
-  unfolding hallAt flagsAt
-  present-is = sym (getD-column (flagAt s) 48 16 seat false b)
-
   queueing-is : flagAt s (144 + seat) ≡ queues (hallAt s) seat
   unfolding hallAt flagsAt
   queueing-is = sym (getD-column (flagAt s) 144 16 seat false b)

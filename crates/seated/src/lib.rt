@@ -2,13 +2,13 @@
 // proofs/Seated.antt has that it is the test of the seats that the octets stand for.
 ghost use mathlib.Core.Path.{_≡_};
 ghost use mathlib.Core.Bool.{true};
-ghost use Prim.Native.Nat.{_+_, _*_, _≤_, _<_};
+ghost use Prim.Native.Nat.{_+_, _*_, _-_, _≤_, _<_, min};
 ghost use lib.ListN.{length};
 ghost use Rattle.words.specs.Below.{allBelow};
 ghost use Rattle.octets.specs.Octets.{be32};
-ghost use Rattle.form.specs.Form.{octetAt, flagAt, hallAt, namesAt, upTo, namesFit};
+ghost use Rattle.form.specs.Form.{octetAt, flagAt, hallAt, namesAt, upTo, hallFits, namesFit};
 ghost use Rattle.sound.specs.Test.{seatsSound};
-ghost use Rattle.seated.specs.Seated.{sameOctets, hasSsrcOf, hasNameOf, ssrcFirst, nameFirst, behind, takenFits, freeFits, seatFits};
+ghost use Rattle.seated.specs.Seated.{ssrcAt, agree, sameOctets, hasSsrcOf, hasNameOf, ssrcFirst, nameFirst, behind, takenFits, freeFits, seatFits};
 
 fn wide(x: u8) -> usize
     ensures { λ r. ⌜ r ≡ x ⌝ }
@@ -52,7 +52,34 @@ fn same_octets(s: &[u8], a: usize, b: usize) -> bool
     ok
 }
 
-// The zeros behind a seat's identity; a seat that has none is the most frequent, and has a test of its own.
+// The zeros behind a seat's identity: four times sixteen octets at once, a later sixteen moved back where it would pass the end. Only an
+// identity of more than 46 octets has fewer than sixteen behind it.
+
+fn at_most_46(n: usize) -> usize
+    ensures { λ r. ⌜ r ≡ min n 46 ⌝ }
+{
+    if n < 46 { n } else { 46 }
+}
+
+fn zero_from(s: &[u8], at: usize, len: usize) -> bool
+    requires { ⌜ at + 62 ≤ length (now s) ⌝ }
+    requires { ⌜ len ≤ 46 ⌝ }
+    ensures { λ r. ⌜ r ≡ upTo 0 (now (s .entry)) (at + len) (62 - len) ⌝ }
+{
+    let a = at + len;
+    let b = at + at_most_46(len + 16);
+    let c = at + at_most_46(len + 32);
+    let d = at + 46;
+    let mut ok = true;
+    let mut i = 0;
+    while i < 16 {
+        let here = (s[a + i] <= 0) & (s[b + i] <= 0) & (s[c + i] <= 0) & (s[d + i] <= 0);
+        ok = here & ok;
+        i += 1;
+    }
+    ok
+}
+
 fn behind_is_zero(s: &[u8], seat: usize) -> bool
     requires { ⌜ 1200 ≤ length (now s) ⌝ }
     requires { ⌜ seat < 16 ⌝ }
@@ -61,10 +88,11 @@ fn behind_is_zero(s: &[u8], seat: usize) -> bool
 {
     let at = 208 + 62 * seat;
     let len = wide(s[192 + seat]);
-    if len == 0 {
-        return none_at(s, at);
+    if len <= 46 {
+        zero_from(s, at, len)
+    } else {
+        form::up_to(s, 0, at + len, 62 - len)
     }
-    form::up_to(s, 0, at + len, 62 - len)
 }
 
 // A seat against those before it.
@@ -79,12 +107,12 @@ fn has_ssrc(s: &[u8], seat: usize, ssrc: u32) -> bool
     taken & same
 }
 
-fn ssrc_is_first(s: &[u8], seat: usize) -> bool
+fn ssrc_is_first(s: &[u8], seat: usize, ssrc: u32) -> bool
     requires { ⌜ 1200 ≤ length (now s) ⌝ }
     requires { ⌜ seat < 16 ⌝ }
+    requires { ⌜ ssrc ≡ ssrcAt (now s) seat ⌝ }
     ensures { λ r. ⌜ r ≡ ssrcFirst (now (s .entry)) seat ⌝ }
 {
-    let ssrc = octets::number32(s, 64 + 4 * seat);
     let mut ok = true;
     let mut t = 0;
     while t < seat {
@@ -93,6 +121,34 @@ fn ssrc_is_first(s: &[u8], seat: usize) -> bool
         t += 1;
     }
     ok
+}
+
+// Most identities differ in their first sixteen octets.
+fn same_start(s: &[u8], a: usize, b: usize) -> bool
+    requires { ⌜ a + 62 ≤ length (now s) ⌝ }
+    requires { ⌜ b + 62 ≤ length (now s) ⌝ }
+    ensures { λ r. ⌜ r ≡ allBelow (agree (now (s .entry)) a b) 16 ⌝ }
+{
+    let mut ok = true;
+    let mut i = 0;
+    while i < 16 {
+        let here = s[a + i] == s[b + i];
+        ok = here & ok;
+        i += 1;
+    }
+    ok
+}
+
+fn same_name(s: &[u8], a: usize, b: usize) -> bool
+    requires { ⌜ a + 62 ≤ length (now s) ⌝ }
+    requires { ⌜ b + 62 ≤ length (now s) ⌝ }
+    ensures { λ r. ⌜ r ≡ sameOctets (now (s .entry)) a b ⌝ }
+{
+    if same_start(s, a, b) {
+        same_octets(s, a, b)
+    } else {
+        false
+    }
 }
 
 fn has_name(s: &[u8], seat: usize, other: usize) -> bool
@@ -104,7 +160,7 @@ fn has_name(s: &[u8], seat: usize, other: usize) -> bool
     let taken = s[48 + seat] == 1;
     let as_long = s[192 + seat] == s[192 + other];
     if taken & as_long {
-        same_octets(s, 208 + 62 * seat, 208 + 62 * other)
+        same_name(s, 208 + 62 * seat, 208 + 62 * other)
     } else {
         false
     }
@@ -127,49 +183,56 @@ fn name_is_first(s: &[u8], seat: usize) -> bool
 
 // The seats.
 
-fn taken_fits(s: &[u8], seat: usize) -> bool
+fn taken_fits(s: &[u8], seat: usize, ssrc: u32) -> bool
     requires { ⌜ 1200 ≤ length (now s) ⌝ }
     requires { ⌜ seat < 16 ⌝ }
+    requires { ⌜ ssrc ≡ ssrcAt (now s) seat ⌝ }
     ensures { λ r. ⌜ r ≡ takenFits (now (s .entry)) seat ⌝ }
 {
-    let own = octets::number32(s, 64 + 4 * seat) == octets::number32(s, 176);
-    let by_ssrc = ssrc_is_first(s, seat);
+    let own = ssrc == octets::number32(s, 176);
+    let by_ssrc = ssrc_is_first(s, seat, ssrc);
     let named = 1 <= s[192 + seat];
     let by_name = name_is_first(s, seat);
     !own & by_ssrc & named & by_name
 }
 
-fn free_fits(s: &[u8], seat: usize) -> bool
+fn free_fits(s: &[u8], seat: usize, ssrc: u32) -> bool
     requires { ⌜ 1200 ≤ length (now s) ⌝ }
     requires { ⌜ seat < 16 ⌝ }
+    requires { ⌜ ssrc ≡ ssrcAt (now s) seat ⌝ }
+    requires { ⌜ (octetAt (now s) (144 + seat) ≤ 1) × (octetAt (now s) (160 + seat) ≤ 1) ⌝ }
     ensures { λ r. ⌜ r ≡ freeFits (now (s .entry)) seat ⌝ }
 {
-    let no_ssrc = octets::number32(s, 64 + 4 * seat) == 0;
+    let no_ssrc = ssrc == 0;
     let no_priority = s[128 + seat] == 0;
-    let queueing = s[144 + seat] == 1;
-    let listener = s[160 + seat] == 1;
+    let no_queueing = s[144 + seat] == 0;
+    let no_listener = s[160 + seat] == 0;
     let no_name = s[192 + seat] == 0;
-    no_ssrc & no_priority & !queueing & !listener & no_name
+    no_ssrc & no_priority & no_queueing & no_listener & no_name
 }
 
 fn seat_fits(s: &[u8], seat: usize) -> bool
     requires { ⌜ 1200 ≤ length (now s) ⌝ }
     requires { ⌜ seat < 16 ⌝ }
     requires { ⌜ octetAt (now s) (192 + seat) ≤ 62 ⌝ }
+    requires { ⌜ (octetAt (now s) (144 + seat) ≤ 1) × (octetAt (now s) (160 + seat) ≤ 1) ⌝ }
     ensures { λ r. ⌜ r ≡ seatFits (now (s .entry)) seat ⌝ }
 {
-    let whole = behind_is_zero(s, seat);
+    let ssrc = octets::number32(s, 64 + 4 * seat);
     if s[48 + seat] == 1 {
-        let taken = taken_fits(s, seat);
+        let whole = behind_is_zero(s, seat);
+        let taken = taken_fits(s, seat, ssrc);
         whole & taken
     } else {
-        let free = free_fits(s, seat);
+        let whole = none_at(s, 208 + 62 * seat);
+        let free = free_fits(s, seat, ssrc);
         whole & free
     }
 }
 
 fn each_seat_fits(s: &[u8]) -> bool
     requires { ⌜ 1200 ≤ length (now s) ⌝ }
+    requires { ⌜ hallFits (now s) ≡ true ⌝ }
     requires { ⌜ namesFit (now s) ≡ true ⌝ }
     ensures { λ r. ⌜ r ≡ allBelow (seatFits (now (s .entry))) 16 ⌝ }
 {
@@ -186,6 +249,7 @@ fn each_seat_fits(s: &[u8]) -> bool
 // Whether the seats and the settings that octets stand for are sound.
 pub fn seats_are_sound(s: &[u8]) -> bool
     requires { ⌜ 1200 ≤ length (now s) ⌝ }
+    requires { ⌜ hallFits (now s) ≡ true ⌝ }
     requires { ⌜ namesFit (now s) ≡ true ⌝ }
     ensures { λ r. ⌜ r ≡ seatsSound (hallAt (now (s .entry))) (namesAt (now (s .entry))) ⌝ }
 {

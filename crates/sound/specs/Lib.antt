@@ -1,3 +1,4 @@
 pub mod Test
 pub mod Shaped
 pub mod Passes
+pub mod Line

@@ -3,25 +3,19 @@ use mathlib.Core.Path.{sym, _∙_}
 use borrow.Author.Needs.{needs}
 use Rattle.sound.specs.Test.{isSound}
 use Rattle.floor.specs.Floor.{formed}
-use Rattle.floor.proofs.Desks.{fits-room, fits-names}
+use Rattle.floor.proofs.Desks.{fits-room, fits-core, fits-hall, fits-names}
 use Rattle.floor.proofs.is_desk.Statement.{statement}
 use Rattle.floor.proofs.is_desk.Tie as tie
 
 is-canonical-requires : tie.Need-is-canonical-requires
 is-canonical-requires c κs = search needs
 
-core-at-requires : tie.Need-core-at-requires
-core-at-requires c κs = fits-room _ (sym (c .before .is-canonical .ensures) ∙ c .if1 .taken)
-
-hall-at-requires : tie.Need-hall-at-requires
-hall-at-requires c κs = fits-room _ (sym (c .before .before .is-canonical .ensures) ∙ c .before .if1 .taken)
-
 seats-are-sound-requires : tie.Need-seats-are-sound-requires
-seats-are-sound-requires c κs =
-    let q = sym (c .before .before .before .is-canonical .ensures) ∙ c .before .before .if1 .taken in (fits-room _ q, fits-names _ q)
+seats-are-sound-requires c κs = let q = sym (c .before .is-canonical .ensures) ∙ c .if1 .taken in (fits-room _ q, (fits-hall _ q, fits-names _ q))
 
 core-is-sound-requires : tie.Need-core-is-sound-requires
-core-is-sound-requires c κs = search needs
+core-is-sound-requires c κs =
+    let q = sym (c .before .before .is-canonical .ensures) ∙ c .before .if1 .taken in (fits-room _ q, fits-core _ q)
 
 returns : tie.Need-returns
 unfolding formed isSound
@@ -29,9 +23,7 @@ returns c =
     rw (
       c .core-is-sound .ensures,
       c .before .seats-are-sound .ensures,
-      c .before .before .hall-at .ensures,
-      c .before .before .before .core-at .ensures,
-      sym (c .before .before .before .before .before .is-canonical .ensures) ∙ c .before .before .before .before .if1 .taken,
+      sym (c .before .before .before .is-canonical .ensures) ∙ c .before .before .if1 .taken,
     )
 
 returns-2 : tie.Need-returns-2
@@ -40,12 +32,4 @@ returns-2 c = rw (sym (c .before .is-canonical .ensures) ∙ c .if1 .left)
 
 pub is-desk-spec : {M : Type 1} → statement M
 is-desk-spec =
-    tie.close
-    (tie.spec
-    is-canonical-requires
-    core-at-requires
-    hall-at-requires
-    seats-are-sound-requires
-    core-is-sound-requires
-    returns
-    returns-2)
+    tie.close (tie.spec is-canonical-requires seats-are-sound-requires core-is-sound-requires returns returns-2)

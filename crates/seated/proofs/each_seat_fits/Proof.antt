@@ -4,7 +4,7 @@ use mathlib.Core.Path.{_≡_, refl, ap, _∙_}
 use Rattle.words.specs.Below.{allBelow}
 use Rattle.sound.proofs.Laws.{more}
 use Rattle.seated.specs.Seated.{seatFits}
-use Rattle.seated.proofs.Laws.{fits-length}
+use Rattle.seated.proofs.Laws.{fits-length, fits-flags}
 use borrow.Author.Needs.{needs}
 use native.Mathlib.Omega.{arith}
 use Rattle.seated.proofs.each_seat_fits.Statement.{statement}
@@ -22,7 +22,7 @@ loop-holds c = (omega arith, refl)
 seat-fits-requires : tie.Need-seat-fits-requires Inv-loop μ-loop
 seat-fits-requires c κs =
     let a = c .before .before .before in
-    (a .pre .0, (c .loop-test .taken, fits-length (a .args .s .now) (a .pre .1) _ (c .loop-test .taken)))
+    (a .pre .0, (c .loop-test .taken, (fits-length (a .args .s .now) (a .pre .1 .1) _ (c .loop-test .taken), fits-flags (a .args .s .now) (a .pre .1 .0) _ (c .loop-test .taken))))
 
 add-seat : tie.Need-add-seat Inv-loop μ-loop
 add-seat c = search needs

@@ -23,24 +23,24 @@ add-as-long-2 c = search needs
 shared-slice-read-as-long-2 : tie.Need-shared-slice-read-as-long-2
 shared-slice-read-as-long-2 c = search needs
 
-mul-same-octets : tie.Need-mul-same-octets
-mul-same-octets c = search needs
+mul-same-name : tie.Need-mul-same-name
+mul-same-name c = search needs
 
-add-same-octets : tie.Need-add-same-octets
-add-same-octets c = search needs
+add-same-name : tie.Need-add-same-name
+add-same-name c = search needs
 
-mul-same-octets-2 : tie.Need-mul-same-octets-2
-mul-same-octets-2 c = search needs
+mul-same-name-2 : tie.Need-mul-same-name-2
+mul-same-name-2 c = search needs
 
-add-same-octets-2 : tie.Need-add-same-octets-2
-add-same-octets-2 c = search needs
+add-same-name-2 : tie.Need-add-same-name-2
+add-same-name-2 c = search needs
 
-same-octets-requires : tie.Need-same-octets-requires
-same-octets-requires c κs = search needs
+same-name-requires : tie.Need-same-name-requires
+same-name-requires c κs = search needs
 
 returns : tie.Need-returns
 unfolding hasNameOf
-returns c = rw (c .same-octets .ensures, c .before .if1 .taken)
+returns c = rw (c .same-name .ensures, c .before .if1 .taken)
 
 returns-2 : tie.Need-returns-2
 unfolding hasNameOf
@@ -56,10 +56,10 @@ has-name-spec =
     shared-slice-read-as-long
     add-as-long-2
     shared-slice-read-as-long-2
-    mul-same-octets
-    add-same-octets
-    mul-same-octets-2
-    add-same-octets-2
-    same-octets-requires
+    mul-same-name
+    add-same-name
+    mul-same-name-2
+    add-same-name-2
+    same-name-requires
     returns
     returns-2)

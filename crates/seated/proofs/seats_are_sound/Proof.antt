@@ -18,7 +18,7 @@ returns : tie.Need-returns
 unfolding seatsFit
 returns c =
     let a = c .before .before .before .before in
-    rw (c .each-seat-fits .ensures, c .before .in-range .ensures, c .before .before .settings-at .ensures) (seats-same (a .args .s .now) (a .pre .1))
+    rw (c .each-seat-fits .ensures, c .before .in-range .ensures, c .before .before .settings-at .ensures) (seats-same (a .args .s .now) (a .pre .1 .1))
 
 pub seats-are-sound-spec : {M : Type 1} → statement M
 seats-are-sound-spec = tie.close (tie.spec settings-at-requires in-range-requires each-seat-fits-requires returns)

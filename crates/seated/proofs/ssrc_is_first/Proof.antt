@@ -16,15 +16,6 @@ Inv-loop s seat ssrc ok₀ t₀ ok t = (t ≤ seat) × (ok ≡ allBelow (λ k. n
 abbrev μ-loop : tie.MeasureT-loop
 μ-loop s seat ssrc ok₀ t₀ ok t = seat - t
 
-mul-number32 : tie.Need-mul-number32 Inv-loop μ-loop
-mul-number32 c = search needs
-
-add-number32 : tie.Need-add-number32 Inv-loop μ-loop
-add-number32 c = search needs
-
-number32-requires : tie.Need-number32-requires Inv-loop μ-loop
-number32-requires c κs = search needs
-
 loop-holds : tie.Need-loop-holds Inv-loop μ-loop
 loop-holds c = (omega arith, refl)
 
@@ -40,31 +31,19 @@ loop-less c = search needs
 loop-again : tie.Need-loop-again Inv-loop μ-loop
 loop-again c =
     let l = c .before .before .loop in
-    let a = c .before .before .before .before .before .args in
-    (omega arith, more (λ k. not (hasSsrcOf (a .s .now) (c .before .before .before .number32 .result) k)) (l .t) _ _ (ap not (c .has-ssrc .ensures)) (l .inv .1))
+    let a = c .before .before .before .before .args in
+    (omega arith, more (λ k. not (hasSsrcOf (a .s .now) (a .ssrc) k)) (l .t) _ _ (ap not (c .has-ssrc .ensures)) (l .inv .1))
 
 returns : tie.Need-returns Inv-loop μ-loop
 unfolding ssrcFirst
 returns c =
     let l = c .before .loop in
-    let a = c .before .before .before .before .args in
+    let a = c .before .before .before .args in
     let e : l .t ≡ a .seat = omega arith in
-    let n = c .before .before .number32 in
-    l .inv .1 ∙ ap (allBelow (λ k. not (hasSsrcOf (a .s .now) (n .result) k))) e
-    ∙ ap (λ (x : ℕ). allBelow (λ k. not (hasSsrcOf (a .s .now) x k)) (a .seat)) (n .ensures)
+    l .inv .1 ∙ ap (allBelow (λ k. not (hasSsrcOf (a .s .now) (a .ssrc) k))) e
+    ∙ ap (λ (x : ℕ). allBelow (λ k. not (hasSsrcOf (a .s .now) x k)) (a .seat)) (c .before .before .before .pre .1 .1)
 
 pub ssrc-is-first-spec : {M : Type 1} → statement M
 ssrc-is-first-spec =
     tie.close
-    (tie.spec
-    Inv-loop
-    μ-loop
-    mul-number32
-    add-number32
-    number32-requires
-    loop-holds
-    has-ssrc-requires
-    add-t
-    loop-less
-    loop-again
-    returns)
+    (tie.spec Inv-loop μ-loop loop-holds has-ssrc-requires add-t loop-less loop-again returns)

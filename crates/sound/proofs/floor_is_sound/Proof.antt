@@ -1,58 +1,55 @@
 -- `sound::floor_is_sound` meets its contract. Assumes nothing.
-use borrow.Author.Needs.{needs}
+use Rattle.form.specs.Form.{octetAt}
 use Rattle.sound.specs.Test.{floorSound}
+use Rattle.sound.proofs.InOctets.{line-length, phase-0, phase-1, phase-2, phase-3}
+use native.Mathlib.Omega.{arith}
+use borrow.Author.Needs.{needs}
 use Rattle.sound.proofs.floor_is_sound.Statement.{statement}
 use Rattle.sound.proofs.floor_is_sound.Tie as tie
 
-count-requires : tie.Need-count-requires
-count-requires c κs = search needs
+shared-slice-read-kind : tie.Need-shared-slice-read-kind
+shared-slice-read-kind c = search needs
 
-enum-told : tie.Need-enum-told
-enum-told c = search needs
+returns : tie.Need-returns
+unfolding floorSound
+returns c =
+    let s = c .before .before .before .args .s .now in
+    let p = c .before .before .before .pre .1 in
+    rw (phase-0 s (c .if1 .taken), line-length s (omega (arith, p .0, p .1)), p .0)
 
-enum-told-2 : tie.Need-enum-told-2
-enum-told-2 c = search needs
-
-enum-known-phase : tie.Need-enum-known-phase
-enum-known-phase c = search needs
+returns-2 : tie.Need-returns-2
+unfolding floorSound
+returns-2 c =
+    let s = c .before .before .before .before .args .s .now in
+    let p = c .before .before .before .before .pre .1 in
+    rw (phase-1 s (c .before .if1 .left) (c .if2 .taken), line-length s (omega (arith, p .0, p .1)), p .0)
 
 holder-is-sound-requires : tie.Need-holder-is-sound-requires
 holder-is-sound-requires c κs = search needs
 
-enum-known-phase-2 : tie.Need-enum-known-phase-2
-enum-known-phase-2 c = search needs
-
-holder-is-sound-requires-2 : tie.Need-holder-is-sound-requires-2
-holder-is-sound-requires-2 c κs = search needs
-
-returns : tie.Need-returns
-unfolding floorSound
-returns c = rw (c .enum-told .given .1, c .before .before .count .ensures .0)
-
-returns-2 : tie.Need-returns-2
-unfolding floorSound
-returns-2 c = rw (c .enum-told2 .given .1, c .before .before .count .ensures .0)
-
 returns-3 : tie.Need-returns-3
 unfolding floorSound
-returns-3 c = rw (c .holder-is-sound .ensures, c .before .before .phase .given .1)
+returns-3 c =
+    let s = c .before .before .before .before .before .before .args .s .now in
+    rw (phase-2 s (c .before .before .before .if1 .left) (c .before .before .if2 .left) (c .if3 .taken)) (c .before .holder-is-sound .ensures)
+
+number16-requires : tie.Need-number16-requires
+number16-requires c κs = search needs
 
 returns-4 : tie.Need-returns-4
 unfolding floorSound
-returns-4 c = rw (c .holder-is-sound2 .ensures, c .before .before .phase2 .given .1)
+returns-4 c =
+    let s = c .before .before .before .before .before .before .before .args .s .now in
+    rw (phase-3 s (c .before .before .before .before .if1 .left) (c .before .before .before .if2 .left) (c .before .if3 .left), c .before .before .holder-is-sound .ensures, c .number16 .ensures)
 
 pub floor-is-sound-spec : {M : Type 1} → statement M
 floor-is-sound-spec =
     tie.close
     (tie.spec
-    count-requires
-    enum-told
-    enum-told-2
-    enum-known-phase
-    holder-is-sound-requires
-    enum-known-phase-2
-    holder-is-sound-requires-2
+    shared-slice-read-kind
     returns
     returns-2
+    holder-is-sound-requires
     returns-3
+    number16-requires
     returns-4)

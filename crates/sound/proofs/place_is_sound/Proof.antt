@@ -1,21 +1,26 @@
 -- `sound::place_is_sound` meets its contract. Assumes nothing.
-use native.Mathlib.Numerals.{add-one}
-use borrow.Author.Needs.{needs}
+use Prim.Native.Nat.{_<_, _≤_}
+use mathlib.Core.Path.{ap, sym, _∙_}
+use Rattle.hall.specs.Seats.{isPresent}
+use Rattle.form.specs.Form.{octetAt, hallAt}
 use Rattle.sound.specs.Test.{placeSound}
+use Rattle.sound.proofs.InOctets.{seat-at, first-in}
+use native.Mathlib.Omega.{arith}
+use borrow.Author.Needs.{needs}
 use Rattle.sound.proofs.place_is_sound.Statement.{statement}
 use Rattle.sound.proofs.place_is_sound.Tie as tie
 
-entry-at-requires : tie.Need-entry-at-requires
-entry-at-requires c κs = search needs
+add-seat : tie.Need-add-seat
+add-seat c = search needs
 
-add-entry-at : tie.Need-add-entry-at
-add-entry-at c = search needs
+shared-slice-read-seat : tie.Need-shared-slice-read-seat
+shared-slice-read-seat c = search needs
 
-entry-at-requires-2 : tie.Need-entry-at-requires-2
-entry-at-requires-2 c κs = search needs
+is-in-order-requires : tie.Need-is-in-order-requires
+is-in-order-requires c κs = search needs
 
-place-of-requires : tie.Need-place-of-requires
-place-of-requires c κs = search needs
+are-others-requires : tie.Need-are-others-requires
+are-others-requires c κs = search needs
 
 is-present-requires : tie.Need-is-present-requires
 is-present-requires c κs = search needs
@@ -23,21 +28,23 @@ is-present-requires c κs = search needs
 returns : tie.Need-returns
 unfolding placeSound
 returns c =
+    let a = c .before .before .before .before .before .args in
+    let p = c .before .before .before .before .before .pre in
+    let few : octetAt (a .s .now) 14 ≤ 15 = omega (arith, p .1 .0 .0, p .1 .0 .1) in
+    let here : a .i < octetAt (a .s .now) 14 = omega (arith, p .1 .0 .0, p .1 .1) in
     rw (
-      c .before .before .is-present .ensures,
-      c .before .before .before .place-of .ensures,
-      c .before .before .before .before .entry-at2 .ensures,
-      c .before .before .before .before .before .entry-at .ensures,
-      add-one (c .before .before .before .before .before .before .args .i),
+      c .before .before .is-in-order .ensures,
+      c .before .are-others .ensures ∙ first-in (a .s .now) few (a .i) here,
+      c .is-present .ensures ∙ ap (isPresent (hallAt (a .s .now))) (sym (seat-at (a .s .now) few (a .i) here)),
     )
 
 pub place-is-sound-spec : {M : Type 1} → statement M
 place-is-sound-spec =
     tie.close
     (tie.spec
-    entry-at-requires
-    add-entry-at
-    entry-at-requires-2
-    place-of-requires
+    add-seat
+    shared-slice-read-seat
+    is-in-order-requires
+    are-others-requires
     is-present-requires
     returns)

@@ -1,25 +1,34 @@
--- `sound::places_behind` meets its contract. The invariant says what is gathered of the places passed. Assumes nothing.
+-- `sound::places_behind` meets its contract. Assumes nothing.
 use Prim.Native.Nat.{_-_, _≤_}
 use mathlib.Core.Path.{_≡_, refl, ap, _∙_}
-use native.Mathlib.Omega.{arith}
-use borrow.Author.Needs.{needs}
 use Rattle.words.specs.Below.{allBelow}
-use Rattle.sound.specs.Test.{placeBehind}
 use Rattle.sound.proofs.Laws.{more}
+use Rattle.sound.proofs.InOctets.{clear, behind-in}
+use borrow.Author.Needs.{needs}
+use native.Mathlib.Omega.{arith}
 use Rattle.sound.proofs.places_behind.Statement.{statement}
 use Rattle.sound.proofs.places_behind.Tie as tie
 
 abbrev Inv-loop : tie.InvT-loop
-Inv-loop line ok₀ i₀ ok i = (i ≤ 15) × (ok ≡ allBelow (placeBehind line) i)
+Inv-loop s n ok₀ i₀ ok i = (i ≤ 16) × (ok ≡ allBelow (clear s n) i)
 
 abbrev μ-loop : tie.MeasureT-loop
-μ-loop line ok₀ i₀ ok i = 15 - i
+μ-loop s n ok₀ i₀ ok i = 16 - i
 
 loop-holds : tie.Need-loop-holds Inv-loop μ-loop
 loop-holds c = (omega arith, refl)
 
-place-behind-requires : tie.Need-place-behind-requires Inv-loop μ-loop
-place-behind-requires c κs = search needs
+add-good : tie.Need-add-good Inv-loop μ-loop
+add-good c = search needs
+
+shared-slice-read-good : tie.Need-shared-slice-read-good Inv-loop μ-loop
+shared-slice-read-good c = search needs
+
+add-good-2 : tie.Need-add-good-2 Inv-loop μ-loop
+add-good-2 c = search needs
+
+shared-slice-read-good-2 : tie.Need-shared-slice-read-good-2 Inv-loop μ-loop
+shared-slice-read-good-2 c = search needs
 
 add-i : tie.Need-add-i Inv-loop μ-loop
 add-i c = search needs
@@ -28,12 +37,31 @@ loop-less : tie.Need-loop-less Inv-loop μ-loop
 loop-less c = search needs
 
 loop-again : tie.Need-loop-again Inv-loop μ-loop
-loop-again c = (omega arith, more (placeBehind (c .before .before .before .args .line)) _ _ _ (c .place-behind .ensures) (c .before .before .loop .inv .1))
+loop-again c =
+    let l = c .before .before .before .loop in
+    let a = c .before .before .before .before .args in
+    (omega arith, more (clear (a .s .now) (a .n)) (l .i) _ _ refl (l .inv .1))
 
 returns : tie.Need-returns Inv-loop μ-loop
-returns c = let e : c .before .loop .i ≡ 15 = omega arith in c .before .loop .inv .1 ∙ ap (allBelow (placeBehind (c .before .before .args .line))) e
+returns c =
+    let l = c .before .loop in
+    let a = c .before .before .args in
+    let p = c .before .before .pre in
+    let e : l .i ≡ 16 = omega arith in
+    l .inv .1 ∙ ap (allBelow (clear (a .s .now) (a .n))) e ∙ behind-in (a .s .now) (p .1 .0) (a .n) (p .1 .1)
 
 pub places-behind-spec : {M : Type 1} → statement M
 places-behind-spec =
     tie.close
-    (tie.spec Inv-loop μ-loop loop-holds place-behind-requires add-i loop-less loop-again returns)
+    (tie.spec
+    Inv-loop
+    μ-loop
+    loop-holds
+    add-good
+    shared-slice-read-good
+    add-good-2
+    shared-slice-read-good-2
+    add-i
+    loop-less
+    loop-again
+    returns)
