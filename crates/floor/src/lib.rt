@@ -623,5 +623,5 @@ pub extern "C" fn floor_read(packet: &[u8], message: &mut [u8]) -> u32
 pub extern "C" fn floor_write(message: &[u8], source: &[u8], room: &mut [u8]) -> i32
     ensures { λ r. ⌜ (r, now (room .exit)) ≡ writeOn (now (message .entry)) (now (source .entry)) (now (room .entry)) ⌝ }
 {
-    written_number(held::write_held(message, source, room))
+    written_number(held_writing::write_held(message, source, room))
 }

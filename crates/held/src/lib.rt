@@ -1,15 +1,13 @@
 // A message as 40 octets (docs/FORMS.md, "A message"), for C programs: its identities and its phrase are places in a source that is lent
-// beside it. A packet is read into such octets, and a message is written out of them.
+// beside it. A packet is read into such octets here; crate held_writing writes a message out of them.
 use message::Cause;
-use message::Kind;
 use message::Message;
 use message::Number;
 use message::Octet;
 use message::Part;
 use message::Queue;
-use message::Refusal;
-use message::Typed;
 use message::Word;
+<<<<<<< HEAD
 use reading::Opening;
 use writing::Writing;
 ghost use mathlib.Core.Path.{_≡_};
@@ -24,6 +22,16 @@ ghost use Rattle.reading.specs.Walk.{Reach};
 ghost use Rattle.writing.specs.Writing.{told};
 ghost use Rattle.held.specs.Held.{worthIf, octetIn, wordIn, numberIn, causeIn, phraseIn, firstOctets, nextOctets, placeOctets, partOctets, heldOctets, bitOf, octetIf, wordIf, numberIf, queueIf, partIf, causeIf, messageWith, unlistedField, heldAt, readHeld, keptIn, writingOf, writtenOf};
 ghost use Rattle.held.specs.Laying.{Blank, Lays, queueOctets, firstWorth, nextWorth, partsWorth, headBy};
+=======
+use reading::Reading;
+ghost use mathlib.Core.Path.{_≡_};
+ghost use mathlib.Core.List.{[]};
+ghost use Prim.Native.Nat.{_+_, _≤_};
+ghost use lib.ListN.{length};
+ghost use Rattle.octets.specs.Octets.{over};
+ghost use Rattle.message.specs.Message.{ofOctet, ofWord, ofNumber, ofQueue, ofPart, ofCause, isGiven};
+ghost use Rattle.held.specs.Held.{flag, which, worthIf, octetIn, wordIn, numberIn, positionIn, priorityIn, causeIn, phraseIn, startIn, countIn, headOctets, firstOctets, nextOctets, placeOctets, partOctets, heldOctets, readHeld, keptIn};
+>>>>>>> ww
 
 // What octets hold.
 pub enum Held {
@@ -204,145 +212,6 @@ fn put_held(room: &mut [u8], s: &[u8], kind: Kind, starts: &[usize; 16])
     put_head(room, s, kind, has);
 }
 
-// What octets hold of a field, if the bit of this worth says that the message has it.
-
-fn is_set(fields: u16, worth: u16) -> bool
-    requires { ⌜ 0 < worth ⌝ }
-    ensures { λ r. ⌜ r ≡ bitOf fields worth ⌝ }
-{
-    fields / worth % 2 == 1
-}
-
-fn octet_in(s: &[u8], fields: u16, worth: u16, at: usize) -> Octet
-    requires { ⌜ (0 < worth) × (at < length (now s)) ⌝ }
-    ensures { λ r. ⌜ r ≡ octetIf (bitOf fields worth) (getD (now (s .entry)) at 0) ⌝ }
-{
-    if is_set(fields, worth) {
-        Octet::Is(s[at])
-    } else {
-        Octet::Absent
-    }
-}
-
-fn word_in(s: &[u8], fields: u16, worth: u16, at: usize) -> Word
-    requires { ⌜ (0 < worth) × (at + 2 ≤ length (now s)) ⌝ }
-    ensures { λ r. ⌜ r ≡ wordIf (bitOf fields worth) (be16 (now (s .entry)) at) ⌝ }
-{
-    if is_set(fields, worth) {
-        Word::Is(octets::number16(s, at))
-    } else {
-        Word::Absent
-    }
-}
-
-fn number_in(s: &[u8], fields: u16, worth: u16, at: usize) -> Number
-    requires { ⌜ (0 < worth) × (at + 4 ≤ length (now s)) ⌝ }
-    ensures { λ r. ⌜ r ≡ numberIf (bitOf fields worth) (be32 (now (s .entry)) at) ⌝ }
-{
-    if is_set(fields, worth) {
-        Number::Is(octets::number32(s, at))
-    } else {
-        Number::Absent
-    }
-}
-
-fn queue_in(s: &[u8], fields: u16, worth: u16, at: usize) -> Queue
-    requires { ⌜ (0 < worth) × (at + 2 ≤ length (now s)) ⌝ }
-    ensures { λ r. ⌜ r ≡ queueIf (bitOf fields worth) (getD (now (s .entry)) at 0) (getD (now (s .entry)) (at + 1) 0) ⌝ }
-{
-    if is_set(fields, worth) {
-        Queue::Is(s[at], s[at + 1])
-    } else {
-        Queue::Absent
-    }
-}
-
-// A place of 16 bits in the source.
-fn place_at(s: &[u8], at: usize) -> usize
-    requires { ⌜ at + 2 ≤ length (now s) ⌝ }
-    ensures { λ r. ⌜ r ≡ be16 (now (s .entry)) at ⌝ }
-{
-    octets::number16(s, at) as usize
-}
-
-fn part_in(s: &[u8], fields: u16, worth: u16, at: usize) -> Part
-    requires { ⌜ (0 < worth) × (at + 4 ≤ length (now s)) ⌝ }
-    ensures { λ r. ⌜ r ≡ partIf (bitOf fields worth) (be16 (now (s .entry)) at) (be16 (now (s .entry)) (at + 2)) ⌝ }
-{
-    if is_set(fields, worth) {
-        Part::At(place_at(s, at), place_at(s, at + 2))
-    } else {
-        Part::Absent
-    }
-}
-
-// The cause stands at one place, where its phrase is at another.
-fn cause_in(s: &[u8], fields: u16, worth: u16, at: usize, phrase: usize) -> Cause
-    requires { ⌜ (0 < worth) × (at + 2 ≤ length (now s)) × (phrase + 4 ≤ length (now s)) ⌝ }
-    ensures { λ r. ⌜ r ≡ causeIf (bitOf fields worth) (be16 (now (s .entry)) at) (be16 (now (s .entry)) phrase) (be16 (now (s .entry)) (phrase + 2)) ⌝ }
-{
-    if is_set(fields, worth) {
-        Cause::Is(
-            octets::number16(s, at),
-            place_at(s, phrase),
-            place_at(s, phrase + 2),
-        )
-    } else {
-        Cause::Absent
-    }
-}
-
-// The message of a type that 40 octets hold.
-fn message_with(s: &[u8], kind: Kind, fields: u16) -> Message
-    requires { ⌜ 40 ≤ length (now s) ⌝ }
-    ensures { λ r. ⌜ r ≡ messageWith kind (now (s .entry)) fields ⌝ }
-{
-    Message {
-        kind: kind,
-        ack: s[1] == 1,
-        ssrc: octets::number32(s, 4),
-        priority: octet_in(s, fields, 1, 8),
-        duration: word_in(s, fields, 2, 10),
-        cause: cause_in(s, fields, 4, 12, 28),
-        queue: queue_in(s, fields, 8, 14),
-        granted: part_in(s, fields, 16, 32),
-        permission: word_in(s, fields, 32, 16),
-        user: part_in(s, fields, 64, 36),
-        sequence: word_in(s, fields, 256, 18),
-        source: word_in(s, fields, 1024, 20),
-        subject: octet_in(s, fields, 4096, 9),
-        indicator: word_in(s, fields, 8192, 22),
-        party: number_in(s, fields, 16384, 24),
-    }
-}
-
-// Whether a bit is set for an ID that is not in the table: 7, 9, 11 or 15.
-fn has_unlisted(fields: u16) -> bool
-    ensures { λ r. ⌜ r ≡ unlistedField fields ⌝ }
-{
-    is_set(fields, 128) | is_set(fields, 512) | is_set(fields, 2048) | is_set(fields, 32768)
-}
-
-// The message that octets hold, or that they hold none.
-fn held_at(s: &[u8]) -> Held
-    ensures { λ r. ⌜ r ≡ heldAt (now (s .entry)) ⌝ }
-{
-    if s.len() != SIZE {
-        return Held::Nothing;
-    }
-    if 1 < s[1] {
-        return Held::Nothing;
-    }
-    let fields = octets::number16(s, 2);
-    if has_unlisted(fields) {
-        return Held::Nothing;
-    }
-    match message::typed_by(s[0]) {
-        Typed::Listed(kind) => Held::Is(message_with(s, kind, fields)),
-        Typed::Unlisted => Held::Nothing,
-    }
-}
-
 // Reads a packet into a room for a message: 0, or the number of a refusal, 1 to 11 before 13.
 pub fn read_held(packet: &[u8], room: &mut [u8]) -> u8
     ensures { λ r. ⌜ r ≡ readHeld (now (packet .entry)) (length (now (room .entry))) ⌝ }
@@ -358,16 +227,5 @@ pub fn read_held(packet: &[u8], room: &mut [u8]) -> u8
             put_held(room, packet, kind, &starts);
             0
         }
-    }
-}
-
-// Writes the message that octets hold as a packet, its identities and its phrase out of the lent source.
-pub fn write_held(held: &[u8], source: &[u8], room: &mut [u8]) -> Writing
-    ensures { λ r. ⌜ told r ≡ writingOf (heldAt (now (held .entry))) (now (source .entry)) (length (now (room .entry))) ⌝ }
-    ensures { λ _. ⌜ now (room .exit) ≡ writtenOf (heldAt (now (held .entry))) (now (source .entry)) (now (room .entry)) ⌝ }
-{
-    match held_at(held) {
-        Held::Is(m) => writing::write(m, source, room),
-        Held::Nothing => Writing::Refused(Refusal::Unreadable),
     }
 }

@@ -24,6 +24,6 @@ type-small QueuePositionRequest = omega arith
 type-small QueuePositionInfo = omega arith
 type-small Ack = omega arith
 
-pub header-is : (m : Message) (src : List ℕ) → headed (m .kind) (m .ack) (m .ssrc) (12 + length (body (fieldsOf m src))) ≡ header (said m src)
+pub header-is : (m : Message) (src : List ℕ) → headed (firstOctet (m .kind) (m .ack)) (m .ssrc) (12 + length (body (fieldsOf m src))) ≡ header (said m src)
 unfolding headed firstOctet header said
 header-is m src = refl

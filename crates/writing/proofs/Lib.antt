@@ -9,3 +9,4 @@ pub mod Chains
 pub mod Fits
 pub mod Lengths
 pub mod Ways
+pub mod Whole

@@ -120,10 +120,9 @@ abbrev pub restSize : Message → ℕ
 restSize m =
     partSize (m .user) + wordSize (m .sequence) + wordSize (m .source) + octetSize (m .subject) + wordSize (m .indicator) + numberSize (m .party)
 
--- the header of a packet that has so many octets, and its first octet
+-- the first octet of a packet, and the header that begins with it, of a packet that has so many octets
 unfoldable pub firstOctet : Kind → Bool → ℕ
 firstOctet kind ack = 128 + (if ack then 16 else 0) + typeNumber kind
 
-unfoldable pub headed : Kind → Bool → ℕ → ℕ → List ℕ
-headed kind ack ssrc size =
-    firstOctet kind ack ∷ 204 ∷ octets16 (size / 4 - 1) ++ octets32 ssrc ++ (77 ∷ 67 ∷ 80 ∷ 84 ∷ [])
+unfoldable pub headed : ℕ → ℕ → ℕ → List ℕ
+headed first ssrc size = first ∷ 204 ∷ octets16 (size / 4 - 1) ++ octets32 ssrc ++ (77 ∷ 67 ∷ 80 ∷ 84 ∷ [])

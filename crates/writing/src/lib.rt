@@ -29,15 +29,11 @@ pub enum Writing {
 // The name MCPT, big-endian.
 const NAME: u32 = 0x4D43_5054;
 
-// The octets of padding by the length modulo 4: the ID and the length stand before the content.
-const PADDING: [u8; 4] = [2, 1, 0, 3];
-
-// How many octets of padding stand behind a field of this length. No other function knows the table.
+// How many octets of padding stand behind a field of this length: the ID and the length stand before the content.
 fn padding(len: usize) -> usize
     ensures { λ r. ⌜ r ≡ padding len ⌝ }
 {
-    let i = len % 4;
-    PADDING[i] as usize
+    3 - (len % 4 + 1) % 4
 }
 
 // How many octets a field of this length takes with its ID, its length and its padding.
@@ -45,7 +41,7 @@ fn padded(len: usize) -> usize
     requires { ⌜ len ≤ 255 ⌝ }
     ensures { λ r. ⌜ r ≡ padded len ⌝ }
 {
-    2 + len + padding(len)
+    (len + 5) / 4 * 4
 }
 
 // Whether a part lies within `len` octets. The numbers may be any, so no sum of them is made.
@@ -59,7 +55,7 @@ fn within(from: usize, count: usize, len: usize) -> bool
 }
 
 // Whether what a field holds is in the source.
-fn part_lies(p: Part, src: &[u8]) -> bool
+pub fn part_lies(p: Part, src: &[u8]) -> bool
     ensures { λ r. ⌜ r ≡ partLies (now (src .entry)) p ⌝ }
 {
     match p {
@@ -68,7 +64,7 @@ fn part_lies(p: Part, src: &[u8]) -> bool
     }
 }
 
-fn phrase_lies(c: Cause, src: &[u8]) -> bool
+pub fn phrase_lies(c: Cause, src: &[u8]) -> bool
     ensures { λ r. ⌜ r ≡ phraseLies (now (src .entry)) c ⌝ }
 {
     match c {
@@ -88,7 +84,7 @@ fn lies(m: Message, src: &[u8]) -> bool
 }
 
 // L of a cause is 2 more than its phrase, and at most 255.
-fn phrase_fits(c: Cause) -> bool
+pub fn phrase_fits(c: Cause) -> bool
     ensures { λ r. ⌜ r ≡ phraseFits c ⌝ }
 {
     match c {
@@ -98,7 +94,7 @@ fn phrase_fits(c: Cause) -> bool
 }
 
 // L of an identity is 1 to 62.
-fn identity_fits(p: Part) -> bool
+pub fn identity_fits(p: Part) -> bool
     ensures { λ r. ⌜ r ≡ identityFits p ⌝ }
 {
     match p {
@@ -108,7 +104,7 @@ fn identity_fits(p: Part) -> bool
 }
 
 // Whether a number is one that the table allows, by the test that the reader has.
-fn content_fits(id: u8, w: Word) -> bool
+pub fn content_fits(id: u8, w: Word) -> bool
     ensures { λ r. ⌜ r ≡ contentFits id w ⌝ }
 {
     match w {
@@ -165,7 +161,7 @@ fn number_size(n: Number) -> usize
     if let Number::Is(_) = n { 8 } else { 0 }
 }
 
-fn part_size(p: Part) -> usize
+pub fn part_size(p: Part) -> usize
     requires { ⌜ countOf p ≤ 62 ⌝ }
     ensures { λ r. ⌜ r ≡ partSize p ⌝ }
 {
@@ -175,7 +171,7 @@ fn part_size(p: Part) -> usize
     }
 }
 
-fn cause_size(c: Cause) -> usize
+pub fn cause_size(c: Cause) -> usize
     requires { ⌜ phraseCount c ≤ 253 ⌝ }
     ensures { λ r. ⌜ r ≡ causeSize c ⌝ }
 {
@@ -242,7 +238,7 @@ fn put_two(room: &mut [u8], at: usize, id: u8, first: u8, second: u8) -> usize
 }
 
 // Lays the field of an octet, with the spare octet behind it.
-fn put_octet(room: &mut [u8], at: usize, id: u8, o: Octet) -> usize
+pub fn put_octet(room: &mut [u8], at: usize, id: u8, o: Octet) -> usize
     requires { ⌜ rowOf id .spare ≡ 1 ⌝ }
     requires { ⌜ at + length (optional id (ofOctet o)) ≤ length (now room) ⌝ }
     ensures { λ r. ⌜ Laid (now (room .entry)) at (optional id (ofOctet o)) (now (room .exit)) r ⌝ }
@@ -254,7 +250,7 @@ fn put_octet(room: &mut [u8], at: usize, id: u8, o: Octet) -> usize
 }
 
 // Lays the field of a number of 16 bits.
-fn put_word(room: &mut [u8], at: usize, id: u8, w: Word) -> usize
+pub fn put_word(room: &mut [u8], at: usize, id: u8, w: Word) -> usize
     requires { ⌜ rowOf id .spare ≡ 0 ⌝ }
     requires { ⌜ at + length (optional id (ofWord w)) ≤ length (now room) ⌝ }
     ensures { λ r. ⌜ Laid (now (room .entry)) at (optional id (ofWord w)) (now (room .exit)) r ⌝ }
@@ -266,7 +262,7 @@ fn put_word(room: &mut [u8], at: usize, id: u8, w: Word) -> usize
 }
 
 // Lays Queue Info.
-fn put_queue(room: &mut [u8], at: usize, q: Queue) -> usize
+pub fn put_queue(room: &mut [u8], at: usize, q: Queue) -> usize
     requires { ⌜ at + length (optional 3 (ofQueue q)) ≤ length (now room) ⌝ }
     ensures { λ r. ⌜ Laid (now (room .entry)) at (optional 3 (ofQueue q)) (now (room .exit)) r ⌝ }
 {
@@ -277,7 +273,7 @@ fn put_queue(room: &mut [u8], at: usize, q: Queue) -> usize
 }
 
 // Lays the field SSRC, with the two spare octets behind it.
-fn put_number(room: &mut [u8], at: usize, n: Number) -> usize
+pub fn put_number(room: &mut [u8], at: usize, n: Number) -> usize
     requires { ⌜ at + length (optional 14 (ofNumber n)) ≤ length (now room) ⌝ }
     ensures { λ r. ⌜ Laid (now (room .entry)) at (optional 14 (ofNumber n)) (now (room .exit)) r ⌝ }
 {
@@ -305,7 +301,7 @@ fn put_text(room: &mut [u8], at: usize, src: &[u8], from: usize, count: usize, l
 }
 
 // Lays the field of an identity.
-fn put_identity(room: &mut [u8], at: usize, src: &[u8], id: u8, p: Part) -> usize
+pub fn put_identity(room: &mut [u8], at: usize, src: &[u8], id: u8, p: Part) -> usize
     requires { ⌜ rowOf id .spare ≡ 0 ⌝ }
     requires { ⌜ countOf p ≤ 62 ⌝ }
     requires { ⌜ partLies (now src) p ≡ true ⌝ }
@@ -322,7 +318,7 @@ fn put_identity(room: &mut [u8], at: usize, src: &[u8], id: u8, p: Part) -> usiz
 }
 
 // Lays Reject Cause: the cause, and the phrase behind it.
-fn put_cause(room: &mut [u8], at: usize, src: &[u8], c: Cause) -> usize
+pub fn put_cause(room: &mut [u8], at: usize, src: &[u8], c: Cause) -> usize
     requires { ⌜ phraseCount c ≤ 253 ⌝ }
     requires { ⌜ phraseLies (now src) c ≡ true ⌝ }
     requires { ⌜ at + length (optional 2 (ofCause (now src) c)) ≤ length (now room) ⌝ }
@@ -347,13 +343,13 @@ fn first_octet(kind: Kind, ack: bool) -> u8
     if ack { 128 + 16 + number } else { 128 + number }
 }
 
-// Lays the header of a packet that has `size` octets: its length is told in 32-bit words less one.
-fn put_header(room: &mut [u8], kind: Kind, ack: bool, ssrc: u32, size: usize)
+// Lays the header of a packet that has this first octet and `size` octets in all: its length is told in 32-bit words less one.
+pub fn put_header(room: &mut [u8], first: u8, ssrc: u32, size: usize)
     requires { ⌜ (12 ≤ size) × (size ≤ 440) ⌝ }
     requires { ⌜ 12 ≤ length (now room) ⌝ }
-    ensures { λ _. ⌜ now (room .exit) ≡ over (now (room .entry)) 0 (headed kind ack ssrc size) ⌝ }
+    ensures { λ _. ⌜ now (room .exit) ≡ over (now (room .entry)) 0 (headed first ssrc size) ⌝ }
 {
-    octets::put_pair(room, 0, first_octet(kind, ack), 204);
+    octets::put_pair(room, 0, first, 204);
     octets::put16(room, 2, (size / 4 - 1) as u16);
     octets::put32(room, 4, ssrc);
     octets::put32(room, 8, NAME);
@@ -411,7 +407,7 @@ pub fn write(m: Message, src: &[u8], room: &mut [u8]) -> Writing
             return Writing::Refused(Refusal::NoRoom);
         }
         let kind = m.kind;
-        put_header(room, kind, m.ack, m.ssrc, size);
+        put_header(room, first_octet(kind, m.ack), m.ssrc, size);
         let at = put_front(room, 12, src, m);
         put_rest(room, at, src, m);
         Writing::Written(size)

@@ -10,7 +10,7 @@ use Rattle.floor.proofs.floor_write.Tie as tie
 use Rattle.floor.proofs.floor_write.Reads as reads
 use Rattle.floor.proofs.floor_write.Lts as lts
 use Rattle.floor.proofs.written_number.Reads as written-number-reads
-use Rattle.held.proofs.write_held.Reads as write-held-reads
+use Rattle.held_writing.proofs.write_held.Reads as write-held-reads
 
 write-held-requires : tie.Need-write-held-requires
 write-held-requires c κs = search needs

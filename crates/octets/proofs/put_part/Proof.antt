@@ -1,79 +1,67 @@
-use lib.ListN.{getD}
-use Prim.Native.Nat.{_+_, _-_, _≤_}
-use mathlib.Core.Path.{_≡_, refl, sym, _∙_, ap}
-use lib.ListN.{length, length-set, replicate}
-use Rattle.octets.specs.Octets.{over, part}
-use Rattle.octets.proofs.Over.{over-none, over-turn, part-next, zeros-next, length-part}
-use borrow.Author.Needs.{needs}
+use Prim.Native.Nat.{_-_}
+use Rattle.octets.proofs.Over.{over-again}
 use native.Mathlib.Omega.{arith}
+use borrow.Author.Needs.{needs}
 use Rattle.octets.proofs.put_part.Statement.{statement}
 use Rattle.octets.proofs.put_part.Tie as tie
 use Rattle.octets.proofs.put_part.Reads as reads
 use Rattle.octets.proofs.put_part.Lts as lts
+use Rattle.octets.proofs.put_long.Reads as put-long-reads
+use Rattle.octets.proofs.put_short.Reads as put-short-reads
+use Rattle.octets.proofs.put_thirty_two.Reads as put-thirty-two-reads
 
-abbrev Inv-loop : tie.InvT-loop
-Inv-loop room₀ at s from count i₀ room i = (i ≤ count) × (length room ≡ length room₀) × (room ≡ over room₀ at (part s from i))
+put-long-requires : tie.Need-put-long-requires
+put-long-requires c κs = search needs
 
-abbrev μ-loop : tie.MeasureT-loop
-μ-loop room₀ at s from count i₀ room i = count - i
+put-thirty-two-requires : tie.Need-put-thirty-two-requires
+put-thirty-two-requires c κs = search needs
 
-loop-holds : tie.Need-loop-holds Inv-loop μ-loop
-unfolding part
-loop-holds c = (search needs, refl, sym (over-none (c .args .room .now) (c .args .at)))
+add-put-thirty-two : tie.Need-add-put-thirty-two
+add-put-thirty-two c = search needs
 
-add-room : tie.Need-add-room Inv-loop μ-loop
-add-room c = search needs
+add-put-thirty-two-2 : tie.Need-add-put-thirty-two-2
+add-put-thirty-two-2 c = search needs
 
-shared-slice-read-room : tie.Need-shared-slice-read-room Inv-loop μ-loop
-shared-slice-read-room c = search needs
+put-thirty-two-requires-2 : tie.Need-put-thirty-two-requires-2
+put-thirty-two-requires-2 c κs = search needs
 
-add-room-2 : tie.Need-add-room-2 Inv-loop μ-loop
-add-room-2 c = search needs
+put-short-requires : tie.Need-put-short-requires
+put-short-requires c κs = search needs
 
-slice-write-room : tie.Need-slice-write-room Inv-loop μ-loop
-slice-write-room c = search needs
-
-add-i : tie.Need-add-i Inv-loop μ-loop
-add-i c = search needs
-
-loop-less : tie.Need-loop-less Inv-loop μ-loop
-loop-less c = search needs
-
-loop-again : tie.Need-loop-again Inv-loop μ-loop
-loop-again c =
-    let a = c .before .before .before .args in
-    let l = c .before .before .loop in
-    let p : a .at + a .count ≤ length (a .room .now) = c .before .before .before .pre .0 in
-    let q : a .from + a .count ≤ length (a .s .now) = c .before .before .before .pre .1 in
-    let t : l .i + 1 ≤ a .count = omega arith in (
-      t,
-      simp length-set (l .inv .1),
-      over-turn (a .room .now) (l .room) (a .at) (l .i) (getD (a .s .now) (a .from + l .i) 0) (part (a .s .now) (a .from) (l .i))
-          (length-part (a .s .now) (a .from) (l .i) (omega arith)) (omega arith) (l .inv .2)
-          ∙ ap (over (a .room .now) (a .at)) (sym (part-next (a .s .now) (a .from) (l .i) (omega arith))),
-    )
-
-same-length : tie.Need-same-length Inv-loop μ-loop
+same-length : tie.Need-same-length
 same-length c = search needs
 
-returns : tie.Need-returns Inv-loop μ-loop
-returns c =
-    let e : c .before .loop .i ≡ c .before .before .args .count = omega arith in
-    rw (← e) (c .before .loop .inv .2)
+returns : tie.Need-returns
+returns c = search needs
+
+same-length-2 : tie.Need-same-length-2
+same-length-2 c = search needs
+
+returns-2 : tie.Need-returns-2
+returns-2 c =
+    let a = c .before .before .before .before .before .before .before .before .before .before .before .before .args in
+    over-again (a .room .now) (a .s .now) (a .at) (a .from) 32 (a .count - 32) 32 (omega arith) (omega arith) (omega arith) (c .before .before .before .before .before .before .before .before .before .before .before .before .pre .0) (c .before .before .before .before .before .before .before .before .before .before .before .before .pre .1)
+    (c .before .before .before .before .before .before .put-thirty-two .ensures) (c .before .before .put-thirty-two2 .ensures)
+
+same-length-3 : tie.Need-same-length-3
+same-length-3 c = search needs
+
+returns-3 : tie.Need-returns-3
+returns-3 c = search needs
 
 pub put-part-spec : {M : Type 1} → statement M
 put-part-spec =
     tie.close
     (tie.spec
-    Inv-loop
-    μ-loop
-    loop-holds
-    add-room
-    shared-slice-read-room
-    add-room-2
-    slice-write-room
-    add-i
-    loop-less
-    loop-again
+    put-long-requires
+    put-thirty-two-requires
+    add-put-thirty-two
+    add-put-thirty-two-2
+    put-thirty-two-requires-2
+    put-short-requires
     same-length
-    returns)
+    returns
+    same-length-2
+    returns-2
+    same-length-3
+    returns-3)

@@ -1,68 +1,78 @@
-use lib.ListN.{length-replicate}
-use Prim.Native.Nat.{_+_, _-_, _≤_}
-use mathlib.Core.Path.{_≡_, refl, sym, _∙_, ap}
-use lib.ListN.{length, length-set, replicate}
-use Rattle.octets.specs.Octets.{over, part}
-use Rattle.octets.proofs.Over.{over-none, over-turn, part-next, zeros-next, length-part}
-use borrow.Author.Needs.{needs}
+use mathlib.Core.List.{[], _∷_}
+use mathlib.Core.Path.{refl, sym}
+use Rattle.octets.proofs.Over.{over-none, over-one, over-turn}
 use native.Mathlib.Omega.{arith}
+use borrow.Author.Needs.{needs}
 use Rattle.octets.proofs.put_zeros.Statement.{statement}
 use Rattle.octets.proofs.put_zeros.Tie as tie
 use Rattle.octets.proofs.put_zeros.Reads as reads
 use Rattle.octets.proofs.put_zeros.Lts as lts
+use Rattle.octets.proofs.put_many_zeros.Reads as put-many-zeros-reads
+use Rattle.octets.proofs.put_pair.Reads as put-pair-reads
 
-abbrev Inv-loop : tie.InvT-loop
-Inv-loop room₀ at count i₀ room i = (i ≤ count) × (length room ≡ length room₀) × (room ≡ over room₀ at (replicate i 0))
-
-abbrev μ-loop : tie.MeasureT-loop
-μ-loop room₀ at count i₀ room i = count - i
-
-loop-holds : tie.Need-loop-holds Inv-loop μ-loop
-loop-holds c = (search needs, refl, sym (over-none (c .args .room .now) (c .args .at)))
-
-add-room : tie.Need-add-room Inv-loop μ-loop
-add-room c = search needs
-
-slice-write-room : tie.Need-slice-write-room Inv-loop μ-loop
+slice-write-room : tie.Need-slice-write-room
 slice-write-room c = search needs
 
-add-i : tie.Need-add-i Inv-loop μ-loop
-add-i c = search needs
+put-pair-requires : tie.Need-put-pair-requires
+put-pair-requires c κs = search needs
 
-loop-less : tie.Need-loop-less Inv-loop μ-loop
-loop-less c = search needs
+put-pair-requires-2 : tie.Need-put-pair-requires-2
+put-pair-requires-2 c κs = search needs
 
-loop-again : tie.Need-loop-again Inv-loop μ-loop
-loop-again c =
-    let a = c .before .before .args in
-    let l = c .before .loop in
-    let p : a .at + a .count ≤ length (a .room .now) = c .before .before .pre in
-    let t : l .i + 1 ≤ a .count = omega arith in (
-      t,
-      simp length-set (l .inv .1),
-      over-turn (a .room .now) (l .room) (a .at) (l .i) 0 (replicate (l .i) 0) (length-replicate (l .i) 0) (omega arith) (l .inv .2)
-          ∙ ap (over (a .room .now) (a .at)) (sym (zeros-next (l .i))),
-    )
+add-room : tie.Need-add-room
+add-room c = search needs
 
-same-length : tie.Need-same-length Inv-loop μ-loop
+slice-write-room-2 : tie.Need-slice-write-room-2
+slice-write-room-2 c = search needs
+
+put-many-zeros-requires : tie.Need-put-many-zeros-requires
+put-many-zeros-requires c κs = search needs
+
+returns : tie.Need-returns
+returns c = rw (c .match .keys1) (sym (over-none (c .before .before .args .room .now) (c .before .before .args .at)))
+
+same-length : tie.Need-same-length
 same-length c = search needs
 
-returns : tie.Need-returns Inv-loop μ-loop
-returns c =
-    let e : c .before .loop .i ≡ c .before .before .args .count = omega arith in
-    rw (← e) (c .before .loop .inv .2)
+returns-2 : tie.Need-returns-2
+returns-2 c = rw (c .match .keys2) (over-one (c .before .before .args .room .now) (c .before .before .args .at) 0 (omega (arith, c .before .before .pre, c .match .keys2)))
+
+same-length-2 : tie.Need-same-length-2
+same-length-2 c = search needs
+
+returns-3 : tie.Need-returns-3
+returns-3 c = rw (c .before .before .before .before .match .keys3) (c .before .before .put-pair .ensures)
+
+same-length-3 : tie.Need-same-length-3
+same-length-3 c = search needs
+
+returns-4 : tie.Need-returns-4
+returns-4 c =
+    let a = c .before .before .before .before .before .before .args in
+    rw (c .before .before .before .before .match .keys4) (over-turn (a .room .now) (c .before .before .put-pair2 .last .0) (a .at) 2 0 (0 ∷ 0 ∷ []) refl (omega (arith, c .before .before .before .before .before .before .pre, c .before .before .before .before .match .keys4)) (c .before .before .put-pair2 .ensures))
+
+same-length-4 : tie.Need-same-length-4
+same-length-4 c = search needs
+
+returns-5 : tie.Need-returns-5
+returns-5 c = c .before .before .put-many-zeros .ensures
 
 pub put-zeros-spec : {M : Type 1} → statement M
 put-zeros-spec =
     tie.close
     (tie.spec
-    Inv-loop
-    μ-loop
-    loop-holds
-    add-room
     slice-write-room
-    add-i
-    loop-less
-    loop-again
+    put-pair-requires
+    put-pair-requires-2
+    add-room
+    slice-write-room-2
+    put-many-zeros-requires
+    returns
     same-length
-    returns)
+    returns-2
+    same-length-2
+    returns-3
+    same-length-3
+    returns-4
+    same-length-4
+    returns-5)

@@ -1,4 +1,4 @@
-use Rattle.writing.proofs.Rests.{padding-is, padding-small}
+use Rattle.writing.proofs.Rests.{padding-is}
 use native.Mathlib.Omega.{arith}
 use borrow.Author.Needs.{needs}
 use Rattle.writing.proofs.padding.Statement.{statement}
@@ -6,14 +6,14 @@ use Rattle.writing.proofs.padding.Tie as tie
 use Rattle.writing.proofs.padding.Reads as reads
 use Rattle.writing.proofs.padding.Lts as lts
 
-array-read-result : tie.Need-array-read-result
-array-read-result c = search needs
+add-result : tie.Need-add-result
+add-result c = search needs
 
-cast-result : tie.Need-cast-result
-cast-result c = omega (arith, padding-is (c .args .len), padding-small (c .args .len))
+sub-result : tie.Need-sub-result
+sub-result c = search needs
 
 returns : tie.Need-returns
 returns c = padding-is (c .args .len)
 
 pub padding-spec : {M : Type 1} → statement M
-padding-spec = tie.close (tie.spec array-read-result cast-result returns)
+padding-spec = tie.close (tie.spec add-result sub-result returns)

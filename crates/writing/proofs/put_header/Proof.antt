@@ -5,6 +5,7 @@ use lib.ListN.{length}
 use Rattle.octets.specs.Octets.{octets16, octets32}
 use Rattle.writing.specs.Puts.{Laid, headed}
 use Rattle.writing.proofs.Lays.{lay-join, lay-rest}
+use native.Mathlib.Omega.{arith}
 use borrow.Author.Needs.{needs}
 use Rattle.writing.proofs.put_header.Statement.{statement}
 use Rattle.writing.proofs.put_header.Tie as tie
@@ -13,10 +14,6 @@ use Rattle.writing.proofs.put_header.Lts as lts
 use Rattle.octets.proofs.put16.Reads as put16-reads
 use Rattle.octets.proofs.put32.Reads as put32-reads
 use Rattle.octets.proofs.put_pair.Reads as put-pair-reads
-use Rattle.writing.proofs.first_octet.Reads as first-octet-reads
-
-first-octet-requires : tie.Need-first-octet-requires
-first-octet-requires c κs = search needs
 
 put-pair-requires : tie.Need-put-pair-requires
 put-pair-requires c κs = search needs
@@ -41,28 +38,27 @@ same-length c = search needs
 
 returns : tie.Need-returns
 unfolding headed octets16 octets32
-returns c = let a = c .before .before .before .before .before .before .before .before .before .before .before .before .before .before .before .before .before .before .args in
-    let f = c .before .before .before .before .before .before .before .before .before .before .before .before .before .before .before .first-octet in
+returns c =
+    let a = c .before .before .before .before .before .before .before .before .before .before .before .before .before .before .before .before .before .args in
     let r₁ = c .before .before .before .before .before .before .before .before .before .before .before .before .before .before .put-pair .last .0 in
     let r₂ = c .before .before .before .before .before .before .before .before .before .before .put16 .last .0 in
     let r₃ = c .before .before .before .before .before .before .put32 .last .0 in
     let ws : List ℕ = octets16 (a .size / 4 - 1) in
     let ss : List ℕ = octets32 (a .ssrc) in
     let ns : List ℕ = octets32 1296257108 in
-    let l : Laid (a .room .now) 0 (f .result ∷ 204 ∷ []) r₁ 2 = record { ends = refl; stands = c .before .before .before .before .before .before .before .before .before .before .before .before .before .before .put-pair .ensures } in
+    let l : Laid (a .room .now) 0 (a .first ∷ 204 ∷ []) r₁ 2 = record { ends = refl; stands = c .before .before .before .before .before .before .before .before .before .before .before .before .before .before .put-pair .ensures } in
     let l₂ : Laid r₁ 2 ws r₂ 4 = record { ends = refl; stands = c .before .before .before .before .before .before .before .before .before .before .put16 .ensures } in
     let l₃ : Laid r₂ 4 ss r₃ 8 = record { ends = refl; stands = c .before .before .before .before .before .before .put32 .ensures } in
     let l₄ : Laid r₃ 8 ns (c .before .before .put322 .last .0) 12 = record { ends = refl; stands = c .before .before .put322 .ensures } in
-    let h : 12 ≤ length (a .room .now) = c .before .before .before .before .before .before .before .before .before .before .before .before .before .before .before .before .before .before .pre .1 in
+    let h : 12 ≤ length (a .room .now) = c .before .before .before .before .before .before .before .before .before .before .before .before .before .before .before .before .before .pre .1 in
     let h₂ = lay-rest (ws ++ (ss ++ ns)) h l in
     let h₃ = lay-rest (ss ++ ns) h₂ l₂ in
-    rw (← (f .ensures)) (lay-join h l (lay-join h₂ l₂ (lay-join h₃ l₃ l₄)) .stands)
+    lay-join h l (lay-join h₂ l₂ (lay-join h₃ l₃ l₄)) .stands
 
 pub put-header-spec : {M : Type 1} → statement M
 put-header-spec =
     tie.close
     (tie.spec
-    first-octet-requires
     put-pair-requires
     sub-put16
     cast-put16

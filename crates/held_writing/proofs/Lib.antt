@@ -1,0 +1,2 @@
+-- Laws that the functions here share.
+pub mod Laws

@@ -1,0 +1,23 @@
+use native.Mathlib.Omega.{arith}
+use borrow.Author.Needs.{needs}
+use Rattle.held_writing.proofs.put_number.Statement.{statement}
+use Rattle.held_writing.proofs.put_number.Tie as tie
+use Rattle.held_writing.proofs.put_number.Reads as reads
+use Rattle.held_writing.proofs.put_number.Lts as lts
+use Rattle.held_writing.proofs.number_in.Reads as number-in-reads
+use Rattle.writing.proofs.put_number.Reads as put-number-reads
+
+number-in-requires : tie.Need-number-in-requires
+number-in-requires c κs = search needs
+
+put-number-requires : tie.Need-put-number-requires
+put-number-requires c κs = rw (c .before .number-in .ensures) (c .before .before .before .before .pre .1)
+
+same-length : tie.Need-same-length
+same-length c = search needs
+
+returns : tie.Need-returns
+returns c = rw (← (c .before .before .before .before .number-in .ensures)) (c .before .before .put-number .ensures)
+
+pub put-number-spec : {M : Type 1} → statement M
+put-number-spec = tie.close (tie.spec number-in-requires put-number-requires same-length returns)

@@ -1,0 +1,47 @@
+-- What the functions that write a message out of octets say of themselves; docs/FORMS.md needs none of it. Assumes nothing.
+use Prim.Native.Nat.{ℕ, _+_, _*_}
+use mathlib.Core.Bool.{Bool, true, false, _&&_}
+use mathlib.Core.List.{List, [], _∷_}
+use Rattle.message.specs.Types.{typed}
+use Rattle.message.specs.Message.{required}
+use Rattle.message.specs.declared.Kind.{Kind}
+use Rattle.message.specs.declared.Typed.{Typed}
+use Rattle.message.specs.declared.Typed.the-variants.{Listed, Unlisted}
+use Rattle.message.specs.declared.Message.{Message}
+use Rattle.writing.specs.Writing.{readable}
+use Rattle.held.specs.declared.Held.{Held}
+use Rattle.held.specs.declared.Held.the-variants.{Is, Nothing}
+use Rattle.held.specs.Held.{octetAt, isSet, messageWith}
+
+-- the type that an octet names, and any where it names none
+abbrev pub kindOf : Typed → Kind
+kindOf Unlisted = Kind.Request
+kindOf (Listed k) = k
+
+-- the message that octets hold, if they hold one, by the bits of the fields that it has
+unfoldable pub messageIn : List ℕ → ℕ → Message
+messageIn s fields = messageWith (kindOf (typed (octetAt s 0))) s fields
+
+-- the bits of all these IDs are set, and of those that a listed type requires
+abbrev pub allSet : ℕ → List ℕ → Bool
+allSet fields [] = true
+allSet fields (i ∷ is) = isSet fields i && allSet fields is
+
+abbrev pub hasRequired : Typed → ℕ → Bool
+hasRequired Unlisted fields = false
+hasRequired (Listed k) fields = allSet fields (required k)
+
+-- a message is held, and a reader would accept it
+abbrev pub readableIn : Held → List ℕ → Bool
+readableIn Nothing src = false
+readableIn (Is m) src = readable m src
+
+-- how many octets the fields of one length take, by their bits
+abbrev pub fourIf : Bool → ℕ
+fourIf true = 4
+fourIf false = 0
+
+unfoldable pub shortSize : ℕ → ℕ
+shortSize fields =
+    fourIf (isSet fields 0) + fourIf (isSet fields 1) + fourIf (isSet fields 3) + fourIf (isSet fields 5) + fourIf (isSet fields 8)
+    + fourIf (isSet fields 10) + fourIf (isSet fields 12) + fourIf (isSet fields 13) + fourIf (isSet fields 14) * 2

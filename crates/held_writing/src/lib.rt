@@ -1,0 +1,411 @@
+// A message that 40 octets hold (docs/FORMS.md, "A message") written as a packet, for C programs: straight out of the octets, its identities
+// and its phrase out of a source that is lent beside them. No message is made on the way.
+use message::Cause;
+use message::Kind;
+use message::Number;
+use message::Octet;
+use message::Part;
+use message::Queue;
+use message::Refusal;
+use message::Typed;
+use message::Word;
+use writing::Writing;
+ghost use mathlib.Core.Path.{_≡_};
+ghost use mathlib.Core.Bool.{true, _&&_};
+ghost use Prim.Native.Nat.{_+_, _≤_, _<_};
+ghost use lib.ListN.{length, getD};
+ghost use Rattle.octets.specs.Octets.{be16, be32};
+ghost use Rattle.message.specs.Types.{typed};
+ghost use Rattle.message.specs.Table.{rowOf};
+ghost use Rattle.message.specs.Message.{required, ofOctet, ofWord, ofNumber, ofQueue, ofPart, ofCause};
+ghost use Rattle.writing.specs.Wire.{optional, body};
+ghost use Rattle.writing.specs.Writing.{partLies, phraseLies, lies, told};
+ghost use Rattle.writing.specs.Puts.{Laid, Short, Held, countOf, phraseCount, phraseFits, identityFits, contentFits, fitting, frontFields, restFields, partSize, causeSize, frontSize, restSize};
+ghost use Rattle.held.specs.Held.{bitOf, octetIf, wordIf, numberIf, queueIf, partIf, causeIf, unlistedField, heldAt, writingOf, writtenOf};
+ghost use Rattle.held_writing.specs.Writes.{messageIn, allSet, hasRequired, readableIn, fourIf, shortSize};
+
+// How many octets a message is held in.
+const SIZE: usize = 40;
+
+// What octets hold of a field, if the bit of this worth says that the message has it.
+
+fn is_set(fields: u16, worth: u16) -> bool
+    requires { ⌜ 0 < worth ⌝ }
+    ensures { λ r. ⌜ r ≡ bitOf fields worth ⌝ }
+{
+    fields / worth % 2 == 1
+}
+
+fn octet_in(s: &[u8], fields: u16, worth: u16, at: usize) -> Octet
+    requires { ⌜ (0 < worth) × (at < length (now s)) ⌝ }
+    ensures { λ r. ⌜ r ≡ octetIf (bitOf fields worth) (getD (now (s .entry)) at 0) ⌝ }
+{
+    if is_set(fields, worth) {
+        Octet::Is(s[at])
+    } else {
+        Octet::Absent
+    }
+}
+
+fn word_in(s: &[u8], fields: u16, worth: u16, at: usize) -> Word
+    requires { ⌜ (0 < worth) × (at + 2 ≤ length (now s)) ⌝ }
+    ensures { λ r. ⌜ r ≡ wordIf (bitOf fields worth) (be16 (now (s .entry)) at) ⌝ }
+{
+    if is_set(fields, worth) {
+        Word::Is(octets::number16(s, at))
+    } else {
+        Word::Absent
+    }
+}
+
+fn number_in(s: &[u8], fields: u16, worth: u16, at: usize) -> Number
+    requires { ⌜ (0 < worth) × (at + 4 ≤ length (now s)) ⌝ }
+    ensures { λ r. ⌜ r ≡ numberIf (bitOf fields worth) (be32 (now (s .entry)) at) ⌝ }
+{
+    if is_set(fields, worth) {
+        Number::Is(octets::number32(s, at))
+    } else {
+        Number::Absent
+    }
+}
+
+fn queue_in(s: &[u8], fields: u16, worth: u16, at: usize) -> Queue
+    requires { ⌜ (0 < worth) × (at + 2 ≤ length (now s)) ⌝ }
+    ensures { λ r. ⌜ r ≡ queueIf (bitOf fields worth) (getD (now (s .entry)) at 0) (getD (now (s .entry)) (at + 1) 0) ⌝ }
+{
+    if is_set(fields, worth) {
+        Queue::Is(s[at], s[at + 1])
+    } else {
+        Queue::Absent
+    }
+}
+
+// A place of 16 bits in the source.
+fn place_at(s: &[u8], at: usize) -> usize
+    requires { ⌜ at + 2 ≤ length (now s) ⌝ }
+    ensures { λ r. ⌜ r ≡ be16 (now (s .entry)) at ⌝ }
+{
+    octets::number16(s, at) as usize
+}
+
+fn part_in(s: &[u8], fields: u16, worth: u16, at: usize) -> Part
+    requires { ⌜ (0 < worth) × (at + 4 ≤ length (now s)) ⌝ }
+    ensures { λ r. ⌜ r ≡ partIf (bitOf fields worth) (be16 (now (s .entry)) at) (be16 (now (s .entry)) (at + 2)) ⌝ }
+{
+    if is_set(fields, worth) {
+        Part::At(place_at(s, at), place_at(s, at + 2))
+    } else {
+        Part::Absent
+    }
+}
+
+// The cause stands at one place, where its phrase is at another.
+fn cause_in(s: &[u8], fields: u16, worth: u16, at: usize, phrase: usize) -> Cause
+    requires { ⌜ (0 < worth) × (at + 2 ≤ length (now s)) × (phrase + 4 ≤ length (now s)) ⌝ }
+    ensures { λ r. ⌜ r ≡ causeIf (bitOf fields worth) (be16 (now (s .entry)) at) (be16 (now (s .entry)) phrase) (be16 (now (s .entry)) (phrase + 2)) ⌝ }
+{
+    if is_set(fields, worth) {
+        Cause::Is(
+            octets::number16(s, at),
+            place_at(s, phrase),
+            place_at(s, phrase + 2),
+        )
+    } else {
+        Cause::Absent
+    }
+}
+
+// Whether a bit is set for an ID that is not in the table: 7, 9, 11 or 15.
+fn has_unlisted(fields: u16) -> bool
+    ensures { λ r. ⌜ r ≡ unlistedField fields ⌝ }
+{
+    is_set(fields, 128) | is_set(fields, 512) | is_set(fields, 2048) | is_set(fields, 32768)
+}
+
+// Whether the bits of all fields that a type requires are set.
+fn has_all(kind: Kind, fields: u16) -> bool
+    ensures { λ r. ⌜ r ≡ allSet fields (required kind) ⌝ }
+{
+    match kind {
+        Kind::Request => true,
+        Kind::Granted => is_set(fields, 2),
+        Kind::Taken => is_set(fields, 16),
+        Kind::Deny => is_set(fields, 4),
+        Kind::Release => true,
+        Kind::Idle => is_set(fields, 256),
+        Kind::Revoke => is_set(fields, 4),
+        Kind::QueuePositionRequest => true,
+        Kind::QueuePositionInfo => is_set(fields, 8),
+        Kind::Ack => is_set(fields, 1024) & is_set(fields, 4096),
+    }
+}
+
+// Whether a type is listed, and has what it requires.
+fn has_required(number: u8, fields: u16) -> bool
+    ensures { λ r. ⌜ r ≡ hasRequired (typed number) fields ⌝ }
+{
+    match message::typed_by(number) {
+        Typed::Listed(kind) => has_all(kind, fields),
+        Typed::Unlisted => false,
+    }
+}
+
+// Whether a field lies in the source and is as the table asks.
+
+fn part_fits(s: &[u8], fields: u16, worth: u16, at: usize, src: &[u8]) -> bool
+    requires { ⌜ (0 < worth) × (at + 4 ≤ length (now s)) ⌝ }
+    ensures { λ r. ⌜ r ≡ (partLies (now (src .entry)) (partIf (bitOf fields worth) (be16 (now (s .entry)) at) (be16 (now (s .entry)) (at + 2))) && identityFits (partIf (bitOf fields worth) (be16 (now (s .entry)) at) (be16 (now (s .entry)) (at + 2)))) ⌝ }
+{
+    let p = part_in(s, fields, worth, at);
+    writing::part_lies(p, src) && writing::identity_fits(p)
+}
+
+fn cause_fits(s: &[u8], fields: u16, src: &[u8]) -> bool
+    requires { ⌜ 40 ≤ length (now s) ⌝ }
+    ensures { λ r. ⌜ r ≡ (phraseLies (now (src .entry)) (causeIf (bitOf fields 4) (be16 (now (s .entry)) 12) (be16 (now (s .entry)) 28) (be16 (now (s .entry)) 30)) && phraseFits (causeIf (bitOf fields 4) (be16 (now (s .entry)) 12) (be16 (now (s .entry)) 28) (be16 (now (s .entry)) 30))) ⌝ }
+{
+    let c = cause_in(s, fields, 4, 12, 28);
+    writing::phrase_lies(c, src) && writing::phrase_fits(c)
+}
+
+fn word_fits(s: &[u8], fields: u16, worth: u16, at: usize, id: u8) -> bool
+    requires { ⌜ (0 < worth) × (at + 2 ≤ length (now s)) ⌝ }
+    ensures { λ r. ⌜ r ≡ contentFits id (wordIf (bitOf fields worth) (be16 (now (s .entry)) at)) ⌝ }
+{
+    let w = word_in(s, fields, worth, at);
+    writing::content_fits(id, w)
+}
+
+// Whether the identities and the phrase are in the source, and no field is against the table.
+fn all_fit(s: &[u8], fields: u16, src: &[u8]) -> bool
+    requires { ⌜ 40 ≤ length (now s) ⌝ }
+    ensures { λ r. ⌜ r ≡ (lies (messageIn (now (s .entry)) fields) (now (src .entry)) && fitting (messageIn (now (s .entry)) fields)) ⌝ }
+{
+    cause_fits(s, fields, src)
+        && part_fits(s, fields, 16, 32, src)
+        && word_fits(s, fields, 32, 16, 5)
+        && part_fits(s, fields, 64, 36, src)
+        && word_fits(s, fields, 1024, 20, 10)
+}
+
+// Whether 40 octets hold a message that a reader would accept.
+fn readable_in(s: &[u8], fields: u16, src: &[u8]) -> bool
+    requires { ⌜ length (now s) ≡ 40 ⌝ }
+    requires { ⌜ fields ≡ be16 (now s) 2 ⌝ }
+    ensures { λ r. ⌜ r ≡ readableIn (heldAt (now (s .entry))) (now (src .entry)) ⌝ }
+{
+    if 1 < s[1] {
+        return false;
+    }
+    if has_unlisted(fields) {
+        return false;
+    }
+    if has_required(s[0], fields) {
+        all_fit(s, fields, src)
+    } else {
+        false
+    }
+}
+
+// How many octets a field of length 2 takes, by its bit.
+fn four_if(fields: u16, worth: u16) -> usize
+    requires { ⌜ 0 < worth ⌝ }
+    ensures { λ r. ⌜ r ≡ fourIf (bitOf fields worth) ⌝ }
+    ensures { λ r. ⌜ r ≤ 4 ⌝ }
+{
+    (fields / worth % 2) as usize * 4
+}
+
+// How many octets all fields of one length take.
+fn short_size(fields: u16) -> usize
+    ensures { λ r. ⌜ r ≡ shortSize fields ⌝ }
+    ensures { λ r. ⌜ r ≤ 40 ⌝ }
+{
+    four_if(fields, 1)
+        + four_if(fields, 2)
+        + four_if(fields, 8)
+        + four_if(fields, 32)
+        + four_if(fields, 256)
+        + four_if(fields, 1024)
+        + four_if(fields, 4096)
+        + four_if(fields, 8192)
+        + four_if(fields, 16384) * 2
+}
+
+fn part_size(s: &[u8], fields: u16, worth: u16, at: usize) -> usize
+    requires { ⌜ (0 < worth) × (at + 4 ≤ length (now s)) ⌝ }
+    requires { ⌜ countOf (partIf (bitOf fields worth) (be16 (now s) at) (be16 (now s) (at + 2))) ≤ 62 ⌝ }
+    ensures { λ r. ⌜ r ≡ partSize (partIf (bitOf fields worth) (be16 (now (s .entry)) at) (be16 (now (s .entry)) (at + 2))) ⌝ }
+{
+    let p = part_in(s, fields, worth, at);
+    writing::part_size(p)
+}
+
+fn cause_size(s: &[u8], fields: u16) -> usize
+    requires { ⌜ 40 ≤ length (now s) ⌝ }
+    requires { ⌜ phraseCount (causeIf (bitOf fields 4) (be16 (now s) 12) (be16 (now s) 28) (be16 (now s) 30)) ≤ 253 ⌝ }
+    ensures { λ r. ⌜ r ≡ causeSize (causeIf (bitOf fields 4) (be16 (now (s .entry)) 12) (be16 (now (s .entry)) 28) (be16 (now (s .entry)) 30)) ⌝ }
+{
+    let c = cause_in(s, fields, 4, 12, 28);
+    writing::cause_size(c)
+}
+
+// The octets of the whole packet. Most packets have no field, so that is asked first.
+fn size_in(s: &[u8], fields: u16) -> usize
+    requires { ⌜ 40 ≤ length (now s) ⌝ }
+    requires { ⌜ Short (messageIn (now s) fields) ⌝ }
+    ensures { λ r. ⌜ r ≡ 12 + (frontSize (messageIn (now (s .entry)) fields) + restSize (messageIn (now (s .entry)) fields)) ⌝ }
+{
+    if fields == 0 {
+        return 12;
+    }
+    12
+        + short_size(fields)
+        + cause_size(s, fields)
+        + part_size(s, fields, 16, 32)
+        + part_size(s, fields, 64, 36)
+}
+
+// Lays a field out of its place in the octets, if its bit is set.
+
+fn put_octet(
+    room: &mut [u8],
+    at: usize,
+    id: u8,
+    s: &[u8],
+    fields: u16,
+    worth: u16,
+    place: usize,
+) -> usize
+    requires { ⌜ (0 < worth) × (place < length (now s)) ⌝ }
+    requires { ⌜ rowOf id .spare ≡ 1 ⌝ }
+    requires { ⌜ at + length (optional id (ofOctet (octetIf (bitOf fields worth) (getD (now s) place 0)))) ≤ length (now room) ⌝ }
+    ensures { λ r. ⌜ Laid (now (room .entry)) at (optional id (ofOctet (octetIf (bitOf fields worth) (getD (now (s .entry)) place 0)))) (now (room .exit)) r ⌝ }
+{
+    let o = octet_in(s, fields, worth, place);
+    writing::put_octet(room, at, id, o)
+}
+
+fn put_word(
+    room: &mut [u8],
+    at: usize,
+    id: u8,
+    s: &[u8],
+    fields: u16,
+    worth: u16,
+    place: usize,
+) -> usize
+    requires { ⌜ (0 < worth) × (place + 2 ≤ length (now s)) ⌝ }
+    requires { ⌜ rowOf id .spare ≡ 0 ⌝ }
+    requires { ⌜ at + length (optional id (ofWord (wordIf (bitOf fields worth) (be16 (now s) place)))) ≤ length (now room) ⌝ }
+    ensures { λ r. ⌜ Laid (now (room .entry)) at (optional id (ofWord (wordIf (bitOf fields worth) (be16 (now (s .entry)) place)))) (now (room .exit)) r ⌝ }
+{
+    let w = word_in(s, fields, worth, place);
+    writing::put_word(room, at, id, w)
+}
+
+fn put_queue(room: &mut [u8], at: usize, s: &[u8], fields: u16) -> usize
+    requires { ⌜ 40 ≤ length (now s) ⌝ }
+    requires { ⌜ at + length (optional 3 (ofQueue (queueIf (bitOf fields 8) (getD (now s) 14 0) (getD (now s) 15 0)))) ≤ length (now room) ⌝ }
+    ensures { λ r. ⌜ Laid (now (room .entry)) at (optional 3 (ofQueue (queueIf (bitOf fields 8) (getD (now (s .entry)) 14 0) (getD (now (s .entry)) 15 0)))) (now (room .exit)) r ⌝ }
+{
+    let q = queue_in(s, fields, 8, 14);
+    writing::put_queue(room, at, q)
+}
+
+fn put_number(room: &mut [u8], at: usize, s: &[u8], fields: u16) -> usize
+    requires { ⌜ 40 ≤ length (now s) ⌝ }
+    requires { ⌜ at + length (optional 14 (ofNumber (numberIf (bitOf fields 16384) (be32 (now s) 24)))) ≤ length (now room) ⌝ }
+    ensures { λ r. ⌜ Laid (now (room .entry)) at (optional 14 (ofNumber (numberIf (bitOf fields 16384) (be32 (now (s .entry)) 24)))) (now (room .exit)) r ⌝ }
+{
+    let n = number_in(s, fields, 16384, 24);
+    writing::put_number(room, at, n)
+}
+
+fn put_identity(
+    room: &mut [u8],
+    at: usize,
+    src: &[u8],
+    id: u8,
+    s: &[u8],
+    fields: u16,
+    worth: u16,
+    place: usize,
+) -> usize
+    requires { ⌜ (0 < worth) × (place + 4 ≤ length (now s)) ⌝ }
+    requires { ⌜ rowOf id .spare ≡ 0 ⌝ }
+    requires { ⌜ countOf (partIf (bitOf fields worth) (be16 (now s) place) (be16 (now s) (place + 2))) ≤ 62 ⌝ }
+    requires { ⌜ partLies (now src) (partIf (bitOf fields worth) (be16 (now s) place) (be16 (now s) (place + 2))) ≡ true ⌝ }
+    requires { ⌜ at + length (optional id (ofPart (now src) (partIf (bitOf fields worth) (be16 (now s) place) (be16 (now s) (place + 2))))) ≤ length (now room) ⌝ }
+    ensures { λ r. ⌜ Laid (now (room .entry)) at (optional id (ofPart (now (src .entry)) (partIf (bitOf fields worth) (be16 (now (s .entry)) place) (be16 (now (s .entry)) (place + 2))))) (now (room .exit)) r ⌝ }
+{
+    let p = part_in(s, fields, worth, place);
+    writing::put_identity(room, at, src, id, p)
+}
+
+fn put_cause(room: &mut [u8], at: usize, src: &[u8], s: &[u8], fields: u16) -> usize
+    requires { ⌜ 40 ≤ length (now s) ⌝ }
+    requires { ⌜ phraseCount (causeIf (bitOf fields 4) (be16 (now s) 12) (be16 (now s) 28) (be16 (now s) 30)) ≤ 253 ⌝ }
+    requires { ⌜ phraseLies (now src) (causeIf (bitOf fields 4) (be16 (now s) 12) (be16 (now s) 28) (be16 (now s) 30)) ≡ true ⌝ }
+    requires { ⌜ at + length (optional 2 (ofCause (now src) (causeIf (bitOf fields 4) (be16 (now s) 12) (be16 (now s) 28) (be16 (now s) 30)))) ≤ length (now room) ⌝ }
+    ensures { λ r. ⌜ Laid (now (room .entry)) at (optional 2 (ofCause (now (src .entry)) (causeIf (bitOf fields 4) (be16 (now (s .entry)) 12) (be16 (now (s .entry)) 28) (be16 (now (s .entry)) 30)))) (now (room .exit)) r ⌝ }
+{
+    let c = cause_in(s, fields, 4, 12, 28);
+    writing::put_cause(room, at, src, c)
+}
+
+// Lays the fields 0 to 5, in ascending order.
+fn put_front(room: &mut [u8], at: usize, src: &[u8], s: &[u8], fields: u16) -> usize
+    requires { ⌜ 40 ≤ length (now s) ⌝ }
+    requires { ⌜ Held (messageIn (now s) fields) (now src) ⌝ }
+    requires { ⌜ at + length (body (frontFields (messageIn (now s) fields) (now src))) ≤ length (now room) ⌝ }
+    ensures { λ r. ⌜ Laid (now (room .entry)) at (body (frontFields (messageIn (now (s .entry)) fields) (now (src .entry)))) (now (room .exit)) r ⌝ }
+{
+    let at = put_octet(room, at, 0, s, fields, 1, 8);
+    let at = put_word(room, at, 1, s, fields, 2, 10);
+    let at = put_cause(room, at, src, s, fields);
+    let at = put_queue(room, at, s, fields);
+    let at = put_identity(room, at, src, 4, s, fields, 16, 32);
+    put_word(room, at, 5, s, fields, 32, 16)
+}
+
+// Lays the fields 6 to 14, in ascending order.
+fn put_rest(room: &mut [u8], at: usize, src: &[u8], s: &[u8], fields: u16) -> usize
+    requires { ⌜ 40 ≤ length (now s) ⌝ }
+    requires { ⌜ Held (messageIn (now s) fields) (now src) ⌝ }
+    requires { ⌜ at + length (body (restFields (messageIn (now s) fields) (now src))) ≤ length (now room) ⌝ }
+    ensures { λ r. ⌜ Laid (now (room .entry)) at (body (restFields (messageIn (now (s .entry)) fields) (now (src .entry)))) (now (room .exit)) r ⌝ }
+{
+    let at = put_identity(room, at, src, 6, s, fields, 64, 36);
+    let at = put_word(room, at, 8, s, fields, 256, 18);
+    let at = put_word(room, at, 10, s, fields, 1024, 20);
+    let at = put_octet(room, at, 12, s, fields, 4096, 9);
+    let at = put_word(room, at, 13, s, fields, 8192, 22);
+    put_number(room, at, s, fields)
+}
+
+// Writes the message that octets hold as a packet, its identities and its phrase out of the lent source. The type and the Ack bit are
+// numbers in their octets, so that the packet's first octet is a sum of them.
+pub fn write_held(held: &[u8], source: &[u8], room: &mut [u8]) -> Writing
+    ensures { λ r. ⌜ told r ≡ writingOf (heldAt (now (held .entry))) (now (source .entry)) (length (now (room .entry))) ⌝ }
+    ensures { λ _. ⌜ now (room .exit) ≡ writtenOf (heldAt (now (held .entry))) (now (source .entry)) (now (room .entry)) ⌝ }
+{
+    if held.len() != SIZE {
+        return Writing::Refused(Refusal::Unreadable);
+    }
+    let fields = octets::number16(held, 2);
+    if readable_in(held, fields, source) {
+        let size = size_in(held, fields);
+        if room.len() < size {
+            return Writing::Refused(Refusal::NoRoom);
+        }
+        let first = 128 + 16 * held[1] + held[0];
+        let ssrc = octets::number32(held, 4);
+        writing::put_header(room, first, ssrc, size);
+        let at = put_front(room, 12, source, held, fields);
+        put_rest(room, at, source, held, fields);
+        Writing::Written(size)
+    } else {
+        Writing::Refused(Refusal::Unreadable)
+    }
+}
