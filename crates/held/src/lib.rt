@@ -1,37 +1,19 @@
 // A message as 40 octets (docs/FORMS.md, "A message"), for C programs: its identities and its phrase are places in a source that is lent
 // beside it. A packet is read into such octets here; crate held_writing writes a message out of them.
-use message::Cause;
+use message::Kind;
 use message::Message;
-use message::Number;
-use message::Octet;
-use message::Part;
-use message::Queue;
-use message::Word;
-<<<<<<< HEAD
 use reading::Opening;
-use writing::Writing;
 ghost use mathlib.Core.Path.{_≡_};
 ghost use mathlib.Core.List.{[], _∷_};
-ghost use Prim.Native.Nat.{_+_, _-_, _*_, _≤_, _<_, _^_};
+ghost use Prim.Native.Nat.{_+_, _-_, _≤_, _<_};
 ghost use lib.ListN.{length, getD};
-ghost use Rattle.octets.specs.Octets.{be16, be32, octets16, octets32, over};
+ghost use Rattle.octets.specs.Octets.{octets16, octets32, over};
 ghost use Rattle.message.specs.Message.{ofOctet, ofWord, ofNumber, ofQueue, ofPart, ofCause, isGiven};
 ghost use Rattle.message.specs.declared.Part.the-variants as part;
 ghost use Rattle.reading.specs.Reading as reads;
 ghost use Rattle.reading.specs.Walk.{Reach};
-ghost use Rattle.writing.specs.Writing.{told};
-ghost use Rattle.held.specs.Held.{worthIf, octetIn, wordIn, numberIn, causeIn, phraseIn, firstOctets, nextOctets, placeOctets, partOctets, heldOctets, bitOf, octetIf, wordIf, numberIf, queueIf, partIf, causeIf, messageWith, unlistedField, heldAt, readHeld, keptIn, writingOf, writtenOf};
+ghost use Rattle.held.specs.Held.{worthIf, octetIn, wordIn, numberIn, causeIn, phraseIn, firstOctets, nextOctets, placeOctets, partOctets, heldOctets, readHeld, keptIn};
 ghost use Rattle.held.specs.Laying.{Blank, Lays, queueOctets, firstWorth, nextWorth, partsWorth, headBy};
-=======
-use reading::Reading;
-ghost use mathlib.Core.Path.{_≡_};
-ghost use mathlib.Core.List.{[]};
-ghost use Prim.Native.Nat.{_+_, _≤_};
-ghost use lib.ListN.{length};
-ghost use Rattle.octets.specs.Octets.{over};
-ghost use Rattle.message.specs.Message.{ofOctet, ofWord, ofNumber, ofQueue, ofPart, ofCause, isGiven};
-ghost use Rattle.held.specs.Held.{flag, which, worthIf, octetIn, wordIn, numberIn, positionIn, priorityIn, causeIn, phraseIn, startIn, countIn, headOctets, firstOctets, nextOctets, placeOctets, partOctets, heldOctets, readHeld, keptIn};
->>>>>>> ww
 
 // What octets hold.
 pub enum Held {
