@@ -14,6 +14,7 @@ use rules::Phase;
 use rules::Report;
 use rules::Step;
 ghost use mathlib.Core.Path.{_≡_};
+ghost use Rattle.rules.specs.Floor.{floorEnds};
 ghost use Rattle.desk.specs.Timers.{running, runs, halted, stops, endsIn, revokesIn, idleAgain, revokesAgain, grantsOrEnds, grantsAgain, fires, isStopped, expires};
 ghost use Rattle.desk.specs.Events.{fresh, starts, callerOf, struckOff, releases, asksPlace, talks, requestFrom, releaseFrom, placeFrom, mediaFrom, otherFrom, step, leaves, leave};
 
@@ -239,6 +240,13 @@ fn revoke_again(core: Core) -> Step
     }
 }
 
+// A function of its own, so that the hall is copied only where the floor does end.
+fn end_at_limit(core: Core, hall: Hall, seat: u8) -> Step
+    ensures { λ r. ⌜ r ≡ floorEnds core hall seat ⌝ }
+{
+    rules::end_floor(core, hall, seat)
+}
+
 // C20 counts one more, below its limit.
 fn grant_or_end(core: Core, hall: Hall, e: Entry) -> Step
     ensures { λ r. ⌜ r ≡ grantsOrEnds core hall e ⌝ }
@@ -256,7 +264,7 @@ fn grant_or_end(core: Core, hall: Hall, e: Entry) -> Step
         };
         rules::grant_again(counted, e)
     } else {
-        rules::end_floor(core, hall, e.seat)
+        end_at_limit(core, hall, e.seat)
     }
 }
 

@@ -12,8 +12,8 @@ add-t10 c = search needs
 grant-again-requires : tie.Need-grant-again-requires
 grant-again-requires c κs = search needs
 
-end-floor-requires : tie.Need-end-floor-requires
-end-floor-requires c κs = search needs
+end-at-limit-requires : tie.Need-end-at-limit-requires
+end-at-limit-requires c κs = search needs
 
 returns : tie.Need-returns
 unfolding grantsOrEnds if_then_else_
@@ -21,8 +21,8 @@ returns c = rw (lt-ltb _ _ (c .before .before .before .if1 .taken)) (c .grant-ag
 
 returns-2 : tie.Need-returns-2
 unfolding grantsOrEnds if_then_else_
-returns-2 c = rw (le-ltb _ _ (c .before .if1 .left)) (c .end-floor .ensures)
+returns-2 c = rw (le-ltb _ _ (c .before .if1 .left)) (c .end-at-limit .ensures)
 
 pub grant-or-end-spec : {M : Type 1} → statement M
 grant-or-end-spec =
-    tie.close (tie.spec add-t10 grant-again-requires end-floor-requires returns returns-2)
+    tie.close (tie.spec add-t10 grant-again-requires end-at-limit-requires returns returns-2)
