@@ -95,7 +95,17 @@ asksAgain c h s p press =
 unfoldable pub placed : Core → Hall → ℕ → ℕ → Bool → Step
 placed c h s p press = rule6 (c withLine lineOf (enter (entry s p) (waiting (c .line)))) h s press marksPlaced s
 
--- the parts of the page below that the code has as functions of their own
+unfoldable pub request : Core → Hall → ℕ → ℕ → Step
+request c h s p =
+    if holds (c .phase) s then holderAsks c (c .phase)  -- 1
+    else if receivesOnly h s then denied c s 5  -- 2
+    else if isIdle (c .phase) then (if alone h s then denied c s 3 else givenAtOnce c h (entry s p))  -- 3
+    else if waits c s then asksAgain c h s p (presses c h s p)  -- 4, 6
+    else if not (presses c h s p) && not (queues h s) then denied c s 1  -- 5
+    else if full c h then denied c s 7
+    else placed c h s p (presses c h s p)  -- 5, 6
+
+-- the parts of the page above that the code has as functions of their own
 abbrev pub idleRequest : Core → Hall → ℕ → ℕ → Step
 idleRequest c h s p = if alone h s then denied c s 3 else givenAtOnce c h (entry s p)
 
@@ -132,13 +142,3 @@ rule5 c h s p press =
 
 abbrev pub asks : Core → Hall → ℕ → ℕ → Bool → Step
 asks c h s p press = if waits c s then asksAgain c h s p press else rule5 c h s p press
-
-unfoldable pub request : Core → Hall → ℕ → ℕ → Step
-request c h s p =
-    if holds (c .phase) s then holderAsks c (c .phase)  -- 1
-    else if receivesOnly h s then denied c s 5  -- 2
-    else if isIdle (c .phase) then (if alone h s then denied c s 3 else givenAtOnce c h (entry s p))  -- 3
-    else if waits c s then asksAgain c h s p (presses c h s p)  -- 4, 6
-    else if not (presses c h s p) && not (queues h s) then denied c s 1  -- 5
-    else if full c h then denied c s 7
-    else placed c h s p (presses c h s p)  -- 5, 6
