@@ -284,7 +284,7 @@ fn give(core: Core, hall: Hall, e: Entry, beside: Beside, mark: Given) -> Step
 {
     let sequence = next_number(core.sequence);
     let line = core.line;
-    let taken = Core {
+    let core = Core {
         phase: Phase::Taken(e, beside),
         line,
         sequence,
@@ -314,10 +314,7 @@ fn give(core: Core, hall: Hall, e: Entry, beside: Beside, mark: Given) -> Step
         second,
         marks,
     };
-    Step {
-        core: taken,
-        report,
-    }
+    Step { core, report }
 }
 
 fn give_at_once(core: Core, hall: Hall, e: Entry) -> Step
@@ -608,7 +605,7 @@ fn idle_request(core: Core, hall: Hall, seat: u8, priority: u8) -> Step
     }
 }
 
-// The cause by which a newcomer is denied its place; 0, and for who waits already, if it is not.
+// The cause by which a newcomer is denied its place; 0 if it is not, and for who waits already.
 fn refusal(core: Core, hall: Hall, seat: u8, press: bool, waits: bool) -> u16
     ensures { λ r. ⌜ r ≡ refusalOf core hall seat press waits ⌝ }
 {
