@@ -58,7 +58,7 @@ fn event_by(kind: Kind, ssrc: u32, asked: Asked) -> Event
 }
 
 // What a packet is heard as. Of a message that was read only its type, its SSRC and the priority it asks for make the event.
-pub fn heard_as(packet: &[u8]) -> Heard
+fn heard_as(packet: &[u8]) -> Heard
     ensures { λ r. ⌜ r ≡ heardAs (reading (now (packet .entry))) ⌝ }
 {
     let mut starts = [0usize; 16];
@@ -110,7 +110,7 @@ pub fn not_read(core: Core, number: u8) -> Called
 }
 
 // What is heard becomes a step, or leaves all as it was.
-pub fn follow(core: Core, hall: Hall, heard: Heard) -> Called
+fn follow(core: Core, hall: Hall, heard: Heard) -> Called
     ensures { λ r. ⌜ r ≡ followed core hall heard ⌝ }
 {
     match heard {
