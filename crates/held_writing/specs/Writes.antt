@@ -2,16 +2,19 @@
 use Prim.Native.Nat.{ℕ, _+_, _*_}
 use mathlib.Core.Bool.{Bool, true, false, _&&_}
 use mathlib.Core.List.{List, [], _∷_}
+use Rattle.octets.specs.Octets.{be16}
 use Rattle.message.specs.Types.{typed}
 use Rattle.message.specs.Message.{required}
 use Rattle.message.specs.declared.Kind.{Kind}
 use Rattle.message.specs.declared.Typed.{Typed}
 use Rattle.message.specs.declared.Typed.the-variants.{Listed, Unlisted}
+use Rattle.message.specs.declared.Part.{Part}
+use Rattle.message.specs.declared.Cause.{Cause}
 use Rattle.message.specs.declared.Message.{Message}
 use Rattle.writing.specs.Writing.{readable}
 use Rattle.held.specs.declared.Held.{Held}
 use Rattle.held.specs.declared.Held.the-variants.{Is, Nothing}
-use Rattle.held.specs.Held.{octetAt, isSet, messageWith}
+use Rattle.held.specs.Held.{octetAt, bitOf, isSet, partIf, causeIf, messageWith}
 
 -- the type that an octet names, and any where it names none
 abbrev pub kindOf : Typed → Kind
@@ -21,6 +24,13 @@ kindOf (Listed k) = k
 -- the message that octets hold, if they hold one, by the bits of the fields that it has
 unfoldable pub messageIn : List ℕ → ℕ → Message
 messageIn s fields = messageWith (kindOf (typed (octetAt s 0))) s fields
+
+-- what the octets have of an identity, by the worth of its bit and its place, and of the cause
+abbrev pub partAt : List ℕ → ℕ → ℕ → ℕ → Part
+partAt s fields worth at = partIf (bitOf fields worth) (be16 s at) (be16 s (at + 2))
+
+abbrev pub causeAt : List ℕ → ℕ → Cause
+causeAt s fields = causeIf (bitOf fields 4) (be16 s 12) (be16 s 28) (be16 s 30)
 
 -- the bits of all these IDs are set, and of those that a listed type requires
 abbrev pub allSet : ℕ → List ℕ → Bool

@@ -21,8 +21,8 @@ ghost use Rattle.message.specs.Message.{required, ofOctet, ofWord, ofNumber, of
 ghost use Rattle.writing.specs.Wire.{optional, body};
 ghost use Rattle.writing.specs.Writing.{partLies, phraseLies, lies, told};
 ghost use Rattle.writing.specs.Puts.{Laid, Short, Held, countOf, phraseCount, phraseFits, identityFits, contentFits, fitting, frontFields, restFields, partSize, causeSize, frontSize, restSize};
-ghost use Rattle.held.specs.Held.{bitOf, octetIf, wordIf, numberIf, queueIf, partIf, causeIf, unlistedField, heldAt, writingOf, writtenOf};
-ghost use Rattle.held_writing.specs.Writes.{messageIn, allSet, hasRequired, readableIn, fourIf, shortSize};
+ghost use Rattle.held.specs.Held.{bitOf, octetIf, wordIf, numberIf, queueIf, causeIf, unlistedField, heldAt, writingOf, writtenOf};
+ghost use Rattle.held_writing.specs.Writes.{partAt, causeAt, messageIn, allSet, hasRequired, readableIn, fourIf, shortSize};
 
 // How many octets a message is held in.
 const SIZE: usize = 40;
@@ -90,7 +90,7 @@ fn place_at(s: &[u8], at: usize) -> usize
 
 fn part_in(s: &[u8], fields: u16, worth: u16, at: usize) -> Part
     requires { ⌜ (0 < worth) × (at + 4 ≤ length (now s)) ⌝ }
-    ensures { λ r. ⌜ r ≡ partIf (bitOf fields worth) (be16 (now (s .entry)) at) (be16 (now (s .entry)) (at + 2)) ⌝ }
+    ensures { λ r. ⌜ r ≡ partAt (now (s .entry)) fields worth at ⌝ }
 {
     if is_set(fields, worth) {
         Part::At(place_at(s, at), place_at(s, at + 2))
@@ -154,7 +154,7 @@ fn has_required(number: u8, fields: u16) -> bool
 
 fn part_fits(s: &[u8], fields: u16, worth: u16, at: usize, src: &[u8]) -> bool
     requires { ⌜ (0 < worth) × (at + 4 ≤ length (now s)) ⌝ }
-    ensures { λ r. ⌜ r ≡ (partLies (now (src .entry)) (partIf (bitOf fields worth) (be16 (now (s .entry)) at) (be16 (now (s .entry)) (at + 2))) && identityFits (partIf (bitOf fields worth) (be16 (now (s .entry)) at) (be16 (now (s .entry)) (at + 2)))) ⌝ }
+    ensures { λ r. ⌜ r ≡ (partLies (now (src .entry)) (partAt (now (s .entry)) fields worth at) && identityFits (partAt (now (s .entry)) fields worth at)) ⌝ }
 {
     let p = part_in(s, fields, worth, at);
     writing::part_lies(p, src) && writing::identity_fits(p)
@@ -162,7 +162,7 @@ fn part_fits(s: &[u8], fields: u16, worth: u16, at: usize, src: &[u8]) -> bool
 
 fn cause_fits(s: &[u8], fields: u16, src: &[u8]) -> bool
     requires { ⌜ 40 ≤ length (now s) ⌝ }
-    ensures { λ r. ⌜ r ≡ (phraseLies (now (src .entry)) (causeIf (bitOf fields 4) (be16 (now (s .entry)) 12) (be16 (now (s .entry)) 28) (be16 (now (s .entry)) 30)) && phraseFits (causeIf (bitOf fields 4) (be16 (now (s .entry)) 12) (be16 (now (s .entry)) 28) (be16 (now (s .entry)) 30))) ⌝ }
+    ensures { λ r. ⌜ r ≡ (phraseLies (now (src .entry)) (causeAt (now (s .entry)) fields) && phraseFits (causeAt (now (s .entry)) fields)) ⌝ }
 {
     let c = cause_in(s, fields, 4, 12, 28);
     writing::phrase_lies(c, src) && writing::phrase_fits(c)
@@ -234,8 +234,8 @@ fn short_size(fields: u16) -> usize
 
 fn part_size(s: &[u8], fields: u16, worth: u16, at: usize) -> usize
     requires { ⌜ (0 < worth) × (at + 4 ≤ length (now s)) ⌝ }
-    requires { ⌜ countOf (partIf (bitOf fields worth) (be16 (now s) at) (be16 (now s) (at + 2))) ≤ 62 ⌝ }
-    ensures { λ r. ⌜ r ≡ partSize (partIf (bitOf fields worth) (be16 (now (s .entry)) at) (be16 (now (s .entry)) (at + 2))) ⌝ }
+    requires { ⌜ countOf (partAt (now s) fields worth at) ≤ 62 ⌝ }
+    ensures { λ r. ⌜ r ≡ partSize (partAt (now (s .entry)) fields worth at) ⌝ }
 {
     let p = part_in(s, fields, worth, at);
     writing::part_size(p)
@@ -243,8 +243,8 @@ fn part_size(s: &[u8], fields: u16, worth: u16, at: usize) -> usize
 
 fn cause_size(s: &[u8], fields: u16) -> usize
     requires { ⌜ 40 ≤ length (now s) ⌝ }
-    requires { ⌜ phraseCount (causeIf (bitOf fields 4) (be16 (now s) 12) (be16 (now s) 28) (be16 (now s) 30)) ≤ 253 ⌝ }
-    ensures { λ r. ⌜ r ≡ causeSize (causeIf (bitOf fields 4) (be16 (now (s .entry)) 12) (be16 (now (s .entry)) 28) (be16 (now (s .entry)) 30)) ⌝ }
+    requires { ⌜ phraseCount (causeAt (now s) fields) ≤ 253 ⌝ }
+    ensures { λ r. ⌜ r ≡ causeSize (causeAt (now (s .entry)) fields) ⌝ }
 {
     let c = cause_in(s, fields, 4, 12, 28);
     writing::cause_size(c)
@@ -334,10 +334,10 @@ fn put_identity(
 ) -> usize
     requires { ⌜ (0 < worth) × (place + 4 ≤ length (now s)) ⌝ }
     requires { ⌜ rowOf id .spare ≡ 0 ⌝ }
-    requires { ⌜ countOf (partIf (bitOf fields worth) (be16 (now s) place) (be16 (now s) (place + 2))) ≤ 62 ⌝ }
-    requires { ⌜ partLies (now src) (partIf (bitOf fields worth) (be16 (now s) place) (be16 (now s) (place + 2))) ≡ true ⌝ }
-    requires { ⌜ at + length (optional id (ofPart (now src) (partIf (bitOf fields worth) (be16 (now s) place) (be16 (now s) (place + 2))))) ≤ length (now room) ⌝ }
-    ensures { λ r. ⌜ Laid (now (room .entry)) at (optional id (ofPart (now (src .entry)) (partIf (bitOf fields worth) (be16 (now (s .entry)) place) (be16 (now (s .entry)) (place + 2))))) (now (room .exit)) r ⌝ }
+    requires { ⌜ countOf (partAt (now s) fields worth place) ≤ 62 ⌝ }
+    requires { ⌜ partLies (now src) (partAt (now s) fields worth place) ≡ true ⌝ }
+    requires { ⌜ at + length (optional id (ofPart (now src) (partAt (now s) fields worth place))) ≤ length (now room) ⌝ }
+    ensures { λ r. ⌜ Laid (now (room .entry)) at (optional id (ofPart (now (src .entry)) (partAt (now (s .entry)) fields worth place))) (now (room .exit)) r ⌝ }
 {
     let p = part_in(s, fields, worth, place);
     writing::put_identity(room, at, src, id, p)
@@ -345,10 +345,10 @@ fn put_identity(
 
 fn put_cause(room: &mut [u8], at: usize, src: &[u8], s: &[u8], fields: u16) -> usize
     requires { ⌜ 40 ≤ length (now s) ⌝ }
-    requires { ⌜ phraseCount (causeIf (bitOf fields 4) (be16 (now s) 12) (be16 (now s) 28) (be16 (now s) 30)) ≤ 253 ⌝ }
-    requires { ⌜ phraseLies (now src) (causeIf (bitOf fields 4) (be16 (now s) 12) (be16 (now s) 28) (be16 (now s) 30)) ≡ true ⌝ }
-    requires { ⌜ at + length (optional 2 (ofCause (now src) (causeIf (bitOf fields 4) (be16 (now s) 12) (be16 (now s) 28) (be16 (now s) 30)))) ≤ length (now room) ⌝ }
-    ensures { λ r. ⌜ Laid (now (room .entry)) at (optional 2 (ofCause (now (src .entry)) (causeIf (bitOf fields 4) (be16 (now (s .entry)) 12) (be16 (now (s .entry)) 28) (be16 (now (s .entry)) 30)))) (now (room .exit)) r ⌝ }
+    requires { ⌜ phraseCount (causeAt (now s) fields) ≤ 253 ⌝ }
+    requires { ⌜ phraseLies (now src) (causeAt (now s) fields) ≡ true ⌝ }
+    requires { ⌜ at + length (optional 2 (ofCause (now src) (causeAt (now s) fields))) ≤ length (now room) ⌝ }
+    ensures { λ r. ⌜ Laid (now (room .entry)) at (optional 2 (ofCause (now (src .entry)) (causeAt (now (s .entry)) fields))) (now (room .exit)) r ⌝ }
 {
     let c = cause_in(s, fields, 4, 12, 28);
     writing::put_cause(room, at, src, c)
