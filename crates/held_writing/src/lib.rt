@@ -250,7 +250,7 @@ fn cause_size(s: &[u8], fields: u16) -> usize
     writing::cause_size(c)
 }
 
-// The octets of the whole packet. Most packets have no field, so that is asked first.
+// The octets of the whole packet. Where it has no field there is nothing to sum.
 fn size_in(s: &[u8], fields: u16) -> usize
     requires { ⌜ 40 ≤ length (now s) ⌝ }
     requires { ⌜ Short (messageIn (now s) fields) ⌝ }
