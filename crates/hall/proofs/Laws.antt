@@ -6,8 +6,8 @@ use mathlib.Core.List.{List, [], _∷_, _++_}
 use native.Mathlib.Numerals.{add-one}
 use native.Mathlib.Omega.{arith}
 use lib.Dec.{eqb, leb}
-use lib.ListN.{length, drop, getD, replicate, drop-of-length-le}
-use lib.Seq.{drop-cons, take-take, take-append-seam}
+use lib.ListN.{length, drop, getD, replicate, drop-of-length-le, length-take}
+use lib.Seq.{drop-cons, take-take, take-append-seam, getD-take}
 use borrow.Author.Tests.{eqb-true, eqb-false, eq-eqb, ne-eqb, leb-true}
 use Rattle.words.specs.Choice.{if_then_else_, if-yes, if-no, by-test}
 use Rattle.words.specs.Below.{and-right}
@@ -15,6 +15,7 @@ use Rattle.words.proofs.Tests.{clash}
 use Rattle.hall.specs.declared.Found.{Found}
 use Rattle.hall.specs.declared.Found.the-variants.{At, Nowhere}
 use Rattle.hall.specs.Seats.{firstFrom, someone}
+use Rattle.hall.specs.declared.Name.{Name}
 use Rattle.hall.specs.Identity.{octetsOf, nameOf, noName, same, lengthAllowed}
 use Rattle.hall.specs.Join.{isAt}
 
@@ -85,6 +86,13 @@ name-octets o h = rw (take-take (length o) 62 (o ++ replicate 62 0) h) (take-app
 pub no-name-whole : noName ≡ nameOf (octetsOf noName)
 unfolding octetsOf nameOf
 no-name-whole = refl
+
+-- an octet of an identity stands in its array
+pub octet-is : (n : Name) (i : ℕ) → i < length (octetsOf n) → getD (octetsOf n) i 0 ≡ getD (n .octets) i 0
+unfolding octetsOf
+octet-is n i h =
+    let k : i < n .len = omega (arith, simp length-take at h) in
+    getD-take (n .len) (n .octets) i 0 k
 
 -- two identities compared octet by octet
 pub same-sym : (a b : List ℕ) → same a b ≡ same b a

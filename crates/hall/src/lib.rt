@@ -5,7 +5,7 @@ ghost use Prim.Native.Nat.{_≤_};
 ghost use mathlib.Core.Bool.{true, false};
 ghost use lib.ListN.{length, getD, set};
 ghost use Rattle.hall.specs.Seats.{inRange, emptyHall, isPresent, queues, receivesOnly, only, others, alone, effective, seatOf, freeSeat, withSeat, vacated};
-ghost use Rattle.hall.specs.Identity.{octetsOf, nameOf, noNames, nameAt, withName, same, hasName, seatNamed, lengthAllowed};
+ghost use Rattle.hall.specs.Identity.{octetsOf, nameOf, noNames, nameAt, withName, same, seatNamed, lengthAllowed};
 ghost use Rattle.hall.specs.Answers.{number, settingsAnswer};
 ghost use Rattle.hall.specs.Join.{join, seated, notJoined, ssrcTaken};
 
@@ -349,20 +349,12 @@ pub fn no_names() -> Names
     Names { of }
 }
 
-// How long a name is, and its octets one by one.
+// How long a name is, and the octets of an identity one by one.
 
 pub fn name_length(name: Name) -> usize
     ensures { λ r. ⌜ (r ≡ length (octetsOf name)) × (r ≤ 62) ⌝ }
 {
     if name.len < 62 { name.len } else { 62 }
-}
-
-fn octet_of(name: Name, i: usize) -> u8
-    ensures { λ r. ⌜ r ≡ getD (octetsOf name) i 0 ⌝ }
-{
-    let n = name_length(name);
-    let octets = name.octets;
-    if i < n { octets[i] } else { 0 }
 }
 
 fn octet_at(identity: &[u8], i: usize) -> u8
@@ -421,7 +413,7 @@ pub fn is_same(name: Name, identity: &[u8]) -> bool
     }
     let mut i = 0;
     while i < n {
-        if octet_of(name, i) != octet_at(identity, i) {
+        if name.octets[i] != identity[i] {
             return false;
         }
         i += 1;
@@ -429,28 +421,24 @@ pub fn is_same(name: Name, identity: &[u8]) -> bool
     true
 }
 
-fn has_name(hall: Hall, names: Names, identity: &[u8], seat: u8) -> bool
-    ensures { λ r. ⌜ r ≡ hasName hall names (now (identity .entry)) seat ⌝ }
-{
-    if is_present(hall, seat) {
-        let name = name_at(names, seat);
-        is_same(name, identity)
-    } else {
-        false
-    }
-}
-
+// As in seat_of, and of each seat only its own name is copied.
 pub fn seat_named(hall: Hall, names: Names, identity: &[u8]) -> Found
     ensures { λ r. ⌜ r ≡ seatNamed hall names (now (identity .entry)) ⌝ }
 {
-    let mut s: u8 = 0;
-    while s < 16 {
-        if has_name(hall, names, identity, s) {
-            return Found::At(s);
-        }
+    let present = hall.present;
+    let all = names.of;
+    let mut found = false;
+    let mut s: usize = 0;
+    while (s < 16) & !found {
+        let name = all[s];
+        found = present[s] & is_same(name, identity);
         s += 1;
     }
-    Found::Nowhere
+    if found {
+        Found::At((s - 1) as u8)
+    } else {
+        Found::Nowhere
+    }
 }
 
 // Join.
