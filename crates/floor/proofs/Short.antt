@@ -13,9 +13,7 @@ use Rattle.writing.proofs.Lengths.{wire-whole}
 use Rattle.outgoing.specs.declared.Outgoing.{Outgoing}
 use Rattle.outgoing.specs.declared.Outgoing.the-variants.{Packet, Silence}
 use Rattle.outgoing.specs.Outgoing.{sending}
-use Rattle.held.specs.declared.Held.{Held}
-use Rattle.held.specs.declared.Held.the-variants.{Is, Nothing}
-use Rattle.held.specs.Held.{writingOf}
+use Rattle.held.specs.Held.{Held, Is, Nothing, writingOf}
 use Rattle.floor.specs.Floor.{sizeIn}
 
 writing-short : (m : Message) (src : List ℕ) (room : ℕ) → sizeIn (writing m src room) ≤ 440

@@ -26,8 +26,7 @@ use Rattle.writing.specs.Writing.{partLies, phraseLies, lies, allFit, readable,
 use Rattle.again.specs.Again.{WrittenAgain}
 use Rattle.again.proofs.Judged.{passed}
 use Rattle.again.proofs.Again.{read-is-written}
-use Rattle.held.specs.declared.Held.the-variants.{Is}
-use Rattle.held.specs.Held.{phraseIn, headOctets, firstOctets, nextOctets, placeOctets, partOctets, heldOctets, heldAt, readHeld, keptIn, writingOf, writtenOf}
+use Rattle.held.specs.Held.{Is, phraseIn, headOctets, firstOctets, nextOctets, placeOctets, partOctets, heldOctets, heldAt, readHeld, keptIn, writingOf, writtenOf}
 use Rattle.held.proofs.Answers.{kept-is}
 use Rattle.held.proofs.Back.{NearPart, Near, held-back}
 

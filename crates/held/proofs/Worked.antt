@@ -15,8 +15,7 @@ use Rattle.message.specs.declared.Queue.{Queue}
 use Rattle.message.specs.declared.Part.{Part}
 use Rattle.message.specs.declared.Cause.{Cause}
 use Rattle.message.specs.declared.Message.{Message}
-use Rattle.held.specs.declared.Held.the-variants.{Is}
-use Rattle.held.specs.Held.{which, headOctets, firstOctets, nextOctets, placeOctets, partOctets, heldOctets, messageWith, unlistedField, heldAt}
+use Rattle.held.specs.Held.{Is, which, headOctets, firstOctets, nextOctets, placeOctets, partOctets, heldOctets, messageWith, unlistedField, heldAt}
 
 abbrev full : Message
 full =

@@ -23,8 +23,6 @@ use Rattle.message.specs.declared.Cause.{Cause}
 use Rattle.message.specs.declared.Message.{Message}
 use Rattle.reading.specs.Reading.{reading}
 use Rattle.writing.specs.Writing.{writing, written}
-use Rattle.held.specs.declared.Held.{Held}
-use Rattle.held.specs.declared.Held.the-variants.{Is, Nothing}
 
 -- WHAT A MESSAGE IS HELD AS
 
@@ -110,7 +108,11 @@ partOctets m = placeOctets (phraseIn (m .cause)) ++ placeOctets (m .granted) ++ 
 unfoldable pub heldOctets : Message → List ℕ
 heldOctets m = headOctets m ++ firstOctets m ++ nextOctets m ++ partOctets m
 
--- THE MESSAGE THAT OCTETS HOLD
+-- THE MESSAGE THAT OCTETS HOLD, IF THEY HOLD ONE
+
+pub data Held : Type 0 where
+  Is : Message → Held
+  Nothing : Held
 
 -- whether the bit of this worth is set, and bit i
 abbrev pub bitOf : ℕ → ℕ → Bool

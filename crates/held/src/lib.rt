@@ -1,7 +1,6 @@
 // A message as 40 octets (docs/FORMS.md, "A message"), for C programs: its identities and its phrase are places in a source that is lent
 // beside it. A packet is read into such octets here; crate held_writing writes a message out of them.
 use message::Kind;
-use message::Message;
 use reading::Opening;
 ghost use mathlib.Core.Path.{_≡_};
 ghost use mathlib.Core.List.{[], _∷_};
@@ -14,12 +13,6 @@ ghost use Rattle.reading.specs.Reading as reads;
 ghost use Rattle.reading.specs.Walk.{Reach};
 ghost use Rattle.held.specs.Held.{worthIf, octetIn, wordIn, numberIn, causeIn, phraseIn, firstOctets, nextOctets, placeOctets, partOctets, heldOctets, readHeld, keptIn};
 ghost use Rattle.held.specs.Laying.{Blank, Lays, queueOctets, firstWorth, nextWorth, partsWorth, headBy};
-
-// What octets hold.
-pub enum Held {
-    Is(Message),
-    Nothing,
-}
 
 // How many octets a message is held in.
 const SIZE: usize = 40;

@@ -28,9 +28,7 @@ use Rattle.writing.specs.Puts.{fitting, firstOctet, octetSize, wordSize, queueS
 use Rattle.writing.proofs.Headers.{type-small as small}
 use Rattle.writing.proofs.Fits.{readable-by}
 use Rattle.writing.proofs.Whole.{refused-12}
-use Rattle.held.specs.declared.Held.{Held}
-use Rattle.held.specs.declared.Held.the-variants.{Is, Nothing}
-use Rattle.held.specs.Held.{octetAt, isSet, octetIf, wordIf, numberIf, queueIf, partIf, causeIf, messageWith, unlistedField, ofType, heldAt, writingOf, writtenOf}
+use Rattle.held.specs.Held.{Held, Is, Nothing, octetAt, isSet, octetIf, wordIf, numberIf, queueIf, partIf, causeIf, messageWith, unlistedField, ofType, heldAt, writingOf, writtenOf}
 use Rattle.held.proofs.Answers.{held-is}
 use Rattle.held_writing.specs.Writes.{kindOf, messageIn, allSet, hasRequired, readableIn, fourIf, shortSize}
 

@@ -12,9 +12,7 @@ use Rattle.message.specs.declared.Part.{Part}
 use Rattle.message.specs.declared.Cause.{Cause}
 use Rattle.message.specs.declared.Message.{Message}
 use Rattle.writing.specs.Writing.{readable}
-use Rattle.held.specs.declared.Held.{Held}
-use Rattle.held.specs.declared.Held.the-variants.{Is, Nothing}
-use Rattle.held.specs.Held.{octetAt, bitOf, isSet, partIf, causeIf, messageWith}
+use Rattle.held.specs.Held.{Held, Is, Nothing, octetAt, bitOf, isSet, partIf, causeIf, messageWith}
 
 -- the type that an octet names, and any where it names none
 abbrev pub kindOf : Typed → Kind
