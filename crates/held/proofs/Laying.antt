@@ -12,9 +12,9 @@ use mathlib.Core.Path.{_≡_, refl, sym, ap, _∙_}
 use mathlib.Core.List.{List, [], _∷_, _++_, append-assoc}
 use lib.Dec.{eqb}
 use lib.ListN.{length, take, drop, replicate, length-append, length-drop, length-replicate, take-append-drop, replicate-append-replicate}
-use lib.Seq.{take-at, drop-at, take-take, take-add, drop-drop, take-append-le, length-take-le}
+use lib.Seq.{take-at, drop-at, take-take, take-add, drop-drop, length-take-le}
 use Rattle.octets.specs.Octets.{be32, over, part, octets16, octets32}
-use Rattle.octets.proofs.Over.{length-over, over-two}
+use Rattle.octets.proofs.Over.{length-over, head-length, over-two, over-before}
 use Rattle.message.specs.Types.{typeNumber}
 use Rattle.message.specs.Message.{ofOctet, ofWord, ofNumber, ofQueue, ofCause, isGiven}
 use Rattle.message.specs.declared.Kind.{Kind}
@@ -38,9 +38,6 @@ blank-same room at n b h =
     let e : take n (drop at room) ≡ replicate n 0 =
     sym (take-take n (40 - at) (drop at room) (omega arith)) ∙ ap (take n) (b .zeros) ∙ take-zeros n (40 - at) (omega arith) in
     rw (length-replicate {A = ℕ} n 0, ← e, append-assoc, ← (drop-drop n at room), take-append-drop n (drop at room)) (take-append-drop at room)
-
-head-length : (room : List ℕ) (at : ℕ) (xs : List ℕ) → at ≤ length room → length (take at room ++ xs) ≡ at + length xs
-head-length room at xs h = simp (length-append, length-take-le at room h)
 
 blank-on : (room : List ℕ) (at : ℕ) (xs : List ℕ) → Blank room at → at + length xs ≤ 40 → Blank (over room at xs) (at + length xs)
 unfolding over part
@@ -87,20 +84,10 @@ blank-room room after h e =
     let l : length (over room 0 (replicate 40 0)) ≡ length room = length-over room 0 (replicate 40 0) h in
     blank-later after 0 8 (rw e (record { long = rw l h; zeros = take-at (replicate 40 0) (drop 40 room) 40 refl })) (omega arith)
 
--- the front written behind what stands after it, and the same octets written again
-over-before : (room : List ℕ) (at n : ℕ) (xs ys : List ℕ) → length xs ≡ n → at + n ≤ length room → over (over room (at + n) ys) at xs ≡ over room at (xs ++ ys)
+-- as many octets written again
+written-again : (room xs ys : List ℕ) → length xs ≡ length ys → over (over room 0 xs) 0 ys ≡ over room 0 ys
 unfolding over
-over-before room at n xs ys l h =
-    let tl : length (take (at + n) room) ≡ at + n = length-take-le (at + n) room h in
-    let e1 : take at (take (at + n) room ++ ys ++ drop (at + n + length ys) room) ≡ take at room =
-    rw append-assoc (take-append-le at (take (at + n) room) _ (rw tl (omega arith)) ∙ take-take at (at + n) room (omega arith)) in
-    let e2 : drop (at + n) (take (at + n) room ++ ys ++ drop (at + n + length ys) room) ≡ ys ++ drop (at + n + length ys) room =
-    rw append-assoc (drop-at (take (at + n) room) _ (at + n) tl) in
-    rw (l, e1, e2, length-append, l) (simp (append-assoc, add-assoc))
-
-over-again : (room xs ys : List ℕ) → length xs ≡ length ys → over (over room 0 xs) 0 ys ≡ over room 0 ys
-unfolding over
-over-again room xs ys l = simp zero-add (ap (λ (zs : List ℕ). ys ++ zs) (drop-at xs (drop (length xs) room) (length ys) l ∙ ap (λ (n : ℕ). drop n room) l))
+written-again room xs ys l = simp zero-add (ap (λ (zs : List ℕ). ys ++ zs) (drop-at xs (drop (length xs) room) (length ys) l ∙ ap (λ (n : ℕ). drop n room) l))
 
 -- the bits, row by row
 worth-most : (b : Bool) (w : ℕ) → worthIf b w ≤ w
@@ -159,4 +146,4 @@ held-by-rows k s start room zeros first next parts all h z p q r e =
     let long : 40 ≤ length zeros = b .long in
     e ∙ rw (head-is k s start, three .is)
     (over-before zeros 0 8 (headOctets m) (firstOctets m ++ nextOctets m ++ partOctets m) refl (omega arith)
-    ∙ rw z (over-again room (replicate 40 0) (headOctets m ++ (firstOctets m ++ nextOctets m ++ partOctets m)) refl))
+    ∙ rw z (written-again room (replicate 40 0) (headOctets m ++ (firstOctets m ++ nextOctets m ++ partOctets m)) refl))

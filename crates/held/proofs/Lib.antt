@@ -1,6 +1,5 @@
 -- The laws that the functions' proofs share, and the laws of the form.
 pub mod Bits
-pub mod Runs
 pub mod Laying
 pub mod Answers
 pub mod Back

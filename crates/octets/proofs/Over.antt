@@ -1,5 +1,7 @@
 -- Octets written over a room, one run after the other.
 --     over-two     two runs, the second where the first ends, are one run
+--     run          the same, for a room that is known by equations
+--     over-before  the same again, where the first is written last
 --     over-next    one octet more, stored where a run ends
 --     length-over  the room keeps its length
 --     part-next    a part with one octet more
@@ -13,14 +15,14 @@ use native.Mathlib.Omega.{arith}
 use mathlib.Core.Path.{_≡_, sym, ap, _∙_}
 use mathlib.Core.List.{List, [], _∷_, _++_, append-assoc, append-nil}
 use lib.ListN.{length, getD, take, drop, set, replicate, length-append, length-drop, take-append-drop, replicate-append-replicate}
-use lib.Seq.{take-at, take-add, drop-append-add, drop-drop, set-split, take-suc, getD-drop, length-take-le, append-snoc}
+use lib.Seq.{take-at, take-add, drop-append-add, drop-drop, set-split, take-suc, getD-drop, length-take-le, append-snoc, take-append-le, take-take, drop-at}
 use Rattle.octets.specs.Octets.{over, part}
 
 pub over-none : (room : List ℕ) (at : ℕ) → over room at [] ≡ room
 unfolding over
 over-none room at = simp (add-zero, append-nil, take-append-drop)
 
-head-length : (room : List ℕ) (at : ℕ) (xs : List ℕ) → at ≤ length room → length (take at room ++ xs) ≡ at + length xs
+pub head-length : (room : List ℕ) (at : ℕ) (xs : List ℕ) → at ≤ length room → length (take at room ++ xs) ≡ at + length xs
 head-length room at xs h = simp (length-append, length-take-le at room h)
 
 pub length-over : (room : List ℕ) (at : ℕ) (xs : List ℕ) → at + length xs ≤ length room → length (over room at xs) ≡ length room
@@ -40,6 +42,21 @@ over-two room at xs ys h =
     let q : List ℕ = drop (at + length xs) room in
     let e : length p ≡ at + length xs = head-length room at xs h in
     rw (take-at p q (at + length xs) e, behind p q (at + length xs) (length ys) e, drop-drop) (simp (length-append, append-assoc, add-assoc))
+
+pub run : (room r r′ : List ℕ) (at n : ℕ) (xs ys : List ℕ) → at ≤ length room → length xs ≡ n → r ≡ over room at xs → r′ ≡ over r (at + n) ys
+    → r′ ≡ over room at (xs ++ ys)
+run room r r′ at n xs ys h l e q = q ∙ rw (e, ← l) (over-two room at xs ys h)
+
+pub over-before : (room : List ℕ) (at n : ℕ) (xs ys : List ℕ) → length xs ≡ n → at + n ≤ length room
+    → over (over room (at + n) ys) at xs ≡ over room at (xs ++ ys)
+unfolding over
+over-before room at n xs ys l h =
+    let tl : length (take (at + n) room) ≡ at + n = length-take-le (at + n) room h in
+    let e1 : take at (take (at + n) room ++ ys ++ drop (at + n + length ys) room) ≡ take at room =
+    rw append-assoc (take-append-le at (take (at + n) room) _ (rw tl (omega arith)) ∙ take-take at (at + n) room (omega arith)) in
+    let e2 : drop (at + n) (take (at + n) room ++ ys ++ drop (at + n + length ys) room) ≡ ys ++ drop (at + n + length ys) room =
+    rw append-assoc (drop-at (take (at + n) room) _ (at + n) tl) in
+    rw (l, e1, e2, length-append, l) (simp (append-assoc, add-assoc))
 
 pub over-one : (room : List ℕ) (at x : ℕ) → at < length room → set room at x ≡ over room at (x ∷ [])
 unfolding over

@@ -1,4 +1,4 @@
-use Rattle.report.proofs.Runs.{run}
+use Rattle.octets.proofs.Over.{run}
 use Rattle.forms.proofs.Fits.{length-core, length-head}
 use Rattle.form.specs.Form.{letters, coreOctets, hallOctets, namesOctets, octetsOf}
 use Prim.Native.Nat.{zero-le}

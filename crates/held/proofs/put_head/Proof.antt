@@ -5,7 +5,7 @@ use Rattle.octets.specs.Octets.{be32, over, octets16, octets32}
 use Rattle.message.specs.Types.{typeNumber}
 use Rattle.reading.specs.Reading.{ackBit}
 use Rattle.held.specs.Laying.{headBy}
-use Rattle.held.proofs.Runs.{run}
+use Rattle.octets.proofs.Over.{run}
 use borrow.Author.Needs.{needs}
 use Rattle.held.proofs.put_head.Statement.{statement}
 use Rattle.held.proofs.put_head.Tie as tie

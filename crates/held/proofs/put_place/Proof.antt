@@ -3,7 +3,7 @@ use mathlib.Core.Path.{refl}
 use lib.ListN.{length}
 use Rattle.octets.specs.Octets.{octets16}
 use Rattle.held.specs.Held.{placeOctets}
-use Rattle.held.proofs.Runs.{run}
+use Rattle.octets.proofs.Over.{run}
 use native.Mathlib.Omega.{arith}
 use borrow.Author.Needs.{needs}
 use Rattle.held.proofs.put_place.Statement.{statement}

@@ -4,7 +4,7 @@ use mathlib.Core.List.{List, [], _∷_, _++_}
 use mathlib.Core.Path.{_≡_, refl, _∙_, ap}
 use lib.ListN.{length}
 use Rattle.octets.specs.Octets.{over, octets16}
-use Rattle.report.proofs.Runs.{run}
+use Rattle.octets.proofs.Over.{run}
 use Rattle.report.specs.Report.{particulars, maskOf, messageOctets}
 use native.Mathlib.Omega.{arith}
 use borrow.Author.Needs.{needs}
