@@ -19,7 +19,7 @@ use Rattle.reading.specs.Reading.{messageAt, told as toldByReader}
 use Rattle.writing.specs.declared.Writing.{Writing}
 use Rattle.writing.specs.declared.Writing.the-variants.{Written}
 use Rattle.writing.specs.Writing.{told as toldByWriter}
-use Rattle.again.specs.Again.{NumbersDiffer, ReadersCoincide, WritersCoincide, JudgesCoincide}
+use Rattle.again.specs.Again.{NumbersDiffer, ReadersCoincide, WritersCoincide, ToldCoincide, LaysCoincide, JudgesCoincide}
 
 -- the refusal that each number names, from 1 on; 0 names none
 abbrev refusals : List Refusal
@@ -67,6 +67,12 @@ written-told (Writing.Refused r) (Writing.Refused r′) e = ap Writing.Refused (
 pub writers-coincide : WritersCoincide
 writers-coincide m src room r r′ left left′ p p′ =
     record { answers = written-told r r′ (p .answer ∙ sym (p′ .answer)); rooms = p .left ∙ sym (p′ .left) }
+
+pub told-coincide : ToldCoincide
+told-coincide = written-told
+
+pub lays-coincide : LaysCoincide
+lays-coincide before octets after after′ at end end′ l l′ = (l .ends ∙ sym (l′ .ends), l .stands ∙ sym (l′ .stands))
 
 same-notes : (fs : Fields) (starts starts′ : List ℕ) → Noted fs starts → Noted fs starts′ → starts ≡ starts′
 same-notes (whole fs) starts starts′ n n′ =

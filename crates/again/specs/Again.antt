@@ -19,6 +19,7 @@ use Rattle.reading.specs.Reading.{reading, told as toldByReader}
 use Rattle.writing.specs.declared.Writing.{Writing}
 use Rattle.writing.specs.declared.Writing.the-variants.{Written}
 use Rattle.writing.specs.Wire.{wire}
+use Rattle.writing.specs.Puts.{Laid}
 use Rattle.writing.specs.Writing.{lies, readable, writing, written, told as toldByWriter}
 
 -- reading these octets gives a message, and it says this
@@ -108,6 +109,16 @@ abbrev pub WritersCoincide : Type 0
 WritersCoincide =
     (m : Message) (src room : List ℕ) (r r′ : Writing) (left left′ : List ℕ) → WriterPromise m src room r left
     → WriterPromise m src room r′ left′ → SameResult r r′ left left′
+
+-- so of any promise that says what an answer is told as, `outgoing::send`'s and `held_writing::write_held`'s too
+abbrev pub ToldCoincide : Type 0
+ToldCoincide = (r r′ : Writing) → toldByWriter r ≡ toldByWriter r′ → r ≡ r′
+
+-- and of what the writer's leaves lay
+abbrev pub LaysCoincide : Type 0
+LaysCoincide =
+    (before octets after after′ : List ℕ) (at end end′ : ℕ) → Laid before at octets after end → Laid before at octets after′ end′
+    → (end ≡ end′) × (after ≡ after′)
 
 pub record SameJudgement (r r′ : Opening) (starts starts′ : List ℕ) : Type 0 where
   pub answers : r ≡ r′

@@ -7,7 +7,10 @@ use Rattle.message.specs.declared.Kind.{Kind}
 use Rattle.message.specs.declared.Kind.the-variants.{Request, Granted, Taken, Deny, Release, Idle, Revoke, QueuePositionRequest, QueuePositionInfo, Ack}
 use Rattle.message.specs.declared.Octet.{Octet}
 use Rattle.message.specs.declared.Message.{Message}
+use Rattle.message.specs.Answers as refusal
 use Rattle.reading.specs.Reading.{reading}
+use Rattle.reading.specs.declared.Opening.{Opening}
+use Rattle.reading.specs.declared.Opening.the-variants.{Of, Refused}
 use Rattle.hall.specs.Answers.{number}
 use Rattle.hall.specs.declared.Asked.{Asked}
 use Rattle.hall.specs.declared.Asked.the-variants.{Priority, NoField}
@@ -19,8 +22,6 @@ use Rattle.desk.specs.Events.{step}
 use Rattle.desk.specs.declared.Event.{Event}
 use Rattle.desk.specs.declared.Event.the-variants as event
 use Rattle.call.specs.declared.Called.{Called}
-use Rattle.call.specs.declared.Heard.{Heard}
-use Rattle.call.specs.declared.Heard.the-variants.{As, NotRead}
 
 -- the priority that a request asks for; that the field is missing is a case of its own
 abbrev pub askedIn : Octet → Asked
@@ -58,17 +59,14 @@ ofStep r =
 abbrev pub unread : Core → ℕ → Called
 unread c n = record { answer = n; core = c; first = silence; second = silence; marks = noMarks }
 
--- what a packet is heard as: only one that was read becomes an event
-abbrev pub heardAs : Answer Message → Heard
-heardAs (refused n) = NotRead n
-heardAs (result m) = As (eventOf m)
-
-abbrev pub followed : Core → Hall → Heard → Called
-followed c h (NotRead n) = unread c n
-followed c h (As e) = ofStep (step c h e)
-
 abbrev pub byReading : Core → Hall → Answer Message → Called
-byReading c h a = followed c h (heardAs a)
+byReading c h (refused n) = unread c n
+byReading c h (result m) = ofStep (step c h (eventOf m))
 
 unfoldable pub hears : Core → Hall → List ℕ → Called
 hears c h packet = byReading c h (reading packet)
+
+-- the paper's number of a refusal that the reader judged by; 0 where it read
+abbrev pub refusalIn : Opening → ℕ
+refusalIn (Of k) = 0
+refusalIn (Refused r) = refusal.number r

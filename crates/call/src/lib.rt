@@ -1,4 +1,4 @@
-// A packet as an event of the call, and an outgoing message as a packet (document 01, "The desk").
+// A packet as an event of the call (document 01, "The desk").
 use desk::Event;
 use hall::Answer;
 use hall::Asked;
@@ -11,14 +11,9 @@ use rules::Step;
 ghost use mathlib.Core.Path.{_≡_};
 ghost use Prim.Native.Nat.{_+_, _≤_};
 ghost use lib.ListN.{length};
-ghost use Rattle.reading.specs.Reading.{octetAt, reading};
-ghost use Rattle.call.specs.Call.{askedIn, eventBy, heardAs, ofStep, unread, followed, hears};
-
-// What a packet is heard as: an event, or the number of the reader's refusal.
-pub enum Heard {
-    As(Event),
-    NotRead(u8),
-}
+ghost use Rattle.octets.specs.Octets.{be32};
+ghost use Rattle.reading.specs.Reading.{octetAt};
+ghost use Rattle.call.specs.Call.{askedIn, eventBy, refusalIn, ofStep, unread, hears};
 
 // What a packet brought about: the answer as the paper's number, the core afterwards, the messages and the marks.
 pub struct Called {
@@ -57,18 +52,24 @@ fn event_by(kind: Kind, ssrc: u32, asked: Asked) -> Event
     }
 }
 
-// What a packet is heard as. Of a message that was read only its type, its SSRC and the priority it asks for make the event.
-fn heard_as(packet: &[u8]) -> Heard
-    ensures { λ r. ⌜ r ≡ heardAs (reading (now (packet .entry))) ⌝ }
+// The event that a packet is which was read: of its message only the type, the SSRC and the priority asked for make it.
+fn event_at(packet: &[u8], kind: Kind, priority: usize) -> Event
+    requires { ⌜ 8 ≤ length (now packet) ⌝ }
+    requires { ⌜ priority + 2 ≤ length (now packet) ⌝ }
+    ensures { λ r. ⌜ r ≡ eventBy kind (be32 (now (packet .entry)) 4) (askedIn (octetAt (now (packet .entry)) priority)) ⌝ }
 {
-    let mut starts = [0usize; 16];
-    match reading::judge(packet, &mut starts) {
-        Opening::Of(kind) => {
-            let ssrc = octets::number32(packet, 4);
-            let asked = asked_at(packet, starts[0]);
-            Heard::As(event_by(kind, ssrc, asked))
-        }
-        Opening::Refused(r) => Heard::NotRead(message::refusal_number(r)),
+    let ssrc = octets::number32(packet, 4);
+    let asked = asked_at(packet, priority);
+    event_by(kind, ssrc, asked)
+}
+
+// The number of the reader's refusal; 0 where it read.
+fn refusal_in(answer: Opening) -> u8
+    ensures { λ r. ⌜ r ≡ refusalIn answer ⌝ }
+{
+    match answer {
+        Opening::Of(_) => 0,
+        Opening::Refused(r) => message::refusal_number(r),
     }
 }
 
@@ -109,19 +110,15 @@ pub fn not_read(core: Core, number: u8) -> Called
     }
 }
 
-// What is heard becomes a step, or leaves all as it was.
-fn follow(core: Core, hall: Hall, heard: Heard) -> Called
-    ensures { λ r. ⌜ r ≡ followed core hall heard ⌝ }
-{
-    match heard {
-        Heard::As(event) => of_step(desk::make_step(core, hall, event)),
-        Heard::NotRead(number) => not_read(core, number),
-    }
-}
-
 // A packet comes in: only one that was read becomes an event.
 pub fn hear(core: Core, hall: Hall, packet: &[u8]) -> Called
     ensures { λ r. ⌜ r ≡ hears core hall (now (packet .entry)) ⌝ }
 {
-    follow(core, hall, heard_as(packet))
+    let mut starts = [0usize; 16];
+    let answer = reading::judge(packet, &mut starts);
+    let Opening::Of(kind) = answer else {
+        return not_read(core, refusal_in(answer));
+    };
+    let event = event_at(packet, kind, starts[0]);
+    of_step(desk::make_step(core, hall, event))
 }

@@ -6,7 +6,7 @@ use mathlib.Core.List.{List, [], _∷_}
 use native.Mathlib.Omega.{arith}
 use lib.Dec.{eqb}
 use borrow.Author.Tests.{eqb-true}
-use Rattle.words.specs.Choice.{by-test}
+use Rattle.words.specs.Choice.{by-test, one}
 use Rattle.words.specs.Table.{getD-fill}
 use Rattle.line.specs.declared.Entry.{Entry}
 use Rattle.line.specs.Line.{isIn}
@@ -16,7 +16,7 @@ use Rattle.rules.specs.Floor.{holds}
 use Rattle.rules.specs.Request.{waits}
 use Rattle.desk.specs.Events.{fresh}
 use Rattle.history.specs.Doing.{Desk}
-use Rattle.marks.specs.Marks.{one, LineCounts, FloorCounts}
+use Rattle.marks.specs.Marks.{LineCounts, FloorCounts}
 use Rattle.marks.proofs.InLine.{in-nil, in-cons}
 use Rattle.marks.proofs.Floor.{holds-one}
 use Rattle.reach.specs.Sound.{Sound, Once}

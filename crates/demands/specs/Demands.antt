@@ -12,7 +12,7 @@ use mathlib.Core.Bool.{Bool, true, false, not, _&&_, _||_}
 use mathlib.Core.List.{List, [], _∷_}
 use lib.Dec.{eqb}
 use lib.ListN.{length, getD}
-use Rattle.words.specs.Choice.{if_then_else_}
+use Rattle.words.specs.Choice.{if_then_else_, one}
 use Rattle.message.specs.Answers.{Answer, refused, result}
 use Rattle.message.specs.declared.Message as read
 use Rattle.reading.specs.Reading.{reading}
@@ -43,7 +43,7 @@ use Rattle.desk.specs.declared.Timer.the-variants as timer
 use Rattle.desk.specs.declared.Left.{Left}
 use Rattle.desk.specs.Timers.{isStopped}
 use Rattle.history.specs.Doing.{Desk, Doing, event, leaves, joins, made, does, deskOf}
-use Rattle.marks.specs.Marks.{one, isSeat, isGiven, isOut}
+use Rattle.marks.specs.Marks.{isSeat, isGiven, isOut}
 
 -- WHAT HAPPENS
 

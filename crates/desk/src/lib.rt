@@ -126,7 +126,7 @@ pub fn running_timers(phase: Phase) -> Running
     }
 }
 
-pub fn is_running(running: Running, timer: Timer) -> bool
+fn is_running(running: Running, timer: Timer) -> bool
     ensures { λ r. ⌜ r ≡ runs running timer ⌝ }
 {
     match timer {

@@ -6,7 +6,7 @@ use mathlib.Core.Bool.{Bool, true, false, _&&_}
 use mathlib.Core.List.{List, [], _∷_, _++_}
 use lib.Dec.{leb, eqb}
 use lib.ListN.{length, getD, replicate}
-use Rattle.words.specs.Choice.{if_then_else_}
+use Rattle.words.specs.Choice.{if_then_else_, one as flag}
 use Rattle.octets.specs.Octets.{be16, be32, octets16, octets32}
 use Rattle.line.specs.declared.Entry.{Entry}
 use Rattle.line.specs.declared.Line.{Line}
@@ -29,10 +29,6 @@ use Rattle.form.specs.Columns.{column, rows, every}
 -- 0: the letters F, D, the form, a zero
 abbrev pub letters : List ℕ
 letters = 70 ∷ 68 ∷ 1 ∷ 0 ∷ []
-
-abbrev pub flag : Bool → ℕ
-flag true = 1
-flag false = 0
 
 -- 4 to 9: the phase, an octet or a number for each thing that a phase may have, and zero where it has none
 abbrev pub kindOctet : Phase → ℕ

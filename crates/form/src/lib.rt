@@ -15,11 +15,12 @@ ghost use mathlib.Core.List.{_++_, _∷_, []};
 ghost use Prim.Native.Nat.{_+_, _*_, _≤_, _<_, min};
 ghost use lib.Dec.{eqb};
 ghost use lib.ListN.{length, getD, replicate};
+ghost use Rattle.words.specs.Choice.{one as flag};
 ghost use Rattle.octets.specs.Octets.{over};
 ghost use Rattle.line.specs.Line.{waiting, empty};
 ghost use Rattle.hall.specs.Identity.{octetsOf, nameAt};
 ghost use Rattle.form.specs.Columns.{column, rows};
-ghost use Rattle.form.specs.Form.{letters, flag, kindOctet, besideOctet, timersOctet, holderIn, causeIn, phaseOctets, seatIn, priorityIn, lineOctets, coreOctets, flagOctets, seatOctets, wordOctets, settingsOctets, hallOctets, lengthOctets, nameOctets, namesOctets, besideOf, entryOf, phaseOf, phaseAt, entriesAt, coreAt, flagsAt, octetsAt, wordsAt, settingsAt, hallAt, nameIn, namesAt, upTo, phaseFits, lettersFit, coreFits, hallFits, namesFit, canonical};
+ghost use Rattle.form.specs.Form.{letters, kindOctet, besideOctet, timersOctet, holderIn, causeIn, phaseOctets, seatIn, priorityIn, lineOctets, coreOctets, flagOctets, seatOctets, wordOctets, settingsOctets, hallOctets, lengthOctets, nameOctets, namesOctets, besideOf, entryOf, phaseOf, phaseAt, entriesAt, coreAt, flagsAt, octetsAt, wordsAt, settingsAt, hallAt, nameIn, namesAt, upTo, phaseFits, lettersFit, coreFits, hallFits, namesFit, canonical};
 
 // Whether octets hold what the table says. A test of a column has no early exit, so that it runs on many octets at once.
 
@@ -97,12 +98,6 @@ pub fn is_canonical(s: &[u8]) -> bool
 
 // The desk that octets stand for.
 
-fn wide(x: u8) -> usize
-    ensures { λ r. ⌜ r ≡ x ⌝ }
-{
-    x as usize
-}
-
 fn beside_of(n: u8) -> Beside
     ensures { λ r. ⌜ r ≡ besideOf n ⌝ }
 {
@@ -165,7 +160,7 @@ pub fn core_at(s: &[u8]) -> Core
 {
     let phase = phase_at(s);
     let entries = entries_at(s);
-    let len = wide(s[14]);
+    let len = octets::wide(s[14]);
     let line = Line { entries, len };
     let sequence = octets::number16(s, 10);
     Core {
@@ -264,7 +259,7 @@ fn name_in(s: &[u8], seat: usize) -> Name
         octets[i] = s[at + i];
         i += 1;
     }
-    let len = wide(s[192 + seat]);
+    let len = octets::wide(s[192 + seat]);
     Name { octets, len }
 }
 
@@ -294,9 +289,9 @@ pub fn name_at(s: &[u8], seat: u8) -> &[u8]
     requires { ⌜ 1200 ≤ length (now s) ⌝ }
     ensures { λ r. ⌜ now r ≡ octetsOf (nameAt (namesAt (now (s .entry))) seat) ⌝ }
 {
-    let at = wide(seat);
+    let at = octets::wide(seat);
     if at < 16 {
-        let len = wide(s[192 + at]);
+        let len = octets::wide(s[192 + at]);
         let start = 208 + 62 * at;
         let end = start + at_most_62(len);
         &s[start..end]
@@ -516,7 +511,7 @@ fn put_lengths(room: &mut [u8], names: Names)
     let mut s: u8 = 0;
     while s < 16 {
         let name = hall::name_at(names, s);
-        room[192 + wide(s)] = hall::name_length(name) as u8;
+        room[192 + octets::wide(s)] = hall::name_length(name) as u8;
         s += 1;
     }
 }
@@ -540,7 +535,7 @@ fn put_identities(room: &mut [u8], names: Names)
     let mut s: u8 = 0;
     while s < 16 {
         let name = hall::name_at(names, s);
-        put_name(room, 208 + 62 * wide(s), name);
+        put_name(room, 208 + 62 * octets::wide(s), name);
         s += 1;
     }
 }

@@ -9,6 +9,7 @@ use mathlib.Core.List.{List, [], _∷_, _++_}
 use lib.Dec.{eqb}
 use lib.ListN.{length, getD, take, drop, List·getD-append, length-take, length-append}
 use lib.Seq.{getD-drop, getD-append-add, take-all}
+use Rattle.words.specs.Choice.{one as flag}
 use Rattle.words.specs.Table.{padded-length}
 use Rattle.octets.specs.Octets.{be16, be32, octets16, octets32}
 use Rattle.line.specs.declared.Entry.{Entry}
@@ -21,7 +22,7 @@ use Rattle.hall.specs.Identity.{nameOf, nameAt, noName}
 use Rattle.hall.specs.Identity as identity
 use Rattle.rules.specs.declared.Core.{Core}
 use Rattle.form.specs.Columns.{column, rows}
-use Rattle.form.specs.Form.{flag, kindOctet, timersOctet, holderIn, causeIn, phaseOctets, lineOctets, coreOctets, flagOctets, seatOctets, wordOctets, settingsOctets, hallOctets, lengthOctets, nameOctets, namesOctets, octetsOf, octetAt, phaseAt, entriesAt, coreAt, flagsAt, octetsAt, wordsAt, settingsAt, hallAt, nameIn, namesAt}
+use Rattle.form.specs.Form.{kindOctet, timersOctet, holderIn, causeIn, phaseOctets, lineOctets, coreOctets, flagOctets, seatOctets, wordOctets, settingsOctets, hallOctets, lengthOctets, nameOctets, namesOctets, octetsOf, octetAt, phaseAt, entriesAt, coreAt, flagsAt, octetsAt, wordsAt, settingsAt, hallAt, nameIn, namesAt}
 use Rattle.form.proofs.Columns.{column-same, column-is, column-is-from-0, length-column, getD-column}
 use Rattle.form.proofs.Pieces.{length-name}
 use Rattle.forms.specs.Forms.{Shaped, StandsFor}

@@ -8,6 +8,7 @@ use mathlib.Core.List.{List, [], _∷_, _++_}
 use lib.Dec.{eqb, leb}
 use lib.ListN.{length, getD, length-append}
 use borrow.Author.Tests.{le-leb, eq-eqb}
+use Rattle.words.specs.Choice.{one as flag}
 use Rattle.octets.specs.Octets.{be16, octets16, octets32}
 use Rattle.line.specs.Line.{waiting}
 use Rattle.hall.specs.declared.Hall.{Hall}
@@ -16,7 +17,7 @@ use Rattle.hall.specs.Identity.{nameAt}
 use Rattle.hall.specs.Identity as identity
 use Rattle.rules.specs.declared.Core.{Core}
 use Rattle.form.specs.Columns.{column, rows, every}
-use Rattle.form.specs.Form.{letters, flag, causeIn, phaseOctets, lineOctets, coreOctets, flagOctets, seatOctets, wordOctets, settingsOctets, hallOctets, lengthOctets, nameOctets, namesOctets, octetsOf, upTo, lettersFit, coreFits, hallFits, namesFit, canonical}
+use Rattle.form.specs.Form.{letters, causeIn, phaseOctets, lineOctets, coreOctets, flagOctets, seatOctets, wordOctets, settingsOctets, hallOctets, lengthOctets, nameOctets, namesOctets, octetsOf, upTo, lettersFit, coreFits, hallFits, namesFit, canonical}
 use Rattle.form.proofs.Columns.{every-all, length-column, length-rows}
 use Rattle.form.proofs.Pieces.{length-name}
 use Rattle.forms.specs.Forms.{Shaped, Back, EveryDeskBack}

@@ -9,17 +9,18 @@ use mathlib.Core.List.{List, [], _∷_, _++_, append-assoc}
 use lib.Dec.{eqb, leb}
 use lib.ListN.{length, getD, take, length-take}
 use borrow.Author.Tests.{eqb-true, leb-true}
+use Rattle.words.specs.Choice.{one as flag}
 use Rattle.octets.specs.Octets.{be16, be32, octets16, octets32}
 use Rattle.line.specs.Line.{waiting}
 use Rattle.hall.specs.declared.Name.{Name}
 use Rattle.hall.specs.Identity.{nameAt}
 use Rattle.hall.specs.Identity as identity
 use Rattle.form.specs.Columns.{column, rows, every}
-use Rattle.form.specs.Form.{letters, flag, phaseOctets, lineOctets, coreOctets, flagOctets, seatOctets, wordOctets, settingsOctets, hallOctets, lengthOctets, nameOctets, namesOctets, octetsOf, octetAt, flagAt, entryOf, entryAt, phaseAt, entriesAt, coreAt, flagsAt, octetsAt, wordsAt, settingsAt, hallAt, nameIn, namesAt, upTo, phaseFits, lettersFit, coreFits, hallFits, namesFit, canonical}
+use Rattle.form.specs.Form.{letters, phaseOctets, lineOctets, coreOctets, flagOctets, seatOctets, wordOctets, settingsOctets, hallOctets, lengthOctets, nameOctets, namesOctets, octetsOf, octetAt, flagAt, entryOf, entryAt, phaseAt, entriesAt, coreAt, flagsAt, octetsAt, wordsAt, settingsAt, hallAt, nameIn, namesAt, upTo, phaseFits, lettersFit, coreFits, hallFits, namesFit, canonical}
 use Rattle.form.proofs.Columns.{column-same, column-two, column-is-from-0, rows-same, length-column, getD-column, every-at}
 use Rattle.form.proofs.Pieces.{name-of-seat}
 use Rattle.forms.specs.Forms.{Octets, EveryStringForth}
-use Rattle.forms.proofs.All.{four, five}
+use Rattle.words.proofs.Tests.{and-four, and-five}
 use Rattle.forms.proofs.Numbers.{forth16, forth32, flag-forth}
 use Rattle.forms.proofs.Phases.{Octets4, phase-forth}
 use Rattle.forms.proofs.Tables.{column-all, rows-column}
@@ -73,7 +74,7 @@ settings-forth s o e =
 hall-forth : (s : List ℕ) → Octets s → hallFits s ≡ true → hallOctets (hallAt s) ≡ from s 48 144
 unfolding hallOctets hallAt hallFits
 hall-forth s o e =
-    let f = four (upTo 1 s 48 16) (upTo 1 s 144 16) (upTo 1 s 160 16) (upTo 0 s 186 6) e in
+    let f = and-four (upTo 1 s 48 16) (upTo 1 s 144 16) (upTo 1 s 160 16) (upTo 0 s 186 6) e in
     rw (flags-forth s 48 (f .0), words-forth s 64 o, octets-forth s 128, flags-forth s 144 (f .1), flags-forth s 160 (f .2), settings-forth s o (f .3))
     (rw (column-two (octetAt s) 48 16 64, column-two (octetAt s) 48 80 16, column-two (octetAt s) 48 96 16, column-two (octetAt s) 48 112 16, column-two (octetAt s) 48 128 16))
 
@@ -96,7 +97,7 @@ line-forth s h a b c = rw (count-forth s h, a, b, c)
 core-forth : (s : List ℕ) → Octets s → coreFits s ≡ true → coreOctets (coreAt s) ≡ from s 4 44
 unfolding coreOctets coreAt coreFits column
 core-forth s o e =
-    let f = five (phaseFits (octetAt s 4) (octetAt s 5) (entryOf (octetAt s 6) (octetAt s 7)) (be16 s 8)) (leb (octetAt s 14) 15) (eqb (octetAt s 15) 0) (eqb (octetAt s 31) 0) (eqb (octetAt s 47) 0) e in
+    let f = and-five (phaseFits (octetAt s 4) (octetAt s 5) (entryOf (octetAt s 6) (octetAt s 7)) (be16 s 8)) (leb (octetAt s 14) 15) (eqb (octetAt s 15) 0) (eqb (octetAt s 31) 0) (eqb (octetAt s 47) 0) e in
     rw (phase-octets s o (f .0), forth16 s 10 o, line-forth s (leb-true (octetAt s 14) 15 (f .1)) (eqb-true (octetAt s 15) 0 (f .2)) (eqb-true (octetAt s 31) 0 (f .3)) (eqb-true (octetAt s 47) 0 (f .4)))
 
 -- the identities
@@ -134,7 +135,7 @@ names-forth s e = rw (lengths-forth s e, identities-forth s) (column-two (octetA
 letters-forth : (s : List ℕ) → lettersFit s ≡ true → letters ≡ from s 0 4
 unfolding lettersFit column
 letters-forth s e =
-    let f = four (eqb (octetAt s 0) 70) (eqb (octetAt s 1) 68) (eqb (octetAt s 2) 1) (eqb (octetAt s 3) 0) e in
+    let f = and-four (eqb (octetAt s 0) 70) (eqb (octetAt s 1) 68) (eqb (octetAt s 2) 1) (eqb (octetAt s 3) 0) e in
     rw (eqb-true (octetAt s 0) 70 (f .0), eqb-true (octetAt s 1) 68 (f .1), eqb-true (octetAt s 2) 1 (f .2), eqb-true (octetAt s 3) 0 (f .3))
 
 whole : (s : List ℕ) → length s ≡ 1200 → from s 0 1200 ≡ s
@@ -143,6 +144,6 @@ whole s l = column-all s 1200 0 l
 pub forth : EveryStringForth
 unfolding octetsOf canonical
 forth s o e =
-    let f = five (eqb (length s) 1200) (lettersFit s) (coreFits s) (hallFits s) (namesFit s) e in
+    let f = and-five (eqb (length s) 1200) (lettersFit s) (coreFits s) (hallFits s) (namesFit s) e in
     rw (core-forth s o (f .2), hall-forth s o (f .3), names-forth s (f .4), column-two (octetAt s) 4 44 144, column-two (octetAt s) 4 188 1008)
     (ap (λ (l : List ℕ). l ++ from s 4 1196) (letters-forth s (f .1)) ∙ column-two (octetAt s) 0 4 1196 ∙ whole s (eqb-true (length s) 1200 (f .0)))

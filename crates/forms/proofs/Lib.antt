@@ -1,4 +1,3 @@
-pub mod All
 pub mod Numbers
 pub mod Phases
 pub mod Tables

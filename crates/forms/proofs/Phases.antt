@@ -4,15 +4,15 @@ use native.Mathlib.Omega.{arith}
 use mathlib.Core.Path.{_≡_, refl, sym, ap, _∙_}
 use mathlib.Core.Bool.{Bool, true, false, _&&_}
 use lib.Dec.{eqb, leb}
-use Rattle.words.specs.Choice.{if_then_else_, by-test}
+use Rattle.words.specs.Choice.{if_then_else_, by-test, one as flag}
 use borrow.Author.Tests.{eqb-true, eqb-false, leb-true}
 use Rattle.line.specs.declared.Entry.{Entry}
 use Rattle.rules.specs.declared.Beside.{Beside}
 use Rattle.rules.specs.declared.Beside.the-variants.{NoMore, T2, T20}
 use Rattle.rules.specs.declared.Phase.{Phase}
 use Rattle.rules.specs.declared.Phase.the-variants.{Stopped, Idle, Taken, Revoking}
-use Rattle.form.specs.Form.{kindOctet, timersOctet, besideOctet, holderIn, causeIn, phaseOf, besideOf, phaseFits, flag, entryOf}
-use Rattle.forms.proofs.All.{two, four}
+use Rattle.form.specs.Form.{kindOctet, timersOctet, besideOctet, holderIn, causeIn, phaseOf, besideOf, phaseFits, entryOf}
+use Rattle.words.proofs.Tests.{and-both, and-four}
 use Rattle.forms.proofs.Numbers.{flag-back, flag-fits, flag-forth}
 
 beside-back : (b : Beside) → besideOf (besideOctet b) ≡ b
@@ -62,7 +62,7 @@ pub phase-forth : (kind timers : ℕ) (holder : Entry) (cause : ℕ) → phaseFi
 unfolding phaseOf phaseFits if_then_else_
 phase-forth k t e n h =
     by-test (eqb k 0)
-    (λ a. let f = four (eqb t 0) (eqb (e .seat) 0) (eqb (e .priority) 0) (eqb n 0) (rw a at h) in
+    (λ a. let f = and-four (eqb t 0) (eqb (e .seat) 0) (eqb (e .priority) 0) (eqb n 0) (rw a at h) in
     rw a (record {
       kinds = sym (eqb-true k 0 a);
       timed = sym (eqb-true t 0 (f .0));
@@ -71,7 +71,7 @@ phase-forth k t e n h =
       causes = sym (eqb-true n 0 (f .3));
     }))
     (λ a. by-test (eqb k 1)
-    (λ b. let f = four (leb t 1) (eqb (e .seat) 0) (eqb (e .priority) 0) (eqb n 0) (rw (a, b) at h) in
+    (λ b. let f = and-four (leb t 1) (eqb (e .seat) 0) (eqb (e .priority) 0) (eqb n 0) (rw (a, b) at h) in
     rw (a, b) (record {
       kinds = sym (eqb-true k 1 b);
       timed = flag-forth t (f .0);
@@ -80,7 +80,7 @@ phase-forth k t e n h =
       causes = sym (eqb-true n 0 (f .3));
     }))
     (λ b. by-test (eqb k 2)
-    (λ d. let f = two (leb t 2) (eqb n 0) (rw (a, b, d) at h) in
+    (λ d. let f = and-both (leb t 2) (eqb n 0) (rw (a, b, d) at h) in
     rw (a, b, d) (record {
       kinds = sym (eqb-true k 2 d);
       timed = beside-forth t (f .0);
@@ -88,7 +88,7 @@ phase-forth k t e n h =
       priorities = refl;
       causes = sym (eqb-true n 0 (f .1));
     }))
-    (λ d. let f = two (eqb k 3) (eqb t 0) (rw (a, b, d) at h) in
+    (λ d. let f = and-both (eqb k 3) (eqb t 0) (rw (a, b, d) at h) in
     rw (a, b, d) (record {
       kinds = sym (eqb-true k 3 (f .0));
       timed = sym (eqb-true t 0 (f .1));

@@ -404,7 +404,7 @@ fn name_of(identity: &[u8]) -> Name
 }
 
 // Whether a name is this identity, octet for octet.
-pub fn is_same(name: Name, identity: &[u8]) -> bool
+fn is_same(name: Name, identity: &[u8]) -> bool
     ensures { λ r. ⌜ r ≡ same (octetsOf name) (now (identity .entry)) ⌝ }
 {
     let n = identity.len();
@@ -465,7 +465,7 @@ fn ssrc_taken(hall: Hall, ssrc: u32) -> bool
 }
 
 // The one way to take a seat: the lowest free one, if there is one.
-pub fn take_seat(hall: Hall, names: Names, identity: &[u8], who: Newcomer) -> Joined
+fn take_seat(hall: Hall, names: Names, identity: &[u8], who: Newcomer) -> Joined
     ensures { λ r. ⌜ r ≡ seated hall names (now (identity .entry)) who (freeSeat hall) ⌝ }
 {
     let found = free_seat(hall);

@@ -1,8 +1,4 @@
--- What a packet was read into is written again: the 40 octets hold the message that was read, and with the packet as source and room for as
--- many octets as it has the writer puts that message there in its one form, IDs ascending, without spare, padding or skipped fields.
---     read-then-written : (packet kept room : List ℕ) (m : Message) → reading packet ≡ result m → 40 ≤ length kept
---         → length packet ≤ length room → ReadThenWritten packet kept room m
--- Assumes nothing.
+-- What a packet was read into is written again. Assumes nothing.
 use Prim.Native.Nat.{ℕ, _+_, _≤_}
 use native.Mathlib.Omega.{arith}
 use mathlib.Core.Bool.{Bool, true, _&&_}
@@ -28,13 +24,8 @@ use Rattle.again.proofs.Judged.{passed}
 use Rattle.again.proofs.Again.{read-is-written}
 use Rattle.held.specs.Held.{Is, phraseIn, headOctets, firstOctets, nextOctets, placeOctets, partOctets, heldOctets, heldAt, readHeld, keptIn, writingOf, writtenOf}
 use Rattle.held.proofs.Answers.{kept-is}
-use Rattle.held.proofs.Back.{NearPart, Near, held-back}
-
-pub record ReadThenWritten (packet kept room : List ℕ) (m : Message) : Type 0 where
-  pub done : readHeld packet (length kept) ≡ 0
-  pub holds : heldAt (take 40 (keptIn packet kept)) ≡ Is m
-  pub count : writingOf (heldAt (take 40 (keptIn packet kept))) packet (length room) ≡ result (length (wire (said m packet)))
-  pub again : writtenOf (heldAt (take 40 (keptIn packet kept))) packet room ≡ over room 0 (wire (said m packet))
+use Rattle.held.specs.Laws.{NearPart, Near, ReadThenWritten}
+use Rattle.held.proofs.Back.{held-back}
 
 -- the parts of a message that was read lie in a packet of at most 1,024 octets
 near-part : (s : List ℕ) (p : Part) → length s ≤ 1024 → partLies s p ≡ true → NearPart p
@@ -78,8 +69,7 @@ writes : (m : Message) (src room : List ℕ) → readable m src ≡ true → len
 unfolding writing if_then_else_
 writes m src room e h = rw (e, le-ltb (length room) (length (wire (said m src))) h)
 
-pub read-then-written : (packet kept room : List ℕ) (m : Message) → reading packet ≡ result m → 40 ≤ length kept
-    → length packet ≤ length room → ReadThenWritten packet kept room m
+pub read-then-written : ReadThenWritten
 unfolding written
 read-then-written packet kept room m e h l =
     let a : WrittenAgain packet m = read-is-written packet m e in

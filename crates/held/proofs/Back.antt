@@ -1,13 +1,12 @@
--- Read back: a message whose places are below 65,536 is held in octets that hold it, and no other.
---     held-back : (m : Message) → Near m → heldAt (heldOctets m) ≡ Is m
--- Assumes nothing.
+-- A message is held in octets that hold it. Assumes nothing.
 use Prim.Native.Nat.{ℕ, _+_, _*_, _/_, _%_, _≤_, _<_}
 use native.Mathlib.Nat.{mod-eq-of-lt, div-add-mod}
 use native.Mathlib.Omega.{arith}
 use mathlib.Core.Bool.{Bool, true, false}
 use mathlib.Core.List.{[]}
 use mathlib.Core.Path.{_≡_, refl, ap, _∙_}
-use Rattle.words.specs.Choice.{if_then_else_}
+use Rattle.writing.specs.Puts.{countOf as countIn}
+use Rattle.words.specs.Choice.{if_then_else_, one as flag}
 use Rattle.octets.specs.Octets.{be16, be32, octets16, octets32}
 use Rattle.message.specs.Types.{typed, typeNumber}
 use Rattle.message.specs.Message.{isGiven, ofOctet, ofWord, ofNumber, ofQueue, ofPart, ofCause, has}
@@ -21,19 +20,10 @@ use Rattle.message.specs.declared.Queue.{Queue}
 use Rattle.message.specs.declared.Part.{Part}
 use Rattle.message.specs.declared.Cause.{Cause}
 use Rattle.message.specs.declared.Message.{Message}
-use Rattle.held.specs.Held.{Is, flag, which, octetIn, wordIn, numberIn, positionIn, priorityIn, causeIn, phraseIn, startIn, countIn, headOctets, firstOctets, nextOctets, placeOctets, partOctets, heldOctets, octetIf, wordIf, numberIf, queueIf, partIf, causeIf, messageWith, unlistedField, heldAt}
+use Rattle.held.specs.Held.{Is, which, octetIn, wordIn, numberIn, positionIn, priorityIn, causeIn, phraseIn, startIn, headOctets, firstOctets, nextOctets, placeOctets, partOctets, heldOctets, octetIf, wordIf, numberIf, queueIf, partIf, causeIf, messageWith, unlistedField, heldAt}
+use Rattle.held.specs.Laws.{Near, HeldBack}
 use Rattle.held.proofs.Bits.{is-set, flag-back}
 use Rattle.held.proofs.Answers.{held-is}
-
--- where a part starts and how many octets it has fit 16 bits
-pub record NearPart (p : Part) : Type 0 where
-  pub start : startIn p < 65536
-  pub count : countIn p < 65536
-
-pub record Near (m : Message) : Type 0 where
-  pub phrase : NearPart (phraseIn (m .cause))
-  pub granted : NearPart (m .granted)
-  pub user : NearPart (m .user)
 
 -- numbers, types and flags
 word-there : (n : ℕ) → 256 * (n / 256) + n % 256 ≡ n
@@ -123,8 +113,11 @@ module _ (m : Message) where
   unfolding heldOctets headOctets firstOctets nextOctets partOctets placeOctets octets16 octets32 be16
   fields-back = word-there (which m)
 
-  pub held-back : Near m → heldAt (heldOctets m) ≡ Is m
+  back : Near m → heldAt (heldOctets m) ≡ Is m
   unfolding heldOctets headOctets firstOctets nextOctets partOctets placeOctets octets16 octets32
-  held-back near =
+  back near =
       held-is (heldOctets m) (Listed (m .kind)) refl (flag-small (m .ack)) (ap unlistedField fields-back ∙ none-unlisted) (type-back (m .kind))
       ∙ ap Is (ap (messageWith (m .kind) (heldOctets m)) fields-back ∙ message-back near)
+
+pub held-back : HeldBack
+held-back = back

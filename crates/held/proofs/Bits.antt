@@ -5,11 +5,11 @@ use native.Mathlib.Omega.{arith}
 use mathlib.Core.Bool.{Bool, true, false}
 use mathlib.Core.List.{[]}
 use mathlib.Core.Path.{_≡_, refl, sym, ap, _∙_}
-use Rattle.words.specs.Choice.{if_then_else_}
+use Rattle.words.specs.Choice.{if_then_else_, one as flag}
 use lib.Dec.{eqb}
 use Rattle.message.specs.Message.{fieldsOf, isGiven, ofOctet, ofWord, ofNumber, ofQueue, ofPart, ofCause, has}
 use Rattle.message.specs.declared.Message.{Message}
-use Rattle.held.specs.Held.{flag, bits, worthIf, which, isSet}
+use Rattle.held.specs.Held.{bits, worthIf, which, isSet}
 
 worth-is : (b : Bool) (worth : ℕ) → worthIf b worth ≡ worth * flag b
 worth-is true worth = sym (mul-one worth)

@@ -1,9 +1,4 @@
--- 0 is answered only where a packet was read and the room has 40 octets: no refusal has that number. And no promise leaves a choice
--- (document 01, "How strictly it is stated"): what the writer's answer is told as fixes it; the other promises name the result itself.
---     read-if-0 : (packet : List ℕ) (room : ℕ) → readHeld packet room ≡ 0 → WasRead packet room
---     writers-coincide : (held src : List ℕ) (room : ℕ) (r r′ : Writing) → told r ≡ writingOf (heldAt held) src room
---         → told r′ ≡ writingOf (heldAt held) src room → r ≡ r′
--- Assumes nothing.
+-- 0 is answered only where a packet was read and the room has 40 octets. Assumes nothing.
 use Prim.Native.Nat.{ℕ, zero, suc, _≤_}
 use native.Mathlib.Omega.{arith}
 use mathlib.Core.Bool.{Bool, true, false}
@@ -25,15 +20,8 @@ use Rattle.reading.specs.declared.Step.{Step}
 use Rattle.reading.specs.declared.Step.the-variants.{Field, End, PastTheEnd, AgainstTheTable}
 use Rattle.reading.specs.Fields.{Fields, whole, fault, infront, stepAt, stepThen, fieldsFrom, fieldsIn, startOf}
 use Rattle.reading.specs.Reading.{messageAt, judged, ofType, reading, typeBits}
-use Rattle.writing.specs.declared.Writing.{Writing}
-use Rattle.writing.specs.Writing.{told}
-use Rattle.again.proofs.Coincide.{written-told}
-use Rattle.held.specs.Held.{heldAt, answered, readHeld, writingOf}
-
-pub record WasRead (packet : List ℕ) (room : ℕ) : Type 0 where
-  pub message : Message
-  pub read : reading packet ≡ result message
-  pub long : 40 ≤ room
+use Rattle.held.specs.Held.{answered, readHeld}
+use Rattle.held.specs.Laws.{WasRead, ReadIf0}
 
 -- an answer that is no refusal, or one with a number
 abbrev Numbered : Answer Message → Type 0
@@ -91,10 +79,6 @@ done (result m) packet room e p z =
     (λ t. let z′ : _≡_ {A = ℕ} 13 0 = sym (if-yes (ltb room 40) 13 0 t) ∙ z in absurd (omega arith))
     (λ t. record { message = m; read = e; long = ltb-false room 40 t })
 
-pub read-if-0 : (packet : List ℕ) (room : ℕ) → readHeld packet room ≡ 0 → WasRead packet room
+pub read-if-0 : ReadIf0
 unfolding readHeld
 read-if-0 packet room z = done (reading packet) packet room refl (numbered packet) z
-
-pub writers-coincide : (held src : List ℕ) (room : ℕ) (r r′ : Writing) → told r ≡ writingOf (heldAt held) src room
-    → told r′ ≡ writingOf (heldAt held) src room → r ≡ r′
-writers-coincide held src room r r′ p q = written-told r r′ (p ∙ sym q)

@@ -13,6 +13,7 @@ use mathlib.Core.List.{List, [], _∷_, _++_, append-assoc}
 use lib.Dec.{eqb}
 use lib.ListN.{length, take, drop, replicate, length-append, length-drop, length-replicate, take-append-drop, replicate-append-replicate}
 use lib.Seq.{take-at, drop-at, take-take, take-add, drop-drop, length-take-le}
+use Rattle.words.specs.Choice.{one as flag}
 use Rattle.octets.specs.Octets.{be32, over, part, octets16, octets32}
 use Rattle.octets.proofs.Over.{length-over, head-length, over-two, over-before}
 use Rattle.message.specs.Types.{typeNumber}
@@ -20,7 +21,7 @@ use Rattle.message.specs.Message.{ofOctet, ofWord, ofNumber, ofQueue, ofCause, 
 use Rattle.message.specs.declared.Kind.{Kind}
 use Rattle.message.specs.declared.Message.{Message}
 use Rattle.reading.specs.Reading.{ackBit, messageAt}
-use Rattle.held.specs.Held.{flag, worthIf, which, headOctets, firstOctets, nextOctets, partOctets, placeOctets, heldOctets}
+use Rattle.held.specs.Held.{worthIf, which, headOctets, firstOctets, nextOctets, partOctets, placeOctets, heldOctets}
 use Rattle.held.specs.Laying.{Blank, Lays, firstWorth, nextWorth, partsWorth, headBy}
 use Rattle.held.proofs.Bits.{which-is}
 

@@ -6,7 +6,8 @@ use mathlib.Core.Bool.{Bool, true, false, not, _||_}
 use mathlib.Core.List.{List, [], _∷_, _++_}
 use lib.Dec.{ltb, eqb}
 use lib.ListN.{length, getD}
-use Rattle.words.specs.Choice.{if_then_else_}
+use Rattle.writing.specs.Puts.{countOf as countIn}
+use Rattle.words.specs.Choice.{if_then_else_, one as flag}
 use Rattle.octets.specs.Octets.{be16, be32, octets16, octets32, over}
 use Rattle.message.specs.Types.{typed, typeNumber}
 use Rattle.message.specs.Message.{fieldsOf, has}
@@ -25,10 +26,6 @@ use Rattle.reading.specs.Reading.{reading}
 use Rattle.writing.specs.Writing.{writing, written}
 
 -- WHAT A MESSAGE IS HELD AS
-
-abbrev pub flag : Bool → ℕ
-flag true = 1
-flag false = 0
 
 -- the number of n bits, the lowest of which is f i, the next f (i + 1), and so on
 abbrev pub bits : (ℕ → Bool) → ℕ → ℕ → ℕ
@@ -76,10 +73,6 @@ phraseIn (Cause.Is cause from count) = Part.At from count
 abbrev pub startIn : Part → ℕ
 startIn Part.Absent = 0
 startIn (Part.At from count) = from
-
-abbrev pub countIn : Part → ℕ
-countIn Part.Absent = 0
-countIn (Part.At from count) = count
 
 -- 0 to 7: type, Ack bit, which fields it has, SSRC
 unfoldable pub headOctets : Message → List ℕ

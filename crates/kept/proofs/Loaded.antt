@@ -7,7 +7,7 @@ use mathlib.Core.Bool.{Bool, true, false, not, _&&_, _||_}
 use mathlib.Core.List.{List, [], _∷_, _++_}
 use lib.Dec.{eqb, ltb}
 use lib.ListN.{length, take, drop}
-use borrow.Author.Tests.{not-false, lt-ltb}
+use borrow.Author.Tests.{not-false, lt-ltb, le-leb}
 use Rattle.octets.specs.Octets.{part}
 use Rattle.hall.specs.declared.Hall.{Hall}
 use Rattle.hall.specs.declared.Names.{Names}
@@ -17,17 +17,19 @@ use Rattle.hall.specs.Seats.{inRange, emptyHall}
 use Rattle.hall.specs.Identity.{noNames}
 use Rattle.hall.specs.Join.{join}
 use Rattle.desk.specs.Events.{fresh}
-use Rattle.words.specs.Choice.{by-if}
+use Rattle.words.specs.Choice.{if_then_else_, by-if}
 use Rattle.history.specs.Doing.{Desk, made, does, afterAll}
 use Rattle.sheet.specs.Layout.{Seat, form, letters}
 use Rattle.sheet.specs.Loading.{Load, Seats, whole, fault, refused, ifSeated, joinAll, seatAll, settled, loading, settingsPlace, settingsAt, whoIs, readSeat, identityLength, afterSeat, laidOut, infront, readSeats, zeros, settingsOffset, seatsOffset, seatCount, formOf, lettersOf}
+use Rattle.sheets.proofs.Back.{saved-loads}
+use Rattle.form.specs.Form.{hallAt, namesAt}
 use Rattle.forms.specs.Forms.{Octets}
-use Rattle.words.proofs.Tests.{both, five}
-use Rattle.floor.specs.Floor.{inOctets, settable, loadOn}
-use Rattle.kept.specs.Kept.{Fits, AllFit, leftByAll, didAll, Settable, deskIn, joinsOf, seatedFrom, settingsOn, joinsOn, LoadedInForm, FromLoaded}
+use Rattle.words.proofs.Tests.{both, five, neither-left}
+use Rattle.floor.specs.Floor.{inOctets, settable, written, loadOn}
+use Rattle.kept.specs.Kept.{Fits, AllFit, leftByAll, didAll, Settable, deskIn, joinsOf, seatedFrom, settingsOn, joinsOn, LoadedInForm, SavedIsLoaded, FromLoaded}
 use Rattle.kept.proofs.All.{all-take, all-drop, all-at, at-all}
 use Rattle.kept.proofs.Numbers.{Octet, half-small, word-small}
-use Rattle.kept.proofs.Desks.{Right, right-made, right-run}
+use Rattle.kept.proofs.Desks.{Right, right-at, right-made, right-run}
 use Rattle.kept.proofs.Steps.{after-both, told-as}
 use Rattle.kept.proofs.Made.{done-only, written-so, from-there}
 
@@ -58,10 +60,6 @@ unfolding refused
 seats-so h ns (whole xs) q = joins-so h ns xs q
 seats-so h ns fault q = absurd (omega (arith, q))
 
-neither : (a b : Bool) → (a || b) ≡ false → a ≡ false
-neither true b q = q
-neither false b q = refl
-
 module _ (s : List ℕ) where
   abbrev IsLoaded : Load → Type 0
   IsLoaded l = l .number ≡ 0 → (inRange (settingsOn s) ≡ true) × (deskLoaded l ≡ afterAll (made (settingsOn s)) (joinsOn s))
@@ -75,7 +73,7 @@ module _ (s : List ℕ) where
       let a = not (inRange (settingsOn s)) in
       let b = not (eqb (zeros s) 0) in
       by-if IsLoaded (a || b) (λ _. not-loaded 44 (λ z. omega (arith, z)))
-      (λ e q. (not-false (inRange (settingsOn s)) (neither a b e), seats-so (emptyHall (settingsOn s)) noNames (readSeats (seatCount s) s 0) q))
+      (λ e q. (not-false (inRange (settingsOn s)) (neither-left a b e), seats-so (emptyHall (settingsOn s)) noNames (readSeats (seatCount s) s 0) q))
 
   loaded-so : IsLoaded (loading s)
   unfolding loading
@@ -128,6 +126,12 @@ loaded-in-form room sheet o q =
       joins = w;
       holds = told-as (deskIn (loadOn room sheet .1)) d e (l .1) (written-so d room (loading sheet .number) (λ _. r) q);
     }
+
+pub saved-is-loaded : SavedIsLoaded
+unfolding written if_then_else_
+saved-is-loaded d room o q b =
+    let l = saved-loads (hallAt d) (namesAt d) (right-at d o q .sound .seats) in
+    (rw (l .accepted, le-leb 1200 (length room) b), l)
 
 pub from-loaded : FromLoaded
 from-loaded room sheet o q xs w =

@@ -8,7 +8,7 @@ use native.Mathlib.Omega.{arith}
 use lib.Dec.{eqb}
 use lib.ListN.{length, getD, replicate}
 use borrow.Author.Tests.{eqb-true}
-use Rattle.words.specs.Choice.{by-test, by-if}
+use Rattle.words.specs.Choice.{by-test, by-if, one as flag}
 use Rattle.octets.specs.Octets.{be16, be32, octets16, octets32}
 use Rattle.line.specs.declared.Entry.{Entry}
 use Rattle.line.specs.declared.Line.{Line}
@@ -34,7 +34,7 @@ use Rattle.desk.specs.Events.{fresh, leave}
 use Rattle.history.specs.Doing.{Desk, Doing, event, leaves as leaving, joins as joining, made, does, deskOf, after}
 use Rattle.reach.specs.Sound.{Sound, causeOk}
 use Rattle.reach.proofs.Hall.{hall-ok}
-use Rattle.form.specs.Form.{letters, flag, kindOctet, besideOctet, timersOctet, holderIn, causeIn, phaseOctets, seatIn, priorityIn, lineOctets, coreOctets, flagOctets, seatOctets, wordOctets, settingsOctets, hallOctets, lengthOctets, nameOctets, namesOctets, octetsOf, octetAt, entryOf, phaseOf, phaseAt, entryAt, entriesAt, coreAt, octetsAt, wordsAt, settingsAt, hallAt, nameIn, namesAt}
+use Rattle.form.specs.Form.{letters, kindOctet, besideOctet, timersOctet, holderIn, causeIn, phaseOctets, seatIn, priorityIn, lineOctets, coreOctets, flagOctets, seatOctets, wordOctets, settingsOctets, hallOctets, lengthOctets, nameOctets, namesOctets, octetsOf, octetAt, entryOf, phaseOf, phaseAt, entryAt, entriesAt, coreAt, octetsAt, wordsAt, settingsAt, hallAt, nameIn, namesAt}
 use Rattle.form.specs.Columns.{column, rows}
 use Rattle.forms.specs.Forms.{Octets}
 use Rattle.forms.proofs.Back.{name-short}

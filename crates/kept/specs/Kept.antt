@@ -19,8 +19,9 @@ use Rattle.desk.specs.declared.Event.{Event}
 use Rattle.desk.specs.declared.Event.the-variants.{Expiry}
 use Rattle.history.specs.Doing.{Desk, Doing, event, leaves as leaving, joins as joining, made, does, afterAll}
 use Rattle.call.specs.Call.{eventOf}
-use Rattle.sheet.specs.Layout.{Seat}
-use Rattle.sheet.specs.Loading.{Seats, whole, fault, settingsAt, settingsPlace, seatCount, readSeats}
+use Rattle.sheet.specs.Layout.{Seat, seatsOf, sheetOf}
+use Rattle.sheet.specs.Loading.{Seats, whole, fault, settingsAt, settingsPlace, seatCount, readSeats, loading}
+use Rattle.sheets.specs.Sheets.{IsDesk}
 use Rattle.form.specs.Form.{octetsOf, coreAt, hallAt, namesAt}
 use Rattle.forms.specs.Forms.{Octets}
 use Rattle.floor.specs.declared.Named.{Named}
@@ -221,6 +222,15 @@ pub record Loaded (s sheet : List ℕ) : Type 0 where
 
 abbrev pub LoadedInForm : Type 0
 LoadedInForm = (room sheet : List ℕ) → Octets sheet → loadOn room sheet .0 ≡ 0 → Loaded (deskIn (loadOn room sheet .1)) sheet
+
+-- "SEATS AND SETTINGS ARE SAVED FROM ANY DESK" (proofs/Loaded): what is saved of octets in the form loads, in any room that is long enough, and
+-- as a fresh desk with the same seats and settings
+
+abbrev pub SavedIsLoaded : Type 0
+SavedIsLoaded =
+    (d room : List ℕ) → Octets d → formed d ≡ true → 1200 ≤ length room →
+    let sheet = sheetOf (hallAt d) (namesAt d) in
+    (loadOn room sheet .0 ≡ 0) × IsDesk (loading sheet) (seatsOf (hallAt d) (namesAt d)) (hallAt d .settings)
 
 -- SO WHATEVER A C PROGRAM DOES, ITS DESK IS ONE THAT STEPS REACH FROM A FRESH ONE (proofs/Made, proofs/Loaded)
 

@@ -36,18 +36,11 @@ fn say_offset(n: usize) {
     say(b"  ");
 }
 
-// An octet as a number.
-fn wide(x: u8) -> usize
-    ensures { λ r. ⌜ r ≡ x ⌝ }
-{
-    x as usize
-}
-
 // Octets in hexadecimal.
 fn say_octets(s: &[u8]) {
     let mut i = 0;
     while i < s.len() {
-        let octet = wide(s[i]);
+        let octet = octets::wide(s[i]);
         io::print_hex(STDOUT_FILENO, octet as u64, 2);
         say(b" ");
         i += 1;
@@ -80,7 +73,7 @@ fn dump_line(s: &[u8], at: usize, count: usize) {
 
 // An octet of the sheet as a number; 0 past its end.
 fn dump_octet(s: &[u8], at: usize) -> usize {
-    if at < s.len() { wide(s[at]) } else { 0 }
+    if at < s.len() { octets::wide(s[at]) } else { 0 }
 }
 
 fn labelled(s: &[u8], at: usize, count: usize, what: &[u8]) {
@@ -206,100 +199,6 @@ fn dump_sheet(s: &[u8]) {
     dump_trailer(s);
 }
 
-// The ways in which the class's sheet is damaged: a title, the place of one octet, and what is put there. The sheet has 224 octets: five
-// seats, the second from 22 on; settings from 204 on; the trailer from 216 on.
-
-const PLACES: [usize; 24] = [
-    222,
-    223,
-    221,
-    221,
-    220,
-    217,
-    219,
-    208,
-    209,
-    210,
-    211,
-    213,
-    214,
-    215,
-    0,
-    0,
-    6,
-    6,
-    6,
-    37,
-    27,
-    5,
-    220,
-    220,
-];
-
-const VALUES: [u8; 24] = [
-    b'f',
-    b'T',
-    2,
-    0,
-    17,
-    205,
-    1,
-    0,
-    16,
-    0,
-    0,
-    0,
-    1,
-    1,
-    5,
-    129,
-    0,
-    63,
-    255,
-    b'1',
-    10,
-    1,
-    4,
-    6,
-];
-
-fn damage_place(i: usize) -> usize {
-    if i < 24 { PLACES[i] } else { 0 }
-}
-
-fn damage_value(i: usize) -> u8 {
-    if i < 24 { VALUES[i] } else { 0 }
-}
-
-fn damage_title(i: usize) {
-    match i {
-        0 => say(b"no F: "),
-        1 => say(b"no S: "),
-        2 => say(b"form 2: "),
-        3 => say(b"form 0: "),
-        4 => say(b"count 17: "),
-        5 => say(b"settings one further: "),
-        6 => say(b"seats not at the front: "),
-        7 => say(b"level 0: "),
-        8 => say(b"line limit 16: "),
-        9 => say(b"C7 limit 0: "),
-        10 => say(b"C20 limit 0: "),
-        11 => say(b"duration 0: "),
-        12 => say(b"first zero is 1: "),
-        13 => say(b"second zero is 1: "),
-        14 => say(b"flag bit 2: "),
-        15 => say(b"flag bit 7: "),
-        16 => say(b"identity length 0: "),
-        17 => say(b"identity length 63: "),
-        18 => say(b"identity runs into the settings: "),
-        19 => say(b"identity present already: "),
-        20 => say(b"SSRC present already: "),
-        21 => say(b"SSRC of the desk: "),
-        22 => say(b"one seat fewer: "),
-        _ => say(b"one seat more: "),
-    }
-}
-
 // The desk's SSRC is 1, the level 200, the line limit 2, C7 and C20 limits 2, a grant 30 seconds.
 fn empty_class() -> Hall {
     let settings = Settings {
@@ -401,22 +300,67 @@ fn first(room: &[u8], n: usize) -> &[u8] {
 }
 
 // One octet of the sheet changed for one loading.
-fn damage(i: usize, room: &mut [u8], n: usize, at: usize, value: u8) {
+fn damage(title: &[u8], room: &mut [u8], n: usize, at: usize, value: u8) {
     if at < room.len() {
         let old = room[at];
         room[at] = value;
-        damage_title(i);
+        say(title);
         tell(first(room, n));
         room[at] = old;
     }
 }
 
+// The class's sheet has 224 octets: five seats, the second from 22 on; settings from 204 on; the trailer from 216 on.
+
+fn damage_letters(room: &mut [u8], n: usize) {
+    damage(b"no F: ", room, n, 222, b'f');
+    damage(b"no S: ", room, n, 223, b'T');
+    damage(b"form 2: ", room, n, 221, 2);
+    damage(b"form 0: ", room, n, 221, 0);
+}
+
+fn damage_places(room: &mut [u8], n: usize) {
+    damage(b"count 17: ", room, n, 220, 17);
+    damage(b"settings one further: ", room, n, 217, 205);
+    damage(b"seats not at the front: ", room, n, 219, 1);
+}
+
+fn damage_settings(room: &mut [u8], n: usize) {
+    damage(b"level 0: ", room, n, 208, 0);
+    damage(b"line limit 16: ", room, n, 209, 16);
+    damage(b"C7 limit 0: ", room, n, 210, 0);
+    damage(b"C20 limit 0: ", room, n, 211, 0);
+    damage(b"duration 0: ", room, n, 213, 0);
+}
+
+fn damage_zeros(room: &mut [u8], n: usize) {
+    damage(b"first zero is 1: ", room, n, 214, 1);
+    damage(b"second zero is 1: ", room, n, 215, 1);
+    damage(b"flag bit 2: ", room, n, 0, 5);
+    damage(b"flag bit 7: ", room, n, 0, 129);
+}
+
+fn damage_identity(room: &mut [u8], n: usize) {
+    damage(b"identity length 0: ", room, n, 6, 0);
+    damage(b"identity length 63: ", room, n, 6, 63);
+    damage(b"identity runs into the settings: ", room, n, 6, 255);
+    damage(b"identity present already: ", room, n, 37, b'1');
+}
+
+fn damage_seats(room: &mut [u8], n: usize) {
+    damage(b"SSRC present already: ", room, n, 27, 10);
+    damage(b"SSRC of the desk: ", room, n, 5, 1);
+    damage(b"one seat fewer: ", room, n, 220, 4);
+    damage(b"one seat more: ", room, n, 220, 6);
+}
+
 fn all_damages(room: &mut [u8], n: usize) {
-    let mut i = 0;
-    while i < 24 {
-        damage(i, room, n, damage_place(i), damage_value(i));
-        i += 1;
-    }
+    damage_letters(room, n);
+    damage_places(room, n);
+    damage_settings(room, n);
+    damage_zeros(room, n);
+    damage_identity(room, n);
+    damage_seats(room, n);
 }
 
 // Octets missing at either end.
@@ -474,7 +418,7 @@ fn again(s: &[u8]) {
 fn behind(room: &[u8], n: usize) {
     if n < room.len() {
         say(b"the octet behind it: ");
-        say_number(wide(room[n]));
+        say_number(octets::wide(room[n]));
         say(b"\n");
     }
 }

@@ -156,7 +156,7 @@ pub fn entered(line: Line, e: Entry) -> Line
 }
 
 // Whether a seat is in a set.
-pub fn has(seats: [bool; 16], seat: u8) -> bool
+fn has(seats: [bool; 16], seat: u8) -> bool
     ensures { λ r. ⌜ r ≡ getD seats seat false ⌝ }
 {
     let s = seat as usize;
@@ -188,7 +188,7 @@ pub fn struck(line: Line, seats: [bool; 16]) -> Line
 }
 
 // One more seat in the set.
-pub fn add(seats: &mut [bool], seat: u8)
+fn add(seats: &mut [bool], seat: u8)
     ensures { λ _. ⌜ now (seats .exit) ≡ set (now (seats .entry)) seat true ⌝ }
 {
     let s = seat as usize;

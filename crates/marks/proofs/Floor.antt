@@ -6,7 +6,7 @@ use mathlib.Core.List.{List, [], _∷_}
 use native.Mathlib.Omega.{arith}
 use lib.Dec.{eqb}
 use borrow.Author.Tests.{eqb-true}
-use Rattle.words.specs.Choice.{by-test, by-if}
+use Rattle.words.specs.Choice.{by-test, by-if, one}
 use Rattle.words.proofs.Tests.{clash}
 use Rattle.line.specs.declared.Entry.{Entry}
 use Rattle.line.specs.Line.{waiting}
@@ -35,7 +35,7 @@ use Rattle.desk.specs.declared.Timer.the-variants as timer
 use Rattle.desk.specs.Timers.{halted, stops, endsIn, revokesIn, idleAgain, revokesAgain, grantsOrEnds, grantsAgain, fires, isStopped, runs, running, expires}
 use Rattle.desk.specs.Events.{starts, callerOf, heard, struckOff, releases, asksPlace, talks, step, leaves, leave}
 use Rattle.history.specs.Doing.{event, leaves as leaves-now, joins, does}
-use Rattle.marks.specs.Marks.{one, isGiven, FloorCounts, EveryFloorCounts}
+use Rattle.marks.specs.Marks.{isGiven, FloorCounts, EveryFloorCounts}
 
 -- a step's account of one seat, from the core it began with
 unfoldable pub Counts : Core → ℕ → Step → Type 0

@@ -8,7 +8,7 @@ use native.Mathlib.Omega.{arith}
 use lib.Dec.{eqb}
 use lib.ListN.{length, getD}
 use borrow.Author.Tests.{eqb-true, eq-eqb, leb-false}
-use Rattle.words.specs.Choice.{by-test, by-if}
+use Rattle.words.specs.Choice.{by-test, by-if, one}
 use Rattle.words.specs.Table.{getD-fill}
 use Rattle.words.proofs.Tests.{clash}
 use Rattle.line.specs.declared.Entry.{Entry}
@@ -39,7 +39,7 @@ use Rattle.desk.specs.declared.Timer.the-variants as timer
 use Rattle.desk.specs.Timers.{halted, stops, endsIn, revokesIn, idleAgain, revokesAgain, grantsOrEnds, grantsAgain, fires, isStopped, runs, running, expires}
 use Rattle.desk.specs.Events.{starts, callerOf, heard, struckOff, releases, asksPlace, talks, step, leaves, leave}
 use Rattle.history.specs.Doing.{event, leaves as leaves-now, joins, does}
-use Rattle.marks.specs.Marks.{one, isOut, LineCounts, Fit, EveryLineCounts}
+use Rattle.marks.specs.Marks.{isOut, LineCounts, Fit, EveryLineCounts}
 use Rattle.marks.proofs.InLine.{in-nil, in-cons, in-enter, in-without, only-at, without-less, in-added}
 
 -- a step's account of one seat, from the core it began with

@@ -6,6 +6,7 @@ use mathlib.Core.Path.{_≡_}
 use mathlib.Core.Bool.{Bool, true, false}
 use lib.Dec.{eqb}
 use lib.ListN.{length, getD}
+use Rattle.words.specs.Choice.{one}
 use Rattle.line.specs.Line.{waiting, isIn}
 use Rattle.hall.specs.declared.Hall.{Hall}
 use Rattle.rules.specs.declared.Core.{Core}
@@ -17,10 +18,6 @@ use Rattle.rules.specs.declared.Marks.{Marks}
 use Rattle.rules.specs.Floor.{holds}
 use Rattle.rules.specs.Request.{waits}
 use Rattle.history.specs.Doing.{Desk, Doing, does}
-
-abbrev pub one : Bool → ℕ
-one true = 1
-one false = 0
 
 abbrev pub isSeat : Mark → ℕ → Bool
 isSeat NoSeat s = false

@@ -145,7 +145,7 @@ fn caused(kind: message::Kind, ssrc: u32, why: u16) -> Message
 }
 
 // The packet that an outgoing message is; the identity that Taken names has `count` octets.
-pub fn to_send(settings: Settings, kind: Kind, count: usize) -> Outgoing
+fn to_send(settings: Settings, kind: Kind, count: usize) -> Outgoing
     ensures { λ r. ⌜ r ≡ outgoing settings kind count ⌝ }
 {
     let ssrc = settings.ssrc;

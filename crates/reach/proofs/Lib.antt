@@ -2,4 +2,3 @@ pub mod InLine
 pub mod Steps
 pub mod Hall
 pub mod Reach
-pub mod Count

@@ -1,10 +1,5 @@
--- What a reader hands out over a whole packet, moved on again and again, is the list of fields that the walk's definition gives, with the
--- same fault at the same place:
---     trail-fields     the trail of a packet, read as fields, is `fieldsIn`
---     hands-out        what is handed out n-th is the trail's n-th field, and behind them all what the trail ended at
---     stands-at        and there the reader stands at the trail's last place
---     by-promises      the same of any readers and answers of which no more is known than what `rest`, `moved` and `next` promise
--- Assumes nothing.
+-- What a reader hands out over a whole packet; and, `by-promises`, the same of any readers and answers of which no more is known than what
+-- `rest`, `moved` and `next` promise. Assumes nothing.
 use Prim.Native.Nat.{ℕ, zero, suc, _+_, _≤_, zero-le}
 use native.Mathlib.Omega.{arith}
 use mathlib.Core.List.{List, [], _∷_}
@@ -17,7 +12,7 @@ use Rattle.reading.specs.declared.Step.{Step}
 use Rattle.reading.specs.declared.Step.the-variants.{Field, End, PastTheEnd, AgainstTheTable}
 use Rattle.reading.specs.Fields.{lengthAt, fieldAt, stepAt, Fields, whole, fault, infront, stepThen, fieldsFrom, fieldsIn}
 use Rattle.reading.proofs.Steps.{padded-least, step-end, Sound, step-sound}
-use Rattle.reader.specs.Reader.{behindOf, behind, placeAfter, nthStep, Trail, laid, trailThen, trailFrom, trail, endedBy, fieldsOn, handed}
+use Rattle.reader.specs.Reader.{behindOf, behind, placeAfter, nthStep, Trail, laid, trailThen, trailFrom, trail, endedBy, fieldsOn, handed, TrailFields, HandsOut, StandsAt}
 use Rattle.reader.specs.declared.Reader.{Reader}
 use Rattle.reader.proofs.Moves.{behind-is}
 
@@ -41,7 +36,7 @@ trail-fields-from zero s at = refl
 trail-fields-from (suc steps) s at =
     step-fields (stepAt s at) at (λ next. trailFrom steps s next) (λ next. fieldsFrom steps s next) (λ m. trail-fields-from steps s m)
 
-pub trail-fields : (s : List ℕ) → fieldsOn (trail s) ≡ fieldsIn s
+pub trail-fields : TrailFields
 unfolding trail fieldsIn
 trail-fields s = trail-fields-from (length s) s 12
 
@@ -99,11 +94,11 @@ unfolding trailFrom
 handed-from zero s at l = handed-still s at End (step-end s at (omega (arith, l))) refl
 handed-from (suc steps) s at l = by-step s at steps (stepAt s at) refl l (λ m h. handed-from steps s m h)
 
-pub hands-out : (s : List ℕ) (n : ℕ) → nthStep s n ≡ handed (trail s .found) (trail s .last) n
+pub hands-out : HandsOut
 unfolding trail nthStep
 hands-out s n = handed-from (length s) s 12 (omega arith) .step n
 
-pub stands-at : (s : List ℕ) (n : ℕ) → length (trail s .found) ≤ n → placeAfter s 12 n ≡ trail s .place
+pub stands-at : StandsAt
 unfolding trail
 stands-at s n l = handed-from (length s) s 12 (omega arith) .place n l
 

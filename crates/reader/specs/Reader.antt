@@ -1,12 +1,13 @@
 -- A reader on a packet: where it stands once it is moved on, and what it hands out there (document 01, "The packet"). What a field is,
 -- and what is wrong with one, is the walk's own definition, `stepAt`. Assumes nothing.
-use Prim.Native.Nat.{ℕ, zero, suc}
+use Prim.Native.Nat.{ℕ, zero, suc, _≤_}
 use mathlib.Core.List.{List, [], _∷_}
+use mathlib.Core.Path.{_≡_}
 use lib.ListN.{length}
 use Rattle.reading.specs.declared.Found.{Found}
 use Rattle.reading.specs.declared.Step.{Step}
 use Rattle.reading.specs.declared.Step.the-variants.{Field, End, PastTheEnd, AgainstTheTable}
-use Rattle.reading.specs.Fields.{stepAt, Fields, whole, fault}
+use Rattle.reading.specs.Fields.{stepAt, Fields, whole, fault, fieldsIn}
 
 -- behind a field; at the end and at a fault the place stays
 abbrev pub behindOf : Step → ℕ → ℕ
@@ -65,3 +66,15 @@ abbrev pub handed : List Found → Step → ℕ → Step
 handed [] last n = last
 handed (f ∷ fs) last zero = Field f
 handed (f ∷ fs) last (suc n) = handed fs last n
+
+-- What a reader hands out over a whole packet, moved on again and again, is the list of fields that the walk's definition gives, with the same
+-- fault at the same place (proofs/HandsOut): the trail of a packet, read as fields, is `fieldsIn`; what is handed out n-th is the trail's n-th
+-- field, and behind them all what the trail ended at; and there the reader stands at the trail's last place.
+abbrev pub TrailFields : Type 0
+TrailFields = (s : List ℕ) → fieldsOn (trail s) ≡ fieldsIn s
+
+abbrev pub HandsOut : Type 0
+HandsOut = (s : List ℕ) (n : ℕ) → nthStep s n ≡ handed (trail s .found) (trail s .last) n
+
+abbrev pub StandsAt : Type 0
+StandsAt = (s : List ℕ) (n : ℕ) → length (trail s .found) ≤ n → placeAfter s 12 n ≡ trail s .place

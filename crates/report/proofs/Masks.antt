@@ -9,7 +9,8 @@ use mathlib.Core.Path.{_≡_, ap, sym, _∙_}
 use lib.ListN.{length, getD, take, drop, length-take, length-drop, drop-of-length-le}
 use lib.Pow.{pow-pos}
 use lib.Seq.{drop-cons}
-use Rattle.report.specs.Report.{one, maskOf}
+use Rattle.words.specs.Choice.{one}
+use Rattle.report.specs.Report.{maskOf}
 
 one-most : (b : Bool) → one b ≤ 1
 one-most true = omega arith

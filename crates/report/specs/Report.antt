@@ -5,7 +5,7 @@ use mathlib.Core.List.{List, [], _∷_, _++_}
 use mathlib.Core.Path.{_≡_}
 use lib.Dec.{eqb}
 use lib.ListN.{length, getD}
-use Rattle.words.specs.Choice.{if_then_else_}
+use Rattle.words.specs.Choice.{if_then_else_, one}
 use Rattle.octets.specs.Octets.{be16, octets16}
 use Rattle.rules.specs.declared.Kind.{Kind}
 use Rattle.rules.specs.declared.Kind.the-variants as say
@@ -20,10 +20,6 @@ use Rattle.report.specs.declared.Told.{Told}
 use Rattle.report.specs.declared.Told.the-variants.{Says, NoMessage}
 
 -- a set of seats as a number, seat 0 the lowest bit
-abbrev pub one : Bool → ℕ
-one true = 1
-one false = 0
-
 abbrev pub maskOf : List Bool → ℕ
 maskOf [] = 0
 maskOf (b ∷ bs) = one b + 2 * maskOf bs

@@ -9,7 +9,8 @@ ghost use mathlib.Core.List.{List, [], _∷_, _++_};
 ghost use Prim.Native.Nat.{_+_, _<_, _≤_, _^_};
 ghost use lib.ListN.{length, getD};
 ghost use Rattle.octets.specs.Octets.{octets16, over};
-ghost use Rattle.report.specs.Report.{one, maskOf, seatOctet, givenOctet, howOctet, with, particulars, octetsWith, messageOctets, marksOctets, reportOctets, particularsAt, kindOf, alike, saidBy, saidAt, messageIn};
+ghost use Rattle.words.specs.Choice.{one};
+ghost use Rattle.report.specs.Report.{maskOf, seatOctet, givenOctet, howOctet, with, particulars, octetsWith, messageOctets, marksOctets, reportOctets, particularsAt, kindOf, alike, saidBy, saidAt, messageIn};
 
 // What a message has beside its receivers: its kind's number, a seat, a number, a priority; zeros for what it has not.
 pub struct Particulars {

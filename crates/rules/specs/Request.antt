@@ -70,6 +70,10 @@ holderAsks c (Revoking e n) = refused c NotExpected
 holderAsks c (Idle t7) = refused c NotExpected
 holderAsks c Stopped = refused c NotExpected
 
+-- 3. In Idle the floor is given at once; to one who is alone it is denied, #3.
+abbrev pub idleRequest : Core → Hall → ℕ → ℕ → Step
+idleRequest c h s p = if alone h s then denied c s 3 else givenAtOnce c h (entry s p)
+
 -- 6. Info tells the asker its place, if it negotiated queueing. A press then takes the floor from a holder in Taken, by Revoke #4.
 unfoldable pub informed : Core → Hall → ℕ → Step
 informed c h s = if queues h s then done c sends infoOf (c .line) s ⇒ only s else done c
@@ -95,19 +99,22 @@ asksAgain c h s p press =
 unfoldable pub placed : Core → Hall → ℕ → ℕ → Bool → Step
 placed c h s p press = rule6 (c withLine lineOf (enter (entry s p) (waiting (c .line)))) h s press marksPlaced s
 
+-- It must press or have negotiated queueing, else Deny #1; a full line is Deny #7.
+abbrev pub rule5 : Core → Hall → ℕ → ℕ → Bool → Step
+rule5 c h s p press =
+    if not press && not (queues h s) then denied c s 1
+    else if full c h then denied c s 7
+    else placed c h s p press
+
 unfoldable pub request : Core → Hall → ℕ → ℕ → Step
 request c h s p =
     if holds (c .phase) s then holderAsks c (c .phase)  -- 1
     else if receivesOnly h s then denied c s 5  -- 2
-    else if isIdle (c .phase) then (if alone h s then denied c s 3 else givenAtOnce c h (entry s p))  -- 3
+    else if isIdle (c .phase) then idleRequest c h s p  -- 3
     else if waits c s then asksAgain c h s p (presses c h s p)  -- 4, 6
-    else if not (presses c h s p) && not (queues h s) then denied c s 1  -- 5
-    else if full c h then denied c s 7
-    else placed c h s p (presses c h s p)  -- 5, 6
+    else rule5 c h s p (presses c h s p)  -- 5, 6
 
--- the parts of the page above that the code has as functions of their own
-abbrev pub idleRequest : Core → Hall → ℕ → ℕ → Step
-idleRequest c h s p = if alone h s then denied c s 3 else givenAtOnce c h (entry s p)
+-- THE PAGE ABOVE AS THE CODE HAS IT
 
 -- what Info is to an asker, with or without queueing
 abbrev pub infoFor : Line → ℕ → Bool → Message
@@ -133,12 +140,6 @@ refusalOf c h s press waiting-already =
     else if not press && not (queues h s) then 1
     else if full c h then 7
     else 0
-
-abbrev pub rule5 : Core → Hall → ℕ → ℕ → Bool → Step
-rule5 c h s p press =
-    if not press && not (queues h s) then denied c s 1
-    else if full c h then denied c s 7
-    else placed c h s p press
 
 abbrev pub asks : Core → Hall → ℕ → ℕ → Bool → Step
 asks c h s p press = if waits c s then asksAgain c h s p press else rule5 c h s p press

@@ -125,7 +125,7 @@ fn is_nothing(kind: Kind) -> bool
     }
 }
 
-pub fn send(step: Step, kind: Kind, to: [bool; 16]) -> Step
+fn send(step: Step, kind: Kind, to: [bool; 16]) -> Step
     ensures { λ r. ⌜ r ≡ (step sends kind ⇒ to) ⌝ }
 {
     let message = Message { kind, to };

@@ -10,12 +10,6 @@ ghost use Rattle.form.specs.Form.{octetAt, flagAt, hallAt, namesAt, upTo, hallF
 ghost use Rattle.sound.specs.Test.{seatsSound};
 ghost use Rattle.seated.specs.Seated.{ssrcAt, agree, sameOctets, hasSsrcOf, hasNameOf, ssrcFirst, nameFirst, behind, takenFits, freeFits, seatFits};
 
-fn wide(x: u8) -> usize
-    ensures { λ r. ⌜ r ≡ x ⌝ }
-{
-    x as usize
-}
-
 // Sixty-two octets at a time: thirty-two from the start and thirty-two up to the end, two of them in both. So all of it is whole vectors,
 // and nothing is left over. Zeros are asked from two places more: a shorter turn would be unrolled octet by octet before it is made vectors.
 
@@ -87,7 +81,7 @@ fn behind_is_zero(s: &[u8], seat: usize) -> bool
     ensures { λ r. ⌜ r ≡ behind (now (s .entry)) seat ⌝ }
 {
     let at = 208 + 62 * seat;
-    let len = wide(s[192 + seat]);
+    let len = octets::wide(s[192 + seat]);
     if len <= 46 {
         zero_from(s, at, len)
     } else {

@@ -14,7 +14,8 @@ use Rattle.hall.specs.Identity.{noNames}
 use Rattle.sheet.specs.Layout.{Seat, seatsFrom, seatsOf, sheet, sheetOf}
 use Rattle.sheet.specs.Loading.{Load, seatCount, Seats, readSeats, joinAll, seatAll, loading}
 use Rattle.sheet.proofs.Loads.{loads-framed, settles}
-use Rattle.sheets.specs.Sheets.{IsDesk, SavedLoads}
+use Rattle.reach.proofs.Reach.{sound-reached}
+use Rattle.sheets.specs.Sheets.{IsDesk, SavedLoads, SavedFromAny}
 use Rattle.sheets.proofs.Read.{long, letters-read, form-read, count-read, seats-read, place-read, zeros-read, settings-read, seats-again}
 use Rattle.sheets.proofs.Rows.{row-starts, row-seats}
 use Rattle.sheets.proofs.Joins.{Filled, filled, all-seated}
@@ -72,3 +73,6 @@ saved-loads h ns r =
     subst (λ (l : Load). IsDesk l zs st) (sym (loads-sheet zs st few (k .range)))
     (joined zs st few
     (all-seated st zs few (length zs) 0 (emptyHall st) noNames (omega arith) (row-starts st zs) (empty-settings st) (fine h ns k)))
+
+pub saved-from-any : SavedFromAny
+saved-from-any g r xs = saved-loads _ _ (sound-reached g r xs .seats)

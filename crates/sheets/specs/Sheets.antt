@@ -1,6 +1,7 @@
 -- What a sheet keeps (document 01, "The sheet"): what is saved loads, what loads is written back octet for octet, and nothing is lost. Each
 -- statement here is proved in proofs/, in the file named beside it. Assumes nothing.
 use Prim.Native.Nat.{ℕ, _≤_, _<_}
+use mathlib.Core.Bool.{true}
 use mathlib.Core.List.{List}
 use mathlib.Core.Path.{_≡_}
 use lib.Dec.{ltb}
@@ -8,14 +9,15 @@ use lib.ListN.{length, getD}
 use Rattle.hall.specs.declared.Settings.{Settings}
 use Rattle.hall.specs.declared.Hall.{Hall}
 use Rattle.hall.specs.declared.Names.{Names}
-use Rattle.hall.specs.Seats.{isPresent}
+use Rattle.hall.specs.Seats.{isPresent, inRange}
 use Rattle.desk.specs.Events.{fresh}
+use Rattle.history.specs.Doing.{Doing, made, afterAll}
+use Rattle.reach.specs.Sound.{SeatsOk}
 use Rattle.sheet.specs.declared.Loading.{Loading}
 use Rattle.sheet.specs.declared.Saving.{Saving}
 use Rattle.sheet.specs.Layout.{Seat, seatsOf, sheetOf}
 use Rattle.sheet.specs.Loading.{Load, loading, told as toldByLoad}
 use Rattle.sheet.specs.Saving.{told as toldBySave}
-use Rattle.sheets.specs.Reached.{Reached}
 
 -- a fresh desk with these seats, numbered from 0 in this order, and these settings
 pub record IsDesk (l : Load) (xs : List Seat) (st : Settings) : Type 0 where
@@ -25,9 +27,15 @@ pub record IsDesk (l : Load) (xs : List Seat) (st : Settings) : Type 0 where
   pub seats : seatsOf (l .hall) (l .names) ≡ xs
   pub numbered : (s : ℕ) → s < 16 → isPresent (l .hall) s ≡ ltb s (length xs)
 
--- A saved sheet loads (proofs/Back), from any desk, and gives the same settings and the same seats in order.
+-- A saved sheet loads (proofs/Back), and gives the same settings and the same seats in order: of any seats and settings that are in order,
+-- and so "from any desk" that steps can reach from a fresh one.
 abbrev pub SavedLoads : Type 0
-SavedLoads = (h : Hall) (ns : Names) → Reached h ns → IsDesk (loading (sheetOf h ns)) (seatsOf h ns) (h .settings)
+SavedLoads = (h : Hall) (ns : Names) → SeatsOk h ns → IsDesk (loading (sheetOf h ns)) (seatsOf h ns) (h .settings)
+
+abbrev pub SavedFromAny : Type 0
+SavedFromAny = (g : Settings) → inRange g ≡ true → (xs : List Doing) →
+    let d = afterAll (made g) xs in
+    IsDesk (loading (sheetOf (d .hall) (d .names))) (seatsOf (d .hall) (d .names)) (d .hall .settings)
 
 -- "an accepted sheet is written back octet for octet" (proofs/Again); each is an octet, so below 256
 abbrev pub Octets : List ℕ → Type 0
@@ -48,7 +56,7 @@ Lossless =
 -- The shortest sheet has 20 octets, and the longest 1,124 (proofs/Lengths).
 pub record Lengths : Type 0 where
   pub shortest : (h : Hall) (ns : Names) → 20 ≤ length (sheetOf h ns)
-  pub longest : (h : Hall) (ns : Names) → Reached h ns → length (sheetOf h ns) ≤ 1124
+  pub longest : (h : Hall) (ns : Names) → SeatsOk h ns → length (sheetOf h ns) ≤ 1124
 
 -- Loading is a function of the octets alone, and no promise leaves a choice (proofs/Coincide): two answers told alike are the same answer.
 abbrev pub LoadingsCoincide : Type 0

@@ -11,17 +11,11 @@ ghost use Rattle.form.specs.Form.{octetAt, coreAt, hallAt, coreFits};
 ghost use Rattle.sound.specs.Test.{inOrder, placeSound, placeBehind, lineSound, holderSound, floorSound, coreSound};
 ghost use Rattle.sound.specs.Line.{lineIn, isAnother};
 
-fn wide(x: u8) -> usize
-    ensures { λ r. ⌜ r ≡ x ⌝ }
-{
-    x as usize
-}
-
 fn is_present(s: &[u8], seat: u8) -> bool
     requires { ⌜ 1200 ≤ length (now s) ⌝ }
     ensures { λ r. ⌜ r ≡ isPresent (hallAt (now (s .entry))) seat ⌝ }
 {
-    let at = wide(seat);
+    let at = octets::wide(seat);
     if at < 16 { s[48 + at] == 1 } else { false }
 }
 
@@ -111,7 +105,7 @@ fn line_is_sound(s: &[u8], n: usize) -> bool
 {
     let places = places_are_sound(s, n);
     let behind = places_behind(s, n);
-    let within = n <= wide(s[181]);
+    let within = n <= octets::wide(s[181]);
     places & within & behind
 }
 
@@ -156,7 +150,7 @@ pub fn core_is_sound(s: &[u8]) -> bool
     requires { ⌜ coreFits (now s) ≡ true ⌝ }
     ensures { λ r. ⌜ r ≡ coreSound (hallAt (now (s .entry))) (coreAt (now (s .entry))) ⌝ }
 {
-    let n = wide(s[14]);
+    let n = octets::wide(s[14]);
     let queue = line_is_sound(s, n);
     let floor = floor_is_sound(s, n);
     let c7 = s[12] <= s[182];

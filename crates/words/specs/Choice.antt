@@ -1,5 +1,6 @@
 -- `if test then a else b`, so that a rule of document 01 reads in its own order: `if .. then .. else if .. then .. else ..`.
 -- Below it stand the laws by which a proof takes a choice apart. Assumes nothing.
+use Prim.Native.Nat.{ℕ}
 use mathlib.Core.Bool.{Bool, true, false}
 use mathlib.Core.Path.{_≡_, refl}
 
@@ -7,6 +8,11 @@ infixr 10 if_then_else_
 unfoldable pub if_then_else_ {ℓ} : {A : Type ℓ} → Bool → A → A → A
 if true then a else b = a
 if false then a else b = b
+
+-- a test counted: 1 where it holds
+abbrev pub one : Bool → ℕ
+one true = 1
+one false = 0
 
 -- what the choice is where its test holds, and where it does not
 pub if-yes {ℓ} : {A : Type ℓ} (t : Bool) (a b : A) → t ≡ true → (if t then a else b) ≡ a

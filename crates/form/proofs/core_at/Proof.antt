@@ -7,7 +7,7 @@ use Rattle.form.proofs.core_at.Reads as reads
 use Rattle.form.proofs.core_at.Lts as lts
 use Rattle.form.proofs.entries_at.Reads as entries-at-reads
 use Rattle.form.proofs.phase_at.Reads as phase-at-reads
-use Rattle.form.proofs.wide.Reads as wide-reads
+use Rattle.octets.proofs.wide.Reads as wide-reads
 use Rattle.octets.proofs.number16.Reads as number16-reads
 
 phase-at-requires : tie.Need-phase-at-requires

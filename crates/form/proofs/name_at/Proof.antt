@@ -6,7 +6,7 @@ use Rattle.form.proofs.name_at.Tie as tie
 use Rattle.form.proofs.name_at.Reads as reads
 use Rattle.form.proofs.name_at.Lts as lts
 use Rattle.form.proofs.at_most_62.Reads as at-most-62-reads
-use Rattle.form.proofs.wide.Reads as wide-reads
+use Rattle.octets.proofs.wide.Reads as wide-reads
 
 wide-requires : tie.Need-wide-requires
 wide-requires c κs = search needs

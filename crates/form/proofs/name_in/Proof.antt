@@ -12,7 +12,7 @@ use Rattle.form.proofs.name_in.Statement.{statement}
 use Rattle.form.proofs.name_in.Tie as tie
 use Rattle.form.proofs.name_in.Reads as reads
 use Rattle.form.proofs.name_in.Lts as lts
-use Rattle.form.proofs.wide.Reads as wide-reads
+use Rattle.octets.proofs.wide.Reads as wide-reads
 
 abbrev Inv-loop : tie.InvT-loop
 Inv-loop s seat octets₀ at i₀ octets i = (i ≤ 62) × (length octets ≡ 62) × ((j : ℕ) → j < i → getD octets j 0 ≡ octetAt s (208 + 62 * seat + j))

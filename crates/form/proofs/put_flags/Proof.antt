@@ -1,5 +1,6 @@
+use Rattle.words.specs.Choice.{one as flag}
 use Rattle.form.proofs.Places.{column-turn}
-use Rattle.form.specs.Form.{flagOctets, flag}
+use Rattle.form.specs.Form.{flagOctets}
 use mathlib.Core.Bool.{false}
 use Rattle.octets.proofs.Over.{over-none}
 use Rattle.octets.specs.Octets.{over}

@@ -15,7 +15,7 @@ use Rattle.form.proofs.put_identities.Tie as tie
 use Rattle.form.proofs.put_identities.Reads as reads
 use Rattle.form.proofs.put_identities.Lts as lts
 use Rattle.form.proofs.put_name.Reads as put-name-reads
-use Rattle.form.proofs.wide.Reads as wide-reads
+use Rattle.octets.proofs.wide.Reads as wide-reads
 use Rattle.hall.proofs.name_at.Reads as name-at-reads
 
 abbrev Inv-loop : tie.InvT-loop

@@ -14,7 +14,7 @@ use Rattle.form.proofs.put_lengths.Statement.{statement}
 use Rattle.form.proofs.put_lengths.Tie as tie
 use Rattle.form.proofs.put_lengths.Reads as reads
 use Rattle.form.proofs.put_lengths.Lts as lts
-use Rattle.form.proofs.wide.Reads as wide-reads
+use Rattle.octets.proofs.wide.Reads as wide-reads
 use Rattle.hall.proofs.name_at.Reads as name-at-reads
 use Rattle.hall.proofs.name_length.Reads as name-length-reads
 

@@ -4,7 +4,8 @@ use mathlib.Core.Bool.{false}
 use mathlib.Core.Path.{_≡_, refl, sym, ap, _∙_}
 use lib.ListN.{length, getD, take, drop}
 use lib.Seq.{getD-take, getD-drop}
-use Rattle.report.specs.Report.{one, maskOf}
+use Rattle.words.specs.Choice.{one}
+use Rattle.report.specs.Report.{maskOf}
 use Rattle.report.proofs.Masks.{mask-turn, mask-small, mask-none, octet-fits, low-length, high-length, two-octets}
 use borrow.Author.Needs.{needs}
 use native.Mathlib.Omega.{arith}
