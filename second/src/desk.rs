@@ -6,7 +6,7 @@ use crate::refusal::Refusal;
 use crate::report::{How, Notice, Report};
 use crate::seats::{Seat, SeatSet, Seats};
 use crate::settings::Settings;
-use crate::timers::{Running, Timer};
+use crate::timers::{Ticking, Timer};
 
 const DENY_ANOTHER_HAS_IT: u16 = 1;
 const DENY_ALONE: u16 = 3;
@@ -40,10 +40,10 @@ pub enum Event {
     Packet(Vec<u8>),
     Media(u32),
     /// The expiry of a timer, by its number.
-    Expiry(u32),
+    TimeUp(u32),
 }
 
-type Step = Result<Report, Refusal>;
+type Outcome = Result<Report, Refusal>;
 
 #[derive(Clone, Debug, PartialEq, Eq)]
 pub struct Desk {
@@ -51,7 +51,7 @@ pub struct Desk {
     seats: Seats,
     phase: Phase,
     line: Line,
-    running: Running,
+    running: Ticking,
     sequence: u16,
     c7: u8,
     c20: u8,
@@ -66,7 +66,7 @@ impl Desk {
             seats,
             phase: Phase::Stopped,
             line: Line::default(),
-            running: Running::NONE,
+            running: Ticking::NONE,
             sequence: 0,
             c7: 0,
             c20: 0,
@@ -89,7 +89,7 @@ impl Desk {
         self.line.entries()
     }
 
-    pub fn running(&self) -> Running {
+    pub fn running(&self) -> Ticking {
         self.running
     }
 
@@ -115,14 +115,13 @@ impl Desk {
     /// Hands the line to the wall screen, in lent room, and says how long it is.
     pub fn screen(&self, room: &mut [Entry]) -> Result<usize, Refusal> {
         let line = self.line.entries();
-        let Some(front) = room.get_mut(..line.len()) else {
-            return Err(Refusal::RoomTooShort);
-        };
+        let front = room.get_mut(..line.len());
+        let front = front.ok_or(Refusal::RoomTooShort)?;
         front.copy_from_slice(line);
         Ok(line.len())
     }
 
-    /// An outgoing message as a packet says it.
+    /// What is sent, as a packet says it.
     pub fn message(&self, notice: Notice) -> Message<'_> {
         let from_desk = |kind| Message::new(kind, self.settings.ssrc());
         match notice {
@@ -133,9 +132,9 @@ impl Desk {
                 .with(Field::GrantedParty(self.identity(seat)))
                 .with(Field::Permission(1))
                 .with(Field::Sequence(sequence)),
-            Notice::Deny { cause } => from_desk(Kind::Deny).with(bare(cause)),
+            Notice::Deny { cause } => from_desk(Kind::Deny).with(bare_cause(cause)),
             Notice::Idle { sequence } => from_desk(Kind::Idle).with(Field::Sequence(sequence)),
-            Notice::Revoke { cause } => from_desk(Kind::Revoke).with(bare(cause)),
+            Notice::Revoke { cause } => from_desk(Kind::Revoke).with(bare_cause(cause)),
             Notice::Info { place, priority } => from_desk(Kind::PositionInfo).with(Field::Queue {
                 position: place,
                 priority,
@@ -149,7 +148,7 @@ impl Desk {
 }
 
 /// A cause with no phrase.
-fn bare(cause: u16) -> Field<'static> {
+fn bare_cause(cause: u16) -> Field<'static> {
     Field::Cause { cause, phrase: &[] }
 }
 
@@ -165,21 +164,21 @@ impl Desk {
             Event::Stop => self.stop(),
             Event::Packet(octets) => self.packet(&octets),
             Event::Media(ssrc) => self.media(ssrc),
-            Event::Expiry(number) => self.expiry(number),
+            Event::TimeUp(number) => self.expiry(number),
         };
         step.unwrap_or_else(Report::refused)
     }
 
-    fn join(&mut self, newcomer: Seat) -> Step {
+    fn join(&mut self, newcomer: Seat) -> Outcome {
         self.seats.admit(newcomer, self.settings.ssrc())?;
         Ok(Report::done())
     }
 
-    fn leave(&mut self, number: usize) -> Step {
+    fn leave(&mut self, number: usize) -> Outcome {
         // The seat is freed first, so that the leaver is in no set of receivers.
-        self.seats.vacate(number)?;
+        self.seats.dismiss(number)?;
         if self.holds(number) {
-            return Ok(self.floor_ends());
+            return Ok(self.floor_falls_free());
         }
         let mut report = Report::done();
         if self.line.strike(number) {
@@ -188,30 +187,30 @@ impl Desk {
         Ok(report)
     }
 
-    fn start(&mut self) -> Step {
+    fn start(&mut self) -> Outcome {
         if self.phase != Phase::Stopped {
             return Err(Refusal::NotExpectedNow);
         }
-        Ok(self.enter_idle(Report::done()))
+        Ok(self.fall_idle(Report::done()))
     }
 
-    fn stop(&mut self) -> Step {
+    fn stop(&mut self) -> Outcome {
         self.must_run()?;
         Ok(self.call_stops())
     }
 
-    fn packet(&mut self, octets: &[u8]) -> Step {
+    fn packet(&mut self, octets: &[u8]) -> Outcome {
         let message = Message::read(octets)?;
         let seat = self.caller(message.ssrc)?;
         match message.kind {
             Kind::Request => self.request(seat, message.asked()),
             Kind::Release => self.release(seat),
-            Kind::PositionRequest => Ok(self.tell_place(seat)),
+            Kind::PositionRequest => Ok(self.answer_place(seat)),
             _ => Err(Refusal::NotExpectedNow),
         }
     }
 
-    fn media(&mut self, ssrc: u32) -> Step {
+    fn media(&mut self, ssrc: u32) -> Outcome {
         let seat = self.caller(ssrc)?;
         match self.phase {
             Phase::Taken(holder) if holder.seat == seat => {
@@ -225,7 +224,7 @@ impl Desk {
 
     fn must_run(&self) -> Result<(), Refusal> {
         match self.phase {
-            Phase::Stopped => Err(Refusal::CallStopped),
+            Phase::Stopped => Err(Refusal::CallNotRunning),
             _ => Ok(()),
         }
     }
@@ -233,25 +232,25 @@ impl Desk {
     /// The seat that a packet or media comes from: 21, then 22.
     fn caller(&self, ssrc: u32) -> Result<usize, Refusal> {
         self.must_run()?;
-        self.seats.with_ssrc(ssrc).ok_or(Refusal::NoSuchSeat)
+        self.seats.with_ssrc(ssrc).ok_or(Refusal::NobodyThere)
     }
 
     fn holds(&self, seat: usize) -> bool {
-        self.holder().is_some_and(|holder| holder.seat == seat)
+        self.holder().map(|holder| holder.seat) == Some(seat)
     }
 }
 
 /// Packets that are events.
 impl Desk {
-    fn request(&mut self, number: usize, asked: u8) -> Step {
-        let seat = self.seats.get(number).ok_or(Refusal::NoSuchSeat)?;
+    fn request(&mut self, number: usize, asked: u8) -> Outcome {
+        let seat = self.seats.get(number).ok_or(Refusal::NobodyThere)?;
         let asker = Entry {
             seat: number,
             priority: asked.min(seat.highest),
         };
         let (queueing, receive_only) = (seat.queueing, seat.receive_only);
         if self.holds(number) {
-            return self.holder_asks();
+            return self.ask_as_holder();
         }
         if receive_only {
             return Ok(deny(number, DENY_RECEIVE_ONLY));
@@ -263,7 +262,7 @@ impl Desk {
     }
 
     /// Rule 1.
-    fn holder_asks(&self) -> Step {
+    fn ask_as_holder(&self) -> Outcome {
         match self.phase {
             Phase::Taken(holder) => Ok(granted_again(holder)),
             _ => Err(Refusal::NotExpectedNow),
@@ -275,7 +274,7 @@ impl Desk {
         if self.seats.everyone() == SeatSet::only(asker.seat) {
             return deny(asker.seat, DENY_ALONE);
         }
-        self.give(Report::done(), asker, How::AtOnce)
+        self.hand_floor_to(Report::done(), asker, How::Directly)
     }
 
     /// Rules 4 to 6.
@@ -293,7 +292,7 @@ impl Desk {
             }
         }
         if queueing {
-            report = report.telling(SeatSet::only(asker.seat), self.place_of(asker.seat));
+            report = report.telling(SeatSet::only(asker.seat), self.position_notice(asker.seat));
         }
         if presses && self.phase == Phase::Taken(holder) {
             report = self.revoke(report, holder, REVOKE_PRE_EMPTED);
@@ -316,9 +315,9 @@ impl Desk {
         self.line.entries().len() >= usize::from(self.settings.line_limit())
     }
 
-    fn release(&mut self, seat: usize) -> Step {
+    fn release(&mut self, seat: usize) -> Outcome {
         if self.holds(seat) {
-            return Ok(self.floor_ends());
+            return Ok(self.floor_falls_free());
         }
         if !self.line.strike(seat) {
             return Err(Refusal::NotExpectedNow);
@@ -329,12 +328,12 @@ impl Desk {
         })
     }
 
-    fn tell_place(&self, seat: usize) -> Report {
-        Report::done().telling(SeatSet::only(seat), self.place_of(seat))
+    fn answer_place(&self, seat: usize) -> Report {
+        Report::done().telling(SeatSet::only(seat), self.position_notice(seat))
     }
 
-    fn place_of(&self, seat: usize) -> Notice {
-        let waiting = self.line.entry_of(seat).zip(self.line.place_of(seat));
+    fn position_notice(&self, seat: usize) -> Notice {
+        let waiting = self.line.entry_of(seat).zip(self.line.rank(seat));
         waiting.map_or(NOT_IN_LINE, |(entry, place)| Notice::Info {
             place: u8::try_from(place).unwrap_or(u8::MAX),
             priority: entry.priority,
@@ -362,9 +361,9 @@ impl Desk {
         self.sequence
     }
 
-    fn give(&mut self, mut report: Report, asker: Entry, how: How) -> Report {
+    fn hand_floor_to(&mut self, mut report: Report, asker: Entry, how: How) -> Report {
         self.phase = Phase::Taken(asker);
-        self.running = Running::only(&[Timer::T1]);
+        self.running = Ticking::only(&[Timer::T1]);
         if how == How::OutOfTheLine {
             self.running = self.running.and(Timer::T20);
             self.c20 = 1;
@@ -384,21 +383,21 @@ impl Desk {
             .telling(self.seats.everyone().without(asker.seat), taken)
     }
 
-    fn floor_ends(&mut self) -> Report {
+    fn floor_falls_free(&mut self) -> Report {
         let ended = self.holder().map(|holder| holder.seat);
         let report = Report {
             ended,
             ..Report::done()
         };
         match self.line.take_head() {
-            Some(head) => self.give(report, head, How::OutOfTheLine),
-            None => self.enter_idle(report),
+            Some(head) => self.hand_floor_to(report, head, How::OutOfTheLine),
+            None => self.fall_idle(report),
         }
     }
 
-    fn enter_idle(&mut self, report: Report) -> Report {
+    fn fall_idle(&mut self, report: Report) -> Report {
         self.phase = Phase::Idle;
-        self.running = Running::only(&[Timer::T4, Timer::T7]);
+        self.running = Ticking::only(&[Timer::T4, Timer::T7]);
         self.c7 = 1;
         self.tell_idle(report)
     }
@@ -410,7 +409,7 @@ impl Desk {
 
     fn revoke(&mut self, report: Report, holder: Entry, cause: u16) -> Report {
         self.phase = Phase::Revoking { holder, cause };
-        self.running = Running::only(&[Timer::T1, Timer::T3, Timer::T8]);
+        self.running = Ticking::only(&[Timer::T1, Timer::T3, Timer::T8]);
         report.telling(SeatSet::only(holder.seat), Notice::Revoke { cause })
     }
 
@@ -419,7 +418,7 @@ impl Desk {
         let struck_off = self.line.entries().iter().map(|entry| entry.seat).collect();
         self.line.clear();
         self.phase = Phase::Stopped;
-        self.running = Running::NONE;
+        self.running = Ticking::NONE;
         Report {
             ended,
             struck_off,
@@ -430,11 +429,11 @@ impl Desk {
 
 /// Timers.
 impl Desk {
-    fn expiry(&mut self, number: u32) -> Step {
+    fn expiry(&mut self, number: u32) -> Outcome {
         self.must_run()?;
         let fired = Timer::numbered(number).filter(|&timer| self.running.has(timer));
         match (fired.ok_or(Refusal::NotExpectedNow)?, self.phase) {
-            (Timer::T1 | Timer::T3, _) => Ok(self.floor_ends()),
+            (Timer::T1 | Timer::T3, _) => Ok(self.floor_falls_free()),
             (Timer::T2, Phase::Taken(holder)) => {
                 Ok(self.revoke(Report::done(), holder, REVOKE_TOO_LONG))
             }
@@ -452,7 +451,7 @@ impl Desk {
 
     fn t20(&mut self, holder: Entry) -> Report {
         if self.c20 >= self.settings.c20_limit() {
-            return self.floor_ends();
+            return self.floor_falls_free();
         }
         self.c20 += 1;
         granted_again(holder)

@@ -20,7 +20,7 @@ pub fn octets(word: &[u8]) -> Option<Vec<u8>> {
     if word == b"-" {
         return Some(Vec::new());
     }
-    if word.is_empty() || !word.len().is_multiple_of(2) {
+    if word.is_empty() || word.len() % 2 != 0 {
         return None;
     }
     word.chunks(2)

@@ -4,6 +4,8 @@
 //! It was written from the paper alone, to be compared line by line with the first
 //! implementation by way of scripts. `FORMAT.md` says what a script is.
 
+#![forbid(unsafe_code)]
+
 pub mod desk;
 pub mod hex;
 pub mod line;
@@ -15,4 +17,5 @@ pub mod script;
 pub mod seats;
 pub mod settings;
 pub mod sheet;
+mod slices;
 pub mod timers;

@@ -27,7 +27,7 @@ impl Line {
     }
 
     /// The place of a seat, 1 being the head.
-    pub fn place_of(&self, seat: usize) -> Option<usize> {
+    pub fn rank(&self, seat: usize) -> Option<usize> {
         let index = self.entries.iter().position(|entry| entry.seat == seat)?;
         Some(index + 1)
     }
@@ -69,7 +69,7 @@ impl Line {
 mod tests {
     use super::*;
 
-    fn line_of(entries: &[(usize, u8)]) -> Line {
+    fn queued(entries: &[(usize, u8)]) -> Line {
         let mut line = Line::default();
         for &(seat, priority) in entries {
             line.place(Entry { seat, priority });
@@ -83,15 +83,15 @@ mod tests {
 
     #[test]
     fn highest_first_and_earlier_first_among_equals() {
-        let line = line_of(&[(0, 5), (1, 5), (2, 6), (3, 4), (4, 6)]);
+        let line = queued(&[(0, 5), (1, 5), (2, 6), (3, 4), (4, 6)]);
         assert_eq!(seats(&line), [2, 4, 0, 1, 3]);
-        assert_eq!(line.place_of(1), Some(4));
-        assert_eq!(line.place_of(9), None);
+        assert_eq!(line.rank(1), Some(4));
+        assert_eq!(line.rank(9), None);
     }
 
     #[test]
     fn a_moved_seat_stands_once_and_behind_its_equals() {
-        let mut line = line_of(&[(0, 5), (1, 5), (2, 6)]);
+        let mut line = queued(&[(0, 5), (1, 5), (2, 6)]);
         line.place(Entry {
             seat: 2,
             priority: 5,

@@ -2,13 +2,14 @@
 //! packets").
 
 use crate::refusal::Refusal;
+use crate::slices;
 
 pub const HEADER: usize = 12;
 pub const LONGEST_PACKET: usize = 1024;
 pub const LONGEST_IDENTITY: usize = 62;
 
 const APPLICATION: u8 = 204;
-const NAME: [u8; 4] = *b"MCPT";
+const MCPT: [u8; 4] = *b"MCPT";
 const ACK_BIT: u8 = 0b1_0000;
 
 /// One more than the greatest ID of a field that a message can have.
@@ -101,8 +102,8 @@ impl<'a> Field<'a> {
         }
     }
 
-    /// Judges the content of a field below 192. `None` is a field that is skipped.
-    fn judge(id: u8, content: &'a [u8]) -> Result<Option<Field<'a>>, Refusal> {
+    /// Weighs the content of a field below 192. `None` is a field that is skipped.
+    fn weigh(id: u8, content: &'a [u8]) -> Result<Option<Field<'a>>, Refusal> {
         let field = match (id, content) {
             (0, &[priority, _spare]) => Field::Priority(priority),
             (1, &[high, low]) => Field::Duration(pair(high, low)),
@@ -144,16 +145,14 @@ impl<'a> Field<'a> {
     /// Puts the field at the end of a packet, unless no reader would take it.
     fn put(&self, packet: &mut Vec<u8>) -> Result<(), Refusal> {
         let content = self.content();
-        let Ok(length) = u8::try_from(content.len()) else {
-            return Err(Refusal::NoReaderWouldAccept);
-        };
+        let length = u8::try_from(content.len()).map_err(|_| Refusal::NoReaderWouldAccept)?;
         // The reader's own judgement is the only rule for what can be written.
-        if Field::judge(self.id(), &content) != Ok(Some(*self)) {
+        if Field::weigh(self.id(), &content) != Ok(Some(*self)) {
             return Err(Refusal::NoReaderWouldAccept);
         }
         packet.extend([self.id(), length]);
         packet.extend(&content);
-        packet.resize(packet.len().next_multiple_of(4), 0);
+        packet.resize(whole_words(packet.len()), 0);
         Ok(())
     }
 }
@@ -162,20 +161,25 @@ pub fn is_identity(octets: &[u8]) -> bool {
     (1..=LONGEST_IDENTITY).contains(&octets.len())
 }
 
+/// A length with the padding that takes it to a multiple of four.
+fn whole_words(length: usize) -> usize {
+    (length + 3) / 4 * 4
+}
+
 fn pair(high: u8, low: u8) -> u16 {
     u16::from_be_bytes([high, low])
 }
 
 /// Rests on the fields of a packet and hands them out from front to back. It ends at the
 /// end of the packet or after the first fault.
-pub struct Walk<'a> {
+pub struct Unpacking<'a> {
     rest: &'a [u8],
 }
 
-impl<'a> Walk<'a> {
-    /// A walk over octets that are nothing but fields.
-    pub fn over(fields: &'a [u8]) -> Walk<'a> {
-        Walk { rest: fields }
+impl<'a> Unpacking<'a> {
+    /// Unpacks octets that are nothing but fields.
+    pub fn of(fields: &'a [u8]) -> Unpacking<'a> {
+        Unpacking { rest: fields }
     }
 
     fn take(&mut self, id: u8, length: u8) -> Result<Option<Field<'a>>, Refusal> {
@@ -184,16 +188,14 @@ impl<'a> Walk<'a> {
             return Err(Refusal::FieldAtFault);
         }
         let end = 2 + usize::from(length);
-        let after = self.rest.get(end.next_multiple_of(4)..);
-        let (Some(content), Some(after)) = (self.rest.get(2..end), after) else {
-            return Err(Refusal::FieldPastTheEnd);
-        };
-        self.rest = after;
-        Field::judge(id, content)
+        let content = self.rest.get(2..end).ok_or(Refusal::FieldPastTheEnd)?;
+        let after = self.rest.get(whole_words(end)..);
+        self.rest = after.ok_or(Refusal::FieldPastTheEnd)?;
+        Field::weigh(id, content)
     }
 }
 
-impl<'a> Iterator for Walk<'a> {
+impl<'a> Iterator for Unpacking<'a> {
     /// A field, a skipped one as `None`, or the fault.
     type Item = Result<Option<Field<'a>>, Refusal>;
 
@@ -267,11 +269,9 @@ impl<'a> Message<'a> {
         if packet.len() > LONGEST_PACKET {
             return Err(Refusal::PacketTooLong);
         }
-        let Some((header, fields)) = packet.split_first_chunk::<HEADER>() else {
-            return Err(Refusal::PacketTooShort);
-        };
+        let (header, fields) = slices::leading(packet).ok_or(Refusal::PacketTooShort)?;
         let mut message = read_header(header, packet.len())?;
-        for step in Walk::over(fields) {
+        for step in Unpacking::of(fields) {
             if let Some(field) = step? {
                 message = message.with(field);
             }
@@ -291,9 +291,8 @@ impl<'a> Message<'a> {
         for field in self.fields() {
             field.put(&mut packet)?;
         }
-        let Ok(words) = u16::try_from(packet.len() / 4 - 1) else {
-            return Err(Refusal::NoReaderWouldAccept);
-        };
+        let words = u16::try_from(packet.len() / 4 - 1);
+        let words = words.map_err(|_| Refusal::NoReaderWouldAccept)?;
         packet[2..4].copy_from_slice(&words.to_be_bytes());
         Ok(packet)
     }
@@ -301,9 +300,8 @@ impl<'a> Message<'a> {
     /// Writes the packet to the front of the lent room and says how long it is.
     pub fn write(&self, room: &mut [u8]) -> Result<usize, Refusal> {
         let packet = self.to_octets()?;
-        let Some(front) = room.get_mut(..packet.len()) else {
-            return Err(Refusal::RoomTooShort);
-        };
+        let front = room.get_mut(..packet.len());
+        let front = front.ok_or(Refusal::RoomTooShort)?;
         front.copy_from_slice(&packet);
         Ok(packet.len())
     }
@@ -312,7 +310,7 @@ impl<'a> Message<'a> {
     fn header(&self) -> [u8; HEADER] {
         let ack = if self.wants_ack { ACK_BIT } else { 0 };
         let [a, b, c, d] = self.ssrc.to_be_bytes();
-        let [m, n, o, p] = NAME;
+        let [m, n, o, p] = MCPT;
         [
             0b1000_0000 | ack | self.kind.number(),
             APPLICATION,
@@ -345,10 +343,10 @@ fn read_header<'a>(header: &[u8; HEADER], lent: usize) -> Result<Message<'a>, Re
     if 4 * (usize::from(pair(high, low)) + 1) != lent {
         return Err(Refusal::WrongLengthWord);
     }
-    if name != NAME {
+    if name != MCPT {
         return Err(Refusal::WrongName);
     }
-    let kind = Kind::numbered(first & 0b1111).ok_or(Refusal::UnlistedType)?;
+    let kind = Kind::numbered(first & 0b1111).ok_or(Refusal::TypeNotListed)?;
     let mut message = Message::new(kind, u32::from_be_bytes([a, b, c, d]));
     message.wants_ack = first & ACK_BIT != 0;
     Ok(message)

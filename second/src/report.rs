@@ -3,7 +3,7 @@
 use crate::refusal::Refusal;
 use crate::seats::SeatSet;
 
-/// An outgoing message, with its own particulars.
+/// What the desk says, with its own particulars.
 #[derive(Clone, Copy, Debug, PartialEq, Eq)]
 pub enum Notice {
     Granted { priority: u8 },
@@ -14,9 +14,9 @@ pub enum Notice {
     Info { place: u8, priority: u8 },
 }
 
-/// A message and the seats it goes to.
+/// What is said, and the seats it goes to.
 #[derive(Clone, Copy, Debug, PartialEq, Eq)]
-pub struct Outgoing {
+pub struct Posting {
     pub notice: Notice,
     pub to: SeatSet,
 }
@@ -24,7 +24,7 @@ pub struct Outgoing {
 /// How the floor came to be given.
 #[derive(Clone, Copy, Debug, PartialEq, Eq)]
 pub enum How {
-    AtOnce,
+    Directly,
     OutOfTheLine,
 }
 
@@ -33,7 +33,7 @@ pub enum How {
 pub struct Report {
     pub answer: Result<(), Refusal>,
     /// Two at most, in the order in which they are sent.
-    pub messages: Vec<Outgoing>,
+    pub messages: Vec<Posting>,
     pub placed: Option<usize>,
     pub struck_off: SeatSet,
     pub ended: Option<usize>,
@@ -62,7 +62,7 @@ impl Report {
 
     /// The same report with one more message.
     pub fn telling(mut self, to: SeatSet, notice: Notice) -> Report {
-        self.messages.push(Outgoing { notice, to });
+        self.messages.push(Posting { notice, to });
         self
     }
 

@@ -82,7 +82,7 @@ impl Player {
     fn obey(&mut self, command: Command) -> Result<String, Reason> {
         match command {
             Command::Make(wishes) => {
-                let settings = Settings::judge(wishes);
+                let settings = Settings::weigh(wishes);
                 Ok(self.replace(settings.map(|good| Desk::fresh(good, Seats::default()))))
             }
             Command::Load(octets) => Ok(self.replace(sheet::load(&octets))),
@@ -172,7 +172,7 @@ fn understand_event(name: &[u8], rest: &[&[u8]]) -> Result<Event, Reason> {
         (b"stop", []) => Ok(Event::Stop),
         (b"packet", &[octets]) => Ok(Event::Packet(hexadecimal(octets)?)),
         (b"media", &[ssrc]) => Ok(Event::Media(number(ssrc)?)),
-        (b"timer", &[timer]) => Ok(Event::Expiry(number(timer)?)),
+        (b"timer", &[timer]) => Ok(Event::TimeUp(number(timer)?)),
         _ => Err("not a command with these words"),
     }
 }
@@ -203,11 +203,9 @@ fn hexadecimal(word: &[u8]) -> Result<Vec<u8>, Reason> {
 }
 
 fn split_at(word: &[u8], mark: u8) -> Result<(&[u8], &[u8]), Reason> {
-    let index = word.iter().position(|&octet| octet == mark);
-    let (front, back) = index
-        .and_then(|index| word.split_at_checked(index))
-        .ok_or("bad field")?;
-    Ok((front, back.get(1..).unwrap_or(&[])))
+    let mut parts = word.splitn(2, |&octet| octet == mark);
+    let (front, back) = (parts.next(), parts.next());
+    front.zip(back).ok_or("bad field")
 }
 
 fn draft_field(word: &[u8]) -> Result<DraftField, Reason> {
@@ -353,15 +351,12 @@ impl Display for Value<'_> {
 
 /// The whole answer to a step: the report, and the desk after it.
 fn step_line(desk: &Desk, report: &Report) -> String {
-    let sent = report.messages.iter().map(|outgoing| {
-        let packet = desk
-            .message(outgoing.notice)
-            .to_octets()
-            .unwrap_or_default();
+    let sent = report.messages.iter().map(|posting| {
+        let packet = desk.message(posting.notice).to_octets().unwrap_or_default();
         format!(
             "{} -> {:04x} {}",
-            outgoing.notice,
-            outgoing.to.mask(),
+            posting.notice,
+            posting.to.mask(),
             Hex(&packet)
         )
     });
@@ -390,7 +385,7 @@ impl Display for Notice {
 
 fn marks(report: &Report) -> String {
     let how = report.given.map(|(_, how)| match how {
-        How::AtOnce => "once",
+        How::Directly => "once",
         How::OutOfTheLine => "line",
     });
     format!(

@@ -84,27 +84,25 @@ impl Seats {
     /// whatever is wrong with the newcomer.
     pub fn admit(&mut self, newcomer: Seat, desk_ssrc: u32) -> Result<(), Refusal> {
         if !is_identity(&newcomer.identity) {
-            return Err(Refusal::IdentityLength);
+            return Err(Refusal::IdentityOutOfSize);
         }
         if self
             .taken()
             .any(|(_, seat)| seat.identity == newcomer.identity)
         {
-            return Err(Refusal::IdentityPresent);
+            return Err(Refusal::IdentityInUse);
         }
         if newcomer.ssrc == desk_ssrc || self.with_ssrc(newcomer.ssrc).is_some() {
-            return Err(Refusal::SsrcPresent);
+            return Err(Refusal::SsrcInUse);
         }
-        let Some(free) = self.places.iter_mut().find(|place| place.is_none()) else {
-            return Err(Refusal::AllSeatsTaken);
-        };
-        *free = Some(newcomer);
+        let free = self.places.iter_mut().find(|place| place.is_none());
+        *free.ok_or(Refusal::NoFreeSeat)? = Some(newcomer);
         Ok(())
     }
 
     /// Makes a taken seat free again.
-    pub fn vacate(&mut self, number: usize) -> Result<(), Refusal> {
+    pub fn dismiss(&mut self, number: usize) -> Result<(), Refusal> {
         let seat = self.places.get_mut(number).and_then(Option::take);
-        seat.map(drop).ok_or(Refusal::NoSuchSeat)
+        seat.map(drop).ok_or(Refusal::NobodyThere)
     }
 }

@@ -25,14 +25,14 @@ pub struct Wishes {
 }
 
 impl Settings {
-    pub fn judge(wishes: Wishes) -> Result<Settings, Refusal> {
+    pub fn weigh(wishes: Wishes) -> Result<Settings, Refusal> {
         Ok(Settings {
             ssrc: wishes.ssrc,
-            level: within(wishes.level, 1, 255)?,
-            line_limit: within(wishes.line_limit, 0, 15)?,
-            c7_limit: within(wishes.c7_limit, 1, 255)?,
-            c20_limit: within(wishes.c20_limit, 1, 255)?,
-            duration: within(wishes.duration, 1, 65_535)?,
+            level: narrowed(wishes.level, 1, 255)?,
+            line_limit: narrowed(wishes.line_limit, 0, 15)?,
+            c7_limit: narrowed(wishes.c7_limit, 1, 255)?,
+            c20_limit: narrowed(wishes.c20_limit, 1, 255)?,
+            duration: narrowed(wishes.duration, 1, 65_535)?,
         })
     }
 
@@ -62,7 +62,7 @@ impl Settings {
     }
 }
 
-fn within<Number: TryFrom<u32>>(wish: u32, least: u32, most: u32) -> Result<Number, Refusal> {
+fn narrowed<Number: TryFrom<u32>>(wish: u32, least: u32, most: u32) -> Result<Number, Refusal> {
     if !(least..=most).contains(&wish) {
         return Err(Refusal::SettingOutOfRange);
     }

@@ -4,11 +4,12 @@ use crate::desk::Desk;
 use crate::refusal::Refusal;
 use crate::seats::{Seat, Seats, SEATS};
 use crate::settings::{Settings, Wishes};
+use crate::slices;
 
 const SETTINGS: usize = 12;
-const TRAILER: usize = 8;
-const FORM: u8 = 1;
-const LETTERS: [u8; 2] = *b"FS";
+const ENDING: usize = 8;
+const THIS_FORM: u8 = 1;
+const FS: [u8; 2] = *b"FS";
 const QUEUEING: u8 = 1;
 const RECEIVE_ONLY: u8 = 2;
 
@@ -16,29 +17,28 @@ const RECEIVE_ONLY: u8 = 2;
 pub fn save(desk: &Desk) -> Vec<u8> {
     let mut sheet = Vec::new();
     for (_, seat) in desk.seats().taken() {
-        put_seat(&mut sheet, seat);
+        lay_out_seat(&mut sheet, seat);
     }
     // Sixteen seats take 1,104 octets at the most, so both numbers fit.
     let offset = u16::try_from(sheet.len()).unwrap_or(u16::MAX);
     let count = u8::try_from(desk.seats().taken().count()).unwrap_or(u8::MAX);
-    put_settings(&mut sheet, desk.settings());
+    lay_out_settings(&mut sheet, desk.settings());
     sheet.extend(offset.to_be_bytes());
-    sheet.extend([0, 0, count, FORM]);
-    sheet.extend(LETTERS);
+    sheet.extend([0, 0, count, THIS_FORM]);
+    sheet.extend(FS);
     sheet
 }
 
 /// Saves to the front of the lent room and says how long the sheet is.
 pub fn save_in(desk: &Desk, room: &mut [u8]) -> Result<usize, Refusal> {
     let sheet = save(desk);
-    let Some(front) = room.get_mut(..sheet.len()) else {
-        return Err(Refusal::RoomTooShort);
-    };
+    let front = room.get_mut(..sheet.len());
+    let front = front.ok_or(Refusal::RoomTooShort)?;
     front.copy_from_slice(&sheet);
     Ok(sheet.len())
 }
 
-fn put_seat(sheet: &mut Vec<u8>, seat: &Seat) {
+fn lay_out_seat(sheet: &mut Vec<u8>, seat: &Seat) {
     let queueing = if seat.queueing { QUEUEING } else { 0 };
     let receive_only = if seat.receive_only { RECEIVE_ONLY } else { 0 };
     sheet.extend([queueing | receive_only, seat.highest]);
@@ -47,7 +47,7 @@ fn put_seat(sheet: &mut Vec<u8>, seat: &Seat) {
     sheet.extend(&seat.identity);
 }
 
-fn put_settings(sheet: &mut Vec<u8>, settings: &Settings) {
+fn lay_out_settings(sheet: &mut Vec<u8>, settings: &Settings) {
     sheet.extend(settings.ssrc().to_be_bytes());
     sheet.extend([settings.level(), settings.line_limit()]);
     sheet.extend([settings.c7_limit(), settings.c20_limit()]);
@@ -57,23 +57,21 @@ fn put_settings(sheet: &mut Vec<u8>, settings: &Settings) {
 
 /// A fresh desk with the seats and settings of a sheet.
 pub fn load(sheet: &[u8]) -> Result<Desk, Refusal> {
-    let ending = sheet.split_last_chunk::<TRAILER>();
-    let (front, trailer) = ending.ok_or(Refusal::SheetEnding)?;
-    let middle = front.split_last_chunk::<SETTINGS>();
-    let (seats, settings) = middle.ok_or(Refusal::SheetEnding)?;
-    let count = judge_trailer(trailer, seats.len())?;
-    let settings = read_settings(settings)?;
-    let seats = read_seats(seats, count, settings.ssrc()).ok_or(Refusal::SheetSeats)?;
+    let (front, ending) = slices::trailing(sheet).ok_or(Refusal::SheetEnding)?;
+    let (seats, settings) = slices::trailing(front).ok_or(Refusal::SheetEnding)?;
+    let count = check_ending(ending, seats.len())?;
+    let settings = parse_settings(settings)?;
+    let seats = parse_seats(seats, count, settings.ssrc()).ok_or(Refusal::SheetSeats)?;
     Ok(Desk::fresh(settings, seats))
 }
 
 /// Refusals 41 to 43; answers the count of seats.
-fn judge_trailer(trailer: &[u8; TRAILER], settings_at: usize) -> Result<u8, Refusal> {
-    let [high, low, seats_high, seats_low, count, form, letters @ ..] = *trailer;
-    if letters != LETTERS {
+fn check_ending(ending: &[u8; ENDING], settings_at: usize) -> Result<u8, Refusal> {
+    let [high, low, seats_high, seats_low, count, form, letters @ ..] = *ending;
+    if letters != FS {
         return Err(Refusal::SheetEnding);
     }
-    if form != FORM {
+    if form != THIS_FORM {
         return Err(Refusal::SheetForm);
     }
     let points_back = usize::from(u16::from_be_bytes([high, low])) == settings_at;
@@ -83,7 +81,7 @@ fn judge_trailer(trailer: &[u8; TRAILER], settings_at: usize) -> Result<u8, Refu
     Ok(count)
 }
 
-fn read_settings(octets: &[u8; SETTINGS]) -> Result<Settings, Refusal> {
+fn parse_settings(octets: &[u8; SETTINGS]) -> Result<Settings, Refusal> {
     let [a, b, c, d, level, line_limit, c7_limit, c20_limit, high, low, zeros @ ..] = *octets;
     if zeros != [0, 0] {
         return Err(Refusal::SheetSettings);
@@ -96,26 +94,26 @@ fn read_settings(octets: &[u8; SETTINGS]) -> Result<Settings, Refusal> {
         c20_limit: c20_limit.into(),
         duration: u16::from_be_bytes([high, low]).into(),
     };
-    Settings::judge(wishes).map_err(|_| Refusal::SheetSettings)
+    Settings::weigh(wishes).map_err(|_| Refusal::SheetSettings)
 }
 
 /// All seats, which must fill their part of the sheet and could all have joined.
-fn read_seats(mut octets: &[u8], count: u8, desk_ssrc: u32) -> Option<Seats> {
+fn parse_seats(mut octets: &[u8], count: u8, desk_ssrc: u32) -> Option<Seats> {
     let mut seats = Seats::default();
     for _ in 0..count {
-        let (seat, rest) = read_seat(octets)?;
+        let (seat, rest) = parse_seat(octets)?;
         seats.admit(seat, desk_ssrc).ok()?;
         octets = rest;
     }
     octets.is_empty().then_some(seats)
 }
 
-fn read_seat(octets: &[u8]) -> Option<(Seat, &[u8])> {
-    let (&[flags, highest, a, b, c, d, length], rest) = octets.split_first_chunk()?;
+fn parse_seat(octets: &[u8]) -> Option<(Seat, &[u8])> {
+    let (&[flags, highest, a, b, c, d, length], rest) = slices::leading(octets)?;
     if flags & !(QUEUEING | RECEIVE_ONLY) != 0 {
         return None;
     }
-    let (identity, rest) = rest.split_at_checked(usize::from(length))?;
+    let (identity, rest) = slices::parted(rest, usize::from(length))?;
     let seat = Seat {
         identity: identity.to_vec(),
         ssrc: u32::from_be_bytes([a, b, c, d]),

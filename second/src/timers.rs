@@ -44,23 +44,23 @@ impl Timer {
 
 /// The timers that run: bit n is timer Tn.
 #[derive(Clone, Copy, Debug, Default, PartialEq, Eq)]
-pub struct Running(u32);
+pub struct Ticking(u32);
 
-impl Running {
-    pub const NONE: Running = Running(0);
+impl Ticking {
+    pub const NONE: Ticking = Ticking(0);
 
-    pub fn only(timers: &[Timer]) -> Running {
+    pub fn only(timers: &[Timer]) -> Ticking {
         timers
             .iter()
-            .fold(Running::NONE, |running, &timer| running.and(timer))
+            .fold(Ticking::NONE, |running, &timer| running.and(timer))
     }
 
-    pub fn and(self, timer: Timer) -> Running {
-        Running(self.0 | 1 << timer.number())
+    pub fn and(self, timer: Timer) -> Ticking {
+        Ticking(self.0 | 1 << timer.number())
     }
 
-    pub fn without(self, timer: Timer) -> Running {
-        Running(self.0 & !(1 << timer.number()))
+    pub fn without(self, timer: Timer) -> Ticking {
+        Ticking(self.0 & !(1 << timer.number()))
     }
 
     pub fn has(self, timer: Timer) -> bool {

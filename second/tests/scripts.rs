@@ -79,19 +79,16 @@ struct Marks<'a> {
     line: Vec<(u8, u8)>,
 }
 
+/// The parts of a text, which must be just so many.
+fn parts<'a, const COUNT: usize>(text: &'a str, between: &str) -> [&'a str; COUNT] {
+    let parts: Vec<&str> = text.split(between).collect();
+    parts.try_into().expect(text)
+}
+
 fn marks(answer: &str) -> Option<Marks<'_>> {
-    let parts: Vec<&str> = answer.strip_prefix("A ")?.split(" | ").collect();
-    let [_, _, marks, state] = parts[..] else {
-        panic!("{answer}");
-    };
-    let marks: Vec<&str> = marks.split(' ').collect();
-    let [placed, struck_off, _, _, how] = marks[..] else {
-        panic!("{answer}");
-    };
-    let state: Vec<&str> = state.split(' ').collect();
-    let [phase, _, _, holder, line, _, _] = state[..] else {
-        panic!("{answer}");
-    };
+    let [_, _, marks, state] = parts(answer.strip_prefix("A ")?, " | ");
+    let [placed, struck_off, _, _, how] = parts(marks, " ");
+    let [phase, _, _, holder, line, _, _] = parts(state, " ");
     Some(Marks {
         placed: placed != "-",
         struck_off: u16::from_str_radix(struck_off, 16)
@@ -125,8 +122,9 @@ fn who_is_placed_is_given_the_floor_or_struck_off_or_waits() {
             if answer == "OK" {
                 (placed, gone) = (0, 0);
             }
-            let Some(marks) = marks(&answer) else {
-                continue;
+            let marks = match marks(&answer) {
+                Some(marks) => marks,
+                None => continue,
             };
             placed += usize::from(marks.placed);
             gone += marks.struck_off as usize + usize::from(marks.out_of_the_line);
@@ -144,7 +142,7 @@ fn who_is_placed_is_given_the_floor_or_struck_off_or_waits() {
 
 /// The line is in order, no seat stands in it twice, and the holder does not.
 fn check_line(marks: &Marks<'_>) {
-    assert!(marks.line.is_sorted_by(|first, second| first.1 >= second.1));
+    assert!(marks.line.windows(2).all(|pair| pair[0].1 >= pair[1].1));
     let mut seats: Vec<u8> = marks.line.iter().map(|(seat, _)| *seat).collect();
     if marks.holder != "-" {
         seats.push(entry(marks.holder).0);
@@ -161,8 +159,9 @@ fn refused_steps_leave_the_desk_as_it_was() {
     let mut player = Player::new();
     for line in Maker::new(order(200, 20_000)) {
         let before = player.desk().cloned();
-        let Some(answer) = player.answer(line.as_bytes()) else {
-            continue;
+        let answer = match player.answer(line.as_bytes()) {
+            Some(answer) => answer,
+            None => continue,
         };
         if refusal(&answer).is_some() || answer.contains("| Deny ") {
             assert_eq!(player.desk(), before.as_ref(), "{line}: {answer}");
@@ -200,6 +199,26 @@ fn a_long_script_takes_the_sequence_number_past_65535() {
 }
 
 #[test]
+fn the_run_past_65535_comes_on_top_of_the_lines_asked_for() {
+    for count in [5_000, 20_000] {
+        let script = Maker::new(Order {
+            wrap: true,
+            ..order(301, count)
+        });
+        let mut player = Player::new();
+        let (mut made, mut run, mut in_run) = (0, 0, false);
+        for line in script {
+            in_run = (in_run || line == "# the run begins") && line != "# the run ends";
+            if player.answer(line.as_bytes()).is_some() {
+                *(if in_run { &mut run } else { &mut made }) += 1;
+            }
+        }
+        assert!((count..count + 100).contains(&made), "{made}");
+        assert!((65_000..70_000).contains(&run), "{run}");
+    }
+}
+
+#[test]
 fn an_accepted_sheet_is_saved_octet_for_octet() {
     let mut player = Player::new();
     let mut accepted = 0;
@@ -218,8 +237,9 @@ fn what_is_rewritten_reads_the_same_and_is_no_longer() {
     let mut player = Player::new();
     let mut compared = 0;
     for line in Maker::new(order(500, 20_000)) {
-        let Some(octets) = line.strip_prefix("rewrite ") else {
-            continue;
+        let octets = match line.strip_prefix("rewrite ") {
+            Some(octets) => octets,
+            None => continue,
         };
         let mut answer = |line: String| player.answer(line.as_bytes()).expect("an answer");
         let rewritten = answer(line.clone());
@@ -269,9 +289,9 @@ fn any_octets_at_all_get_an_answer() {
     ];
     for _ in 0..20_000 {
         let length = dice.below(60);
-        let mut line = dice.one_of(names).as_bytes().to_vec();
+        let mut line = dice.any_of(names).as_bytes().to_vec();
         line.push(b' ');
-        line.extend((0..length).map(|_| dice.one_of(*b"0123456789abcdef --=,  \x00\xff")));
+        line.extend((0..length).map(|_| dice.any_of(*b"0123456789abcdef --=,  \x00\xff")));
         assert!(player.answer(&line).is_some());
     }
 }

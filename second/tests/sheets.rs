@@ -12,7 +12,7 @@ fn refused(octets: &[u8]) -> u8 {
     sheet::load(octets).map_or_else(|refusal| refusal.number(), |_| 0)
 }
 
-fn sheet_of(seats: usize) -> Vec<u8> {
+fn saved_with(seats: usize) -> Vec<u8> {
     sheet::save(&with_seats(desk(wishes()), seats))
 }
 
@@ -38,12 +38,12 @@ fn a_sheet_octet_by_octet() {
 #[test]
 fn loaded_and_saved_again() {
     for seats in 0..=16 {
-        let octets = sheet_of(seats);
+        let octets = saved_with(seats);
         let loaded = sheet::load(&octets).expect("a desk");
         assert_eq!(loaded, with_seats(desk(wishes()), seats));
         assert_eq!(sheet::save(&loaded), octets);
     }
-    assert_eq!(sheet_of(0).len(), 20);
+    assert_eq!(saved_with(0).len(), 20);
 }
 
 #[test]
@@ -78,7 +78,7 @@ fn room_for_a_sheet() {
 
 #[test]
 fn refusals_of_the_trailer() {
-    let good = sheet_of(2);
+    let good = saved_with(2);
     let end = good.len();
     let changed = |back: usize, octet: u8| {
         let mut octets = good.clone();
@@ -104,12 +104,12 @@ fn refusals_of_the_trailer() {
     octets[end - 3] = 2;
     assert_eq!(refused(&octets), 42);
     // An offset that does not fit 16 bits points nowhere.
-    assert_eq!(refused(&[vec![0; 65_536], sheet_of(0)].concat()), 43);
+    assert_eq!(refused(&[vec![0; 65_536], saved_with(0)].concat()), 43);
 }
 
 #[test]
 fn refusals_of_the_settings() {
-    let good = sheet_of(2);
+    let good = saved_with(2);
     let settings = good.len() - 20;
     for (place, octet, wanted) in [
         (4, 0, 44),
@@ -139,7 +139,7 @@ fn refusals_of_the_settings() {
 #[test]
 fn refusals_of_the_seats() {
     // Two seats of nine octets: s0 and s1.
-    let good = sheet_of(2);
+    let good = saved_with(2);
     let end = good.len();
     let mend = |seats: &[u8], count: u8| {
         let mut octets = [seats, &good[end - 20..]].concat();

@@ -10,17 +10,17 @@ use second::refusal::Refusal;
 use second::report::{How, Notice, Report};
 use second::seats::SeatSet;
 use second::settings::{Settings, Wishes};
-use second::timers::{Running, Timer};
+use second::timers::{Ticking, Timer};
 
 fn timer(desk: &mut Desk, number: u32) -> Report {
-    desk.step(Event::Expiry(number))
+    desk.step(Event::TimeUp(number))
 }
 
 fn notices(report: &Report) -> Vec<Notice> {
     report
         .messages
         .iter()
-        .map(|outgoing| outgoing.notice)
+        .map(|posting| posting.notice)
         .collect()
 }
 
@@ -44,10 +44,10 @@ fn roomy() -> Wishes {
 
 #[test]
 fn settings_at_their_edges() {
-    let judge = |change: fn(&mut Wishes, u32), value| {
+    let weigh = |change: fn(&mut Wishes, u32), value| {
         let mut wanted = wishes();
         change(&mut wanted, value);
-        Settings::judge(wanted).is_ok()
+        Settings::weigh(wanted).is_ok()
     };
     for (value, good) in [
         (0, false),
@@ -56,18 +56,18 @@ fn settings_at_their_edges() {
         (256, false),
         (u32::MAX, false),
     ] {
-        assert_eq!(judge(|wishes, value| wishes.level = value, value), good);
-        assert_eq!(judge(|wishes, value| wishes.c7_limit = value, value), good);
-        assert_eq!(judge(|wishes, value| wishes.c20_limit = value, value), good);
+        assert_eq!(weigh(|wishes, value| wishes.level = value, value), good);
+        assert_eq!(weigh(|wishes, value| wishes.c7_limit = value, value), good);
+        assert_eq!(weigh(|wishes, value| wishes.c20_limit = value, value), good);
     }
     for (value, good) in [(0, true), (15, true), (16, false), (256, false)] {
         assert_eq!(
-            judge(|wishes, value| wishes.line_limit = value, value),
+            weigh(|wishes, value| wishes.line_limit = value, value),
             good
         );
     }
     for (value, good) in [(0, false), (1, true), (65_535, true), (65_536, false)] {
-        assert_eq!(judge(|wishes, value| wishes.duration = value, value), good);
+        assert_eq!(weigh(|wishes, value| wishes.duration = value, value), good);
     }
 }
 
@@ -156,7 +156,7 @@ fn a_seat_alone_and_a_seat_that_only_receives() {
     let request = Message::new(Kind::Request, 900).with(Field::Priority(255));
     assert_eq!(notices(&desk.step(packet(request))), deny(5));
     // Company that only receives is company.
-    assert_eq!(ask(&mut desk, 0, 1).given, Some((0, How::AtOnce)));
+    assert_eq!(ask(&mut desk, 0, 1).given, Some((0, How::Directly)));
     assert_eq!(notices(&desk.step(packet(request))), deny(5));
     // Even alone, the one who only receives is told that first.
     desk.step(Event::Leave(0));
@@ -346,9 +346,9 @@ fn media() {
     ask(&mut desk, 1, 5);
     assert_eq!(refusal(&desk.step(Event::Media(ssrc(1)))), 23);
     timer(&mut desk, 1);
-    assert_eq!(desk.running(), Running::only(&[Timer::T1, Timer::T20]));
+    assert_eq!(desk.running(), Ticking::only(&[Timer::T1, Timer::T20]));
     assert_eq!(desk.step(Event::Media(ssrc(1))), Report::done());
-    assert_eq!(desk.running(), Running::only(&[Timer::T1, Timer::T2]));
+    assert_eq!(desk.running(), Ticking::only(&[Timer::T1, Timer::T2]));
     assert_eq!(desk.c20(), 1);
     assert_eq!(refusal(&timer(&mut desk, 20)), 23);
     timer(&mut desk, 2);
@@ -402,7 +402,7 @@ fn stop_and_start_again() {
     );
     assert_eq!(
         (desk.phase(), desk.running()),
-        (Phase::Stopped, Running::NONE)
+        (Phase::Stopped, Ticking::NONE)
     );
     assert_eq!(desk.seats().everyone().mask(), 7);
     assert_eq!(
@@ -421,7 +421,7 @@ fn timers_in_idle() {
     assert_eq!(desk.c7(), 2);
     assert_eq!(timer(&mut desk, 7), Report::done());
     assert_eq!((desk.c7(), desk.sequence()), (2, 2));
-    assert_eq!(desk.running(), Running::only(&[Timer::T4]));
+    assert_eq!(desk.running(), Ticking::only(&[Timer::T4]));
     assert_eq!(refusal(&timer(&mut desk, 7)), 23);
     for number in [0, 1, 2, 3, 5, 6, 8, 20, 21, u32::MAX] {
         assert_eq!(refusal(&timer(&mut desk, number)), 23);

@@ -9,7 +9,7 @@ use second::packet::Kind;
 use second::report::{How, Notice, Report};
 use second::script::Player;
 use second::seats::SeatSet;
-use second::timers::{Running, Timer};
+use second::timers::{Ticking, Timer};
 
 fn set(seats: &[usize]) -> SeatSet {
     seats.iter().copied().collect()
@@ -24,7 +24,7 @@ fn check(desk: &Desk, phase: Phase, sequence: u16, line: &[Entry], timers: &[Tim
     assert_eq!(desk.phase(), phase);
     assert_eq!(desk.sequence(), sequence);
     assert_eq!(desk.line(), line);
-    assert_eq!(desk.running(), Running::only(timers));
+    assert_eq!(desk.running(), Ticking::only(timers));
 }
 
 #[test]
@@ -56,7 +56,7 @@ fn row_by_row() {
                 sequence: 2,
             },
         );
-    given.given = Some((0, How::AtOnce));
+    given.given = Some((0, How::Directly));
     assert_eq!(ask(&mut desk, 0, 5), given);
     let taken = Phase::Taken(entry(0, 5));
     check(&desk, taken, 2, &[], &[Timer::T1]);
@@ -143,14 +143,14 @@ fn row_by_row() {
         );
     given.ended = Some(0);
     given.given = Some((3, How::OutOfTheLine));
-    assert_eq!(desk.step(Event::Expiry(3)), given);
+    assert_eq!(desk.step(Event::TimeUp(3)), given);
     let taken = Phase::Taken(entry(3, 200));
     check(&desk, taken, 3, &[entry(1, 6)], &[Timer::T1, Timer::T20]);
     assert_eq!(desk.c20(), 1);
 
     // k, the first time
     let again = Report::done().telling(set(&[3]), Notice::Granted { priority: 200 });
-    assert_eq!(desk.step(Event::Expiry(20)), again);
+    assert_eq!(desk.step(Event::TimeUp(20)), again);
     check(&desk, taken, 3, &[entry(1, 6)], &[Timer::T1, Timer::T20]);
     assert_eq!(desk.c20(), 2);
 
@@ -166,7 +166,7 @@ fn row_by_row() {
         );
     given.ended = Some(3);
     given.given = Some((1, How::OutOfTheLine));
-    assert_eq!(desk.step(Event::Expiry(20)), given);
+    assert_eq!(desk.step(Event::TimeUp(20)), given);
     check(
         &desk,
         Phase::Taken(entry(1, 6)),

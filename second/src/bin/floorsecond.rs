@@ -1,5 +1,7 @@
 //! Plays a script from the file named as the argument, or from standard input.
 
+#![forbid(unsafe_code)]
+
 use std::fs::File;
 use std::io::{self, BufRead, BufReader, BufWriter, Write};
 use std::process::ExitCode;

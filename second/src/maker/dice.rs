@@ -48,7 +48,7 @@ impl Dice {
     }
 
     /// One of these, of which there is at least one.
-    pub fn one_of<Thing: Copy, const COUNT: usize>(&mut self, things: [Thing; COUNT]) -> Thing {
+    pub fn any_of<Thing: Copy, const COUNT: usize>(&mut self, things: [Thing; COUNT]) -> Thing {
         things[self.below(COUNT)]
     }
 

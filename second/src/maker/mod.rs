@@ -22,13 +22,17 @@ use parcel::{Parcel, Raw, LISTED};
 /// Scripts of at least so many lines take the sequence number past 65,535.
 const LONG: usize = 100_000;
 
+/// The comments around the run that does nothing but count the sequence number up.
+const RUN_BEGINS: &str = "# the run begins";
+const RUN_ENDS: &str = "# the run ends";
+
 /// What a script is made for.
 #[derive(Clone, Copy, Debug)]
 pub struct Order {
     pub seed: u64,
-    /// The least number of lines that are answered.
+    /// The least number of lines that are answered, those of the run aside.
     pub count: usize,
-    /// Take the sequence number past 65,535, however short the script.
+    /// Take the sequence number past 65,535 by a run, however short the script.
     pub wrap: bool,
     /// Use the `write` command too.
     pub write: bool,
@@ -39,7 +43,10 @@ pub struct Maker {
     order: Order,
     dice: Dice,
     player: Player,
+    /// How many lines were answered, those of the run aside.
     answered: usize,
+    /// Whether the lines at hand are those of the run.
+    in_run: bool,
     /// How many lines the call at hand has left.
     call_left: usize,
     /// Whether the call at hand is one where all ask and few stop, so that the line fills.
@@ -163,6 +170,7 @@ impl Maker {
             dice: Dice::new(order.seed),
             player: Player::new(),
             answered: 0,
+            in_run: false,
             call_left: 0,
             crowded: false,
             wrap_owed: order.wrap || order.count >= LONG,
@@ -175,7 +183,7 @@ impl Maker {
     /// Adds a line to the script, and plays it.
     fn say(&mut self, line: impl Into<String>) {
         let line = line.into();
-        if self.player.answer(line.as_bytes()).is_some() {
+        if self.player.answer(line.as_bytes()).is_some() && !self.in_run {
             self.answered += 1;
             self.call_left = self.call_left.saturating_sub(1);
         }
@@ -212,8 +220,9 @@ impl Maker {
         if self.call_left > 0 {
             return self.act(&ACTS);
         }
-        // The long run comes after some calls, on a desk of its own.
-        if self.wrap_owed && (self.answered > LONG / 10 || self.answered >= self.order.count) {
+        // The run comes after some calls, on a desk of its own, and early enough for what
+        // follows it to be among the lines asked for.
+        if self.wrap_owed && self.answered > (self.order.count / 2).min(LONG / 10) {
             self.wrap_owed = false;
             return self.past_the_greatest_sequence();
         }
@@ -241,9 +250,9 @@ impl Maker {
         self.player.desk()
     }
 
-    fn is_stopped(&self) -> bool {
+    fn no_call_runs(&self) -> bool {
         self.desk()
-            .is_none_or(|desk| desk.phase() == Phase::Stopped)
+            .map_or(true, |desk| desk.phase() == Phase::Stopped)
     }
 
     fn level(&self) -> u8 {
@@ -288,7 +297,7 @@ impl Maker {
         let desk_ssrc = self.desk().map_or(1, |desk| desk.settings().ssrc());
         let known = self.some_ssrc();
         let random = people::ssrc(&mut self.dice);
-        self.dice.one_of([
+        self.dice.any_of([
             desk_ssrc,
             random,
             known.swap_bytes(),
@@ -310,10 +319,10 @@ impl Maker {
             }
         } else {
             self.make();
-            let seats = self.dice.one_of([2, 4, 4, 5, 6, 8, 10, 13, 16, 16, 16, 16]);
+            let seats = self.dice.any_of([2, 4, 4, 5, 6, 8, 10, 13, 16, 16, 16, 16]);
             self.fill(if self.crowded { 16 } else { seats });
         }
-        self.call_left = self.dice.one_of([15, 60, 150, 300, 600]);
+        self.call_left = self.dice.any_of([15, 60, 150, 300, 600]);
         if self.dice.chance(92) {
             self.say("start");
         }
@@ -321,14 +330,14 @@ impl Maker {
 
     fn make(&mut self) {
         let ssrc = people::ssrc(&mut self.dice);
-        let level = self.dice.one_of([1, 2, 5, 8, 8, 100, 200, 200, 254, 255]);
+        let level = self.dice.any_of([1, 2, 5, 8, 8, 100, 200, 200, 254, 255]);
         let any_limit = self.dice.between(0, 15);
         let limit = self
             .dice
-            .one_of([0, 1, 2, 2, 3, 4, 6, 14, 15, 15, any_limit, any_limit]);
-        let c7 = self.dice.one_of([1, 2, 2, 3, 4, 255]);
-        let c20 = self.dice.one_of([1, 2, 2, 3, 4, 255]);
-        let duration = self.dice.one_of([1, 30, 255, 256, 65_535]);
+            .any_of([0, 1, 2, 2, 3, 4, 6, 14, 15, 15, any_limit, any_limit]);
+        let c7 = self.dice.any_of([1, 2, 2, 3, 4, 255]);
+        let c20 = self.dice.any_of([1, 2, 2, 3, 4, 255]);
+        let duration = self.dice.any_of([1, 30, 255, 256, 65_535]);
         self.say(format!("make {ssrc} {level} {limit} {c7} {c20} {duration}"));
     }
 
@@ -351,10 +360,10 @@ impl Maker {
         let random = self.dice.octet();
         let around = self
             .dice
-            .one_of([level.saturating_sub(1), level, level.saturating_add(1)]);
+            .any_of([level.saturating_sub(1), level, level.saturating_add(1)]);
         let highest = self
             .dice
-            .one_of([255, 255, 255, 255, 255, 255, around, around, random, 0]);
+            .any_of([255, 255, 255, 255, 255, 255, around, around, random, 0]);
         let queueing = u8::from(self.dice.chance(if self.crowded { 97 } else { 75 }));
         let receive_only = u8::from(self.dice.chance(if self.crowded { 1 } else { 8 }));
         let identity = Hex(identity);
@@ -397,19 +406,23 @@ impl Maker {
 /// One line of a call.
 impl Maker {
     fn act(&mut self, acts: &[(usize, Act)]) {
-        if self.is_stopped() && self.dice.chance(70) {
+        if self.no_call_runs() && self.dice.chance(70) {
             return self.act_while_stopped();
         }
         // A call that everyone left has little to show.
         if self.present().len() < 3 && self.dice.chance(40) {
             return self.join();
         }
-        let Some(act) = self.dice.by_weight(acts) else {
-            return;
-        };
-        if self.crowded && empties_the_line(act) && self.dice.chance(85) {
-            return self.ask();
+        match self.dice.by_weight(acts) {
+            Some(act) if self.crowded && empties_the_line(act) && self.dice.chance(85) => {
+                self.ask();
+            }
+            Some(act) => self.perform(act),
+            None => {}
         }
+    }
+
+    fn perform(&mut self, act: Act) {
         match act {
             Act::Ask => self.ask(),
             Act::AskAgain => self.ask_again(),
@@ -440,7 +453,7 @@ impl Maker {
             }
             Act::RunningTimer => self.running_timer(),
             Act::OtherTimer => {
-                let timer = self.dice.one_of([
+                let timer = self.dice.any_of([
                     0,
                     1,
                     2,
@@ -469,7 +482,7 @@ impl Maker {
                 }
             }
             Act::BadLeave => {
-                let seat = self.dice.one_of([
+                let seat = self.dice.any_of([
                     0,
                     7,
                     14,
@@ -496,7 +509,7 @@ impl Maker {
         if self.dice.chance(85) {
             return self.say("start");
         }
-        let timer = self.dice.one_of([1, 4, 7, 99]);
+        let timer = self.dice.any_of([1, 4, 7, 99]);
         let ssrc = self.some_ssrc();
         match self.dice.below(4) {
             0 => self.say("stop"),
@@ -510,13 +523,13 @@ impl Maker {
         match act {
             Act::ForeignPacket => {
                 let ssrc = self.some_ssrc();
-                let kind = self.dice.one_of(LISTED);
+                let kind = self.dice.any_of(LISTED);
                 let parcel = parcel::sound(&mut self.dice, kind, ssrc);
                 self.send(parcel);
             }
             Act::StrangerPacket => {
                 let ssrc = self.stranger();
-                let kind = self.dice.one_of(LISTED);
+                let kind = self.dice.any_of(LISTED);
                 let parcel = parcel::sound(&mut self.dice, kind, ssrc);
                 self.send(parcel);
             }
@@ -543,14 +556,14 @@ impl Maker {
             Act::LoadDamaged => self.load_damaged(),
             Act::BadMake => self.bad_make(),
             Act::Malformed => {
-                let line = self.dice.one_of(MALFORMED);
+                let line = self.dice.any_of(MALFORMED);
                 self.say(line);
             }
             Act::OddSpelling => self.odd_spelling(),
             Act::Comment => {
                 let line = self
                     .dice
-                    .one_of(["", "# a comment", "   ", "#start", " # start", "\t"]);
+                    .any_of(["", "# a comment", "   ", "#start", " # start", "\t"]);
                 self.say(line);
             }
             _ => {}
@@ -560,7 +573,7 @@ impl Maker {
     /// A priority to ask for, often near the pre-emptive level; or none.
     fn priority(&mut self) -> Option<u8> {
         let level = self.level();
-        let near = self.dice.one_of([
+        let near = self.dice.any_of([
             level.saturating_sub(2),
             level.saturating_sub(1),
             level,
@@ -568,7 +581,7 @@ impl Maker {
         ]);
         let below = self.dice.below(usize::from(level)) as u8;
         let random = self.dice.octet();
-        self.dice.one_of([
+        self.dice.any_of([
             None,
             Some(0),
             Some(1),
@@ -594,15 +607,19 @@ impl Maker {
     /// Someone in line asks again, at the same priority or at another.
     fn ask_again(&mut self) {
         let waiting = self.waiting();
-        let Some(seat) = self.dice.pick(&waiting) else {
-            return self.ask();
-        };
+        match self.dice.pick(&waiting) {
+            Some(seat) => self.ask_from_the_line(seat),
+            None => self.ask(),
+        }
+    }
+
+    fn ask_from_the_line(&mut self, seat: usize) {
         let entry = self
             .desk()
             .and_then(|desk| desk.line().iter().find(|entry| entry.seat == seat));
         let same = entry.map_or(0, |entry| entry.priority);
         let other = self.priority();
-        let priority = self.dice.one_of([
+        let priority = self.dice.any_of([
             Some(same),
             Some(same),
             Some(same.saturating_add(1)),
@@ -637,7 +654,7 @@ impl Maker {
     fn dress(&mut self, parcel: &mut Parcel) {
         parcel.ack = self.dice.chance(12);
         if self.dice.chance(12) {
-            let id = self.dice.one_of([6, 13, 14, 11, 9, 191, 2, 12]);
+            let id = self.dice.any_of([6, 13, 14, 11, 9, 191, 2, 12]);
             let field = parcel::sound_field(&mut self.dice, id);
             if self.dice.chance(50) {
                 parcel.fields.insert(0, field);
@@ -680,9 +697,12 @@ impl Maker {
         let running = self
             .desk()
             .map(|desk| desk.running().timers().collect::<Vec<_>>());
-        let Some(timer) = self.dice.pick(&running.unwrap_or_default()) else {
-            return;
-        };
+        if let Some(timer) = self.dice.pick(&running.unwrap_or_default()) {
+            self.let_run_out(timer);
+        }
+    }
+
+    fn let_run_out(&mut self, timer: Timer) {
         // Those that end the floor or the call are held back, or no line would grow.
         let hold_back = match timer {
             Timer::T4 => 80,
@@ -697,7 +717,7 @@ impl Maker {
 
     fn read(&mut self, command: &str) {
         let ssrc = people::ssrc(&mut self.dice);
-        let kind = self.dice.one_of(LISTED);
+        let kind = self.dice.any_of(LISTED);
         let packet = match self.dice.below(10) {
             0..=4 => parcel::sound(&mut self.dice, kind, ssrc).octets(&mut self.dice),
             5..=8 => parcel::damaged(&mut self.dice, ssrc),
@@ -711,7 +731,7 @@ impl Maker {
         let any = self.dice.between(0, 16);
         let room = self
             .dice
-            .one_of([length, length.saturating_sub(1), length + 1, any, 16]);
+            .any_of([length, length.saturating_sub(1), length + 1, any, 16]);
         self.say(format!("screen {room}"));
     }
 
@@ -745,8 +765,8 @@ impl Maker {
             (1, 4_294_967_295),
             (5, 4_294_967_295),
         ];
-        for _ in 0..self.dice.one_of([1, 1, 2]) {
-            let (place, value) = self.dice.one_of(bad);
+        for _ in 0..self.dice.any_of([1, 1, 2]) {
+            let (place, value) = self.dice.any_of(bad);
             settings[place] = value;
         }
         let words = settings.map(|number| number.to_string()).join(" ");
@@ -768,19 +788,19 @@ impl Maker {
     }
 
     fn write(&mut self) {
-        let room = self.dice.one_of([
+        let room = self.dice.any_of([
             0, 11, 12, 15, 16, 20, 28, 100, 439, 440, 1024, 1024, 1024, 1024,
         ]);
-        let listed = self.dice.one_of(LISTED);
+        let listed = self.dice.any_of(LISTED);
         let kind = self
             .dice
-            .one_of([listed, listed, listed, listed, listed, 7, 11, 15, 16, 255]);
+            .any_of([listed, listed, listed, listed, listed, 7, 11, 15, 16, 255]);
         let mut ids = parcel::required(kind).to_vec();
         if self.dice.chance(10) {
             ids.clear();
         }
-        for _ in 0..self.dice.one_of([0, 1, 2, 5]) {
-            ids.push(self.dice.one_of([0, 1, 2, 3, 4, 5, 6, 8, 10, 12, 13, 14]));
+        for _ in 0..self.dice.any_of([0, 1, 2, 5]) {
+            ids.push(self.dice.any_of([0, 1, 2, 3, 4, 5, 6, 8, 10, 12, 13, 14]));
         }
         self.dice.shuffle(&mut ids);
         let fields: Vec<String> = ids.iter().map(|&id| self.drafted(id)).collect();
@@ -795,11 +815,11 @@ impl Maker {
     /// A field as `write` takes it, at fault now and then.
     fn drafted(&mut self, id: u8) -> String {
         let octet = self.dice.octet();
-        let number = self.dice.one_of([0, 1, 255, 256, 65_535, u16::from(octet)]);
+        let number = self.dice.any_of([0, 1, 255, 256, 65_535, u16::from(octet)]);
         match id {
             0 | 12 => format!("{id}={octet}"),
             2 => {
-                let length = self.dice.one_of([0, 0, 1, 5, 252, 253, 253, 254, 255, 256]);
+                let length = self.dice.any_of([0, 0, 1, 5, 252, 253, 253, 254, 255, 256]);
                 let phrase = self.dice.octets(length);
                 format!("{id}={number},{}", Hex(&phrase))
             }
@@ -813,8 +833,8 @@ impl Maker {
                 };
                 format!("{id}={}", Hex(&maker(&mut self.dice)))
             }
-            5 => format!("{id}={}", self.dice.one_of([0, 1, 1, 1, 2, 256, 65_535])),
-            10 => format!("{id}={}", self.dice.one_of([0, 1, 2, 3, 3, 4, 256, 65_535])),
+            5 => format!("{id}={}", self.dice.any_of([0, 1, 1, 1, 2, 256, 65_535])),
+            10 => format!("{id}={}", self.dice.any_of([0, 1, 2, 3, 3, 4, 256, 65_535])),
             14 => format!("{id}={}", people::ssrc(&mut self.dice)),
             _ => format!("{id}={number}"),
         }
@@ -829,9 +849,7 @@ impl Maker {
         self.say("make 9 200 15 255 2 30");
         self.fill(6);
         self.say("start");
-        while self.sequence() < 65_500 {
-            self.towards_the_greatest_sequence();
-        }
+        self.run_up();
         let acts: Vec<(usize, Act)> = ACTS
             .into_iter()
             .filter(|(_, act)| !replaces_the_desk(*act))
@@ -847,24 +865,39 @@ impl Maker {
         self.call_left = 200;
     }
 
+    /// One line over and over, all but a few: it is marked, and not counted as made.
+    fn run_up(&mut self) {
+        self.say(RUN_BEGINS);
+        self.in_run = true;
+        while self.sequence() < 65_500 {
+            self.towards_the_greatest_sequence();
+        }
+        self.in_run = false;
+        self.say(RUN_ENDS);
+    }
+
     fn sequence(&self) -> u16 {
         self.desk().map_or(0, Desk::sequence)
     }
 
     fn towards_the_greatest_sequence(&mut self) {
-        let Some(desk) = self.desk() else {
-            return;
-        };
-        match desk.phase() {
-            Phase::Stopped => self.say("start"),
-            Phase::Idle if desk.running().has(Timer::T7) && desk.c7() < 255 => self.say("timer 7"),
-            Phase::Idle if self.dice.chance(50) => {
+        match self.desk().map(Desk::phase) {
+            None | Some(Phase::Stopped) => self.say("start"),
+            Some(Phase::Idle) if self.c7_allows() => self.say("timer 7"),
+            Some(Phase::Idle) if self.dice.chance(50) => {
                 self.say("timer 4");
                 self.say("start");
             }
-            Phase::Idle => self.ask(),
-            _ => self.release(self.holder()),
+            Some(Phase::Idle) => self.ask(),
+            Some(_) => self.release(self.holder()),
         }
+    }
+
+    /// Whether T7 running out makes the desk tell Idle once more.
+    fn c7_allows(&self) -> bool {
+        self.desk().map_or(false, |desk| {
+            desk.running().has(Timer::T7) && desk.c7() < 255
+        })
     }
 
     fn fill_up(&mut self) {

@@ -59,7 +59,7 @@ pub fn sound(dice: &mut Dice) -> Vec<u8> {
 
 fn sound_paper(dice: &mut Dice) -> Paper {
     let desk_ssrc = people::ssrc(dice);
-    let count = dice.one_of([0, 1, 2, 4, 5, 8, 15, 16, 16]);
+    let count = dice.any_of([0, 1, 2, 4, 5, 8, 15, 16, 16]);
     let mut chairs: Vec<Chair> = Vec::new();
     while chairs.len() < count {
         let chair = sound_chair(dice);
@@ -82,8 +82,8 @@ fn sound_paper(dice: &mut Dice) -> Paper {
 fn sound_chair(dice: &mut Dice) -> Chair {
     let identity = people::identity(dice);
     Chair {
-        flags: dice.one_of([0, 0, 1, 1, 1, 1, 1, 1, 2, 3]),
-        highest: dice.one_of([0, 5, 199, 200, 255, 255]),
+        flags: dice.any_of([0, 0, 1, 1, 1, 1, 1, 1, 2, 3]),
+        highest: dice.any_of([0, 5, 199, 200, 255, 255]),
         ssrc: people::ssrc(dice),
         length: identity.len() as u8,
         identity,
@@ -92,17 +92,17 @@ fn sound_chair(dice: &mut Dice) -> Chair {
 
 fn sound_settings(dice: &mut Dice, desk_ssrc: u32) -> [u8; 12] {
     let [a, b, c, d] = desk_ssrc.to_be_bytes();
-    let level = dice.one_of([1, 8, 100, 200, 254, 255]);
+    let level = dice.any_of([1, 8, 100, 200, 254, 255]);
     let limit = dice.between(0, 15) as u8;
-    let (c7, c20) = (dice.one_of([1, 2, 3, 255]), dice.one_of([1, 2, 3, 255]));
-    let [high, low] = dice.one_of([1u16, 30, 255, 256, 65_535]).to_be_bytes();
+    let (c7, c20) = (dice.any_of([1, 2, 3, 255]), dice.any_of([1, 2, 3, 255]));
+    let [high, low] = dice.any_of([1u16, 30, 255, 256, 65_535]).to_be_bytes();
     [a, b, c, d, level, limit, c7, c20, high, low, 0, 0]
 }
 
 /// A sheet with one thing wrong in it, or more. Now and then nothing is.
 pub fn damaged(dice: &mut Dice) -> Vec<u8> {
     let mut paper = sound_paper(dice);
-    for _ in 0..dice.one_of([1, 1, 1, 2]) {
+    for _ in 0..dice.any_of([1, 1, 1, 2]) {
         spoil_paper(dice, &mut paper);
     }
     let mut octets = paper.octets();
@@ -134,16 +134,16 @@ pub fn with_an_offset_that_wraps(dice: &mut Dice) -> Vec<u8> {
 
 fn spoil_paper(dice: &mut Dice, paper: &mut Paper) {
     match dice.below(20) {
-        0 => paper.letters = dice.one_of([*b"SF", *b"Fs", *b"FT", [0, 0], *b"GS"]),
-        1 => paper.form = dice.one_of([0, 2, 3, 255]),
-        2 => paper.offset_error = dice.one_of([1, 65_535, 12, 20, 256, 32_768]),
-        3 => paper.seats_offset = dice.one_of([1, 256, 65_535, 7]),
+        0 => paper.letters = dice.any_of([*b"SF", *b"Fs", *b"FT", [0, 0], *b"GS"]),
+        1 => paper.form = dice.any_of([0, 2, 3, 255]),
+        2 => paper.offset_error = dice.any_of([1, 65_535, 12, 20, 256, 32_768]),
+        3 => paper.seats_offset = dice.any_of([1, 256, 65_535, 7]),
         4 => {
-            let count = dice.one_of([17u8, 18, 255, 128]);
+            let count = dice.any_of([17u8, 18, 255, 128]);
             paper.count_error = count.wrapping_sub(paper.chairs.len() as u8);
         }
         5..=9 => spoil_settings(dice, &mut paper.settings),
-        10 => paper.count_error = dice.one_of([1, 255]),
+        10 => paper.count_error = dice.any_of([1, 255]),
         11 if paper.chairs.len() == 16 => paper.chairs.push(sound_chair(dice)),
         _ => spoil_chairs(dice, paper),
     }
@@ -152,12 +152,12 @@ fn spoil_paper(dice: &mut Dice, paper: &mut Paper) {
 fn spoil_settings(dice: &mut Dice, settings: &mut [u8; 12]) {
     match dice.below(7) {
         0 => settings[4] = 0,
-        1 => settings[5] = dice.one_of([16, 17, 255]),
+        1 => settings[5] = dice.any_of([16, 17, 255]),
         2 => settings[6] = 0,
         3 => settings[7] = 0,
         4 => settings[8..10].fill(0),
-        5 => settings[10] = dice.one_of([1, 255]),
-        _ => settings[11] = dice.one_of([1, 255]),
+        5 => settings[10] = dice.any_of([1, 255]),
+        _ => settings[11] = dice.any_of([1, 255]),
     }
 }
 
@@ -165,18 +165,21 @@ fn spoil_chairs(dice: &mut Dice, paper: &mut Paper) {
     let desk_ssrc = u32::from_be_bytes([0, 1, 2, 3].map(|place| paper.settings[place]));
     let copied = paper.chairs.get(dice.below(paper.chairs.len())).cloned();
     let place = dice.below(paper.chairs.len());
-    let (Some(copied), Some(chair)) = (copied, paper.chairs.get_mut(place)) else {
-        return;
-    };
+    if let (Some(copied), Some(chair)) = (copied, paper.chairs.get_mut(place)) {
+        spoil_chair(dice, chair, copied, desk_ssrc);
+    }
+}
+
+fn spoil_chair(dice: &mut Dice, chair: &mut Chair, copied: Chair, desk_ssrc: u32) {
     match dice.below(9) {
-        0 => chair.flags |= dice.one_of([4, 8, 16, 32, 64, 128]),
+        0 => chair.flags |= dice.any_of([4, 8, 16, 32, 64, 128]),
         1 => chair.set_identity(Vec::new()),
         2 => chair.set_identity(people::long(dice, 63)),
         3 => chair.set_identity(people::long(dice, 62)),
         4 => chair.ssrc = desk_ssrc,
         5 => chair.ssrc = copied.ssrc,
         6 => chair.set_identity(copied.identity),
-        7 => chair.length = chair.length.wrapping_add(dice.one_of([1, 255, 4])),
-        _ => chair.length = dice.one_of([0, 61, 62, 63, 255]),
+        7 => chair.length = chair.length.wrapping_add(dice.any_of([1, 255, 4])),
+        _ => chair.length = dice.any_of([0, 61, 62, 63, 255]),
     }
 }

@@ -87,18 +87,18 @@ pub fn required(kind: u8) -> &'static [u8] {
 pub fn sound_field(dice: &mut Dice, id: u8) -> Raw {
     let content = match id {
         2 => {
-            let phrase = dice.one_of([0, 0, 0, 1, 2, 3, 4, 11, 252, 253]);
+            let phrase = dice.any_of([0, 0, 0, 1, 2, 3, 4, 11, 252, 253]);
             let mut content = number(dice);
             content.extend(dice.octets(phrase));
             content
         }
         4 | 6 => people::identity(dice),
-        5 => vec![0, dice.one_of([0, 1])],
-        10 => vec![0, dice.one_of([0, 1, 2, 3])],
+        5 => vec![0, dice.any_of([0, 1])],
+        10 => vec![0, dice.any_of([0, 1, 2, 3])],
         14 => dice.octets(6),
         0 | 1 | 3 | 8 | 12 | 13 => number(dice),
         _ => {
-            let length = dice.one_of([0, 0, 1, 2, 3, 4, 5, 6, 7, 30, 255]);
+            let length = dice.any_of([0, 0, 1, 2, 3, 4, 5, 6, 7, 30, 255]);
             dice.octets(length)
         }
     };
@@ -108,15 +108,15 @@ pub fn sound_field(dice: &mut Dice, id: u8) -> Raw {
 /// Two octets, often at an edge.
 fn number(dice: &mut Dice) -> Vec<u8> {
     let random = dice.roll() as u16;
-    let number = dice.one_of([0, 1, 255, 256, 65_534, 65_535, random]);
+    let number = dice.any_of([0, 1, 255, 256, 65_534, 65_535, random]);
     number.to_be_bytes().to_vec()
 }
 
 fn any_id(dice: &mut Dice) -> u8 {
     if dice.chance(75) {
-        dice.one_of(TABLED)
+        dice.any_of(TABLED)
     } else {
-        dice.one_of(SKIPPED)
+        dice.any_of(SKIPPED)
     }
 }
 
@@ -127,7 +127,7 @@ pub fn sound(dice: &mut Dice, kind: u8, ssrc: u32) -> Parcel {
     for &id in required(kind) {
         parcel.fields.push(sound_field(dice, id));
     }
-    for _ in 0..dice.one_of([0, 0, 1, 1, 2, 3, 6, 12]) {
+    for _ in 0..dice.any_of([0, 0, 1, 1, 2, 3, 6, 12]) {
         let id = any_id(dice);
         // Longer ones would be refused for their length, which is done elsewhere.
         if parcel.clone().octets(dice).len() < 1024 - 260 {
@@ -146,7 +146,7 @@ pub fn of_size(dice: &mut Dice, mut parcel: Parcel, octets: usize) -> Vec<u8> {
         let most = (words * 4 - 2).min(255);
         let length = dice.between((words * 4).saturating_sub(5).min(most), most);
         let content = dice.octets(length);
-        parcel.fields.push(Raw::new(dice.one_of(SKIPPED), content));
+        parcel.fields.push(Raw::new(dice.any_of(SKIPPED), content));
         left -= words;
     }
     dice.shuffle(&mut parcel.fields);
@@ -155,10 +155,10 @@ pub fn of_size(dice: &mut Dice, mut parcel: Parcel, octets: usize) -> Vec<u8> {
 
 /// A packet at the edges of size.
 pub fn at_an_edge(dice: &mut Dice, ssrc: u32) -> Vec<u8> {
-    let kind = dice.one_of(LISTED);
+    let kind = dice.any_of(LISTED);
     match dice.below(8) {
         0 => Parcel::new(kind, ssrc).octets(dice),
-        1 => Parcel::new(dice.one_of([0, 4, 8]), ssrc).octets(dice),
+        1 => Parcel::new(dice.any_of([0, 4, 8]), ssrc).octets(dice),
         2 | 3 => {
             let parcel = sound(dice, kind, ssrc);
             of_size(dice, parcel, 1024)
@@ -226,9 +226,9 @@ pub fn damaged(dice: &mut Dice, ssrc: u32) -> Vec<u8> {
         let length = dice.below(40);
         return dice.octets(length);
     }
-    let kind = dice.one_of(LISTED);
+    let kind = dice.any_of(LISTED);
     let mut parcel = sound(dice, kind, ssrc);
-    let times = dice.one_of([1, 1, 1, 2, 2, 3]);
+    let times = dice.any_of([1, 1, 1, 2, 2, 3]);
     let harms: Vec<Harm> = (0..times).filter_map(|_| dice.by_weight(&HARMS)).collect();
     for &harm in &harms {
         spoil_fields(dice, &mut parcel, harm);
@@ -283,14 +283,14 @@ fn overrun(dice: &mut Dice) -> Raw {
         // The octets are there and the padding alone is not.
         0 => {
             field.content = dice.octets(2);
-            field.claim = dice.one_of([3, 4, 5, 6]);
+            field.claim = dice.any_of([3, 4, 5, 6]);
         }
         1 => {
             field.content.truncate(30);
             field.claim = dice.between(field.content.len() + 4, 255) as u8;
         }
         2 => {
-            let length = dice.one_of([2, 6, 10]);
+            let length = dice.any_of([2, 6, 10]);
             field.content = dice.octets(length);
             field.claim = length as u8 + 1;
         }
@@ -303,9 +303,9 @@ fn overrun(dice: &mut Dice) -> Raw {
 }
 
 fn high(dice: &mut Dice) -> Raw {
-    let length = dice.one_of([0, 1, 2, 6, 20]);
+    let length = dice.any_of([0, 1, 2, 6, 20]);
     let content = dice.octets(length);
-    let mut field = Raw::new(dice.one_of([192, 193, 200, 254, 255]), content);
+    let mut field = Raw::new(dice.any_of([192, 193, 200, 254, 255]), content);
     if dice.chance(40) {
         field.claim = 255;
     }
@@ -313,18 +313,18 @@ fn high(dice: &mut Dice) -> Raw {
 }
 
 fn wrong_length(dice: &mut Dice) -> Raw {
-    let id = dice.one_of(TABLED);
+    let id = dice.any_of(TABLED);
     let length = match id {
-        2 => dice.one_of([0, 1]),
-        4 | 6 => dice.one_of([0, 63, 63, 64, 255]),
-        14 => dice.one_of([0, 2, 4, 5, 7, 8]),
-        _ => dice.one_of([0, 1, 3, 4, 6, 255]),
+        2 => dice.any_of([0, 1]),
+        4 | 6 => dice.any_of([0, 63, 63, 64, 255]),
+        14 => dice.any_of([0, 2, 4, 5, 7, 8]),
+        _ => dice.any_of([0, 1, 3, 4, 6, 255]),
     };
     Raw::new(id, dice.octets(length))
 }
 
 fn bad_content(dice: &mut Dice) -> Raw {
-    let (id, content) = dice.one_of([
+    let (id, content) = dice.any_of([
         (5, [0, 2]),
         (5, [1, 0]),
         (5, [1, 1]),
@@ -339,7 +339,7 @@ fn bad_content(dice: &mut Dice) -> Raw {
 
 fn drop_required(dice: &mut Dice, parcel: &mut Parcel) {
     if required(parcel.kind).is_empty() {
-        parcel.kind = dice.one_of([1, 2, 3, 5, 6, 9, 10]);
+        parcel.kind = dice.any_of([1, 2, 3, 5, 6, 9, 10]);
     }
     if let Some(missing) = dice.pick(required(parcel.kind)) {
         parcel.fields.retain(|field| field.id != missing);
@@ -350,20 +350,20 @@ fn spoil_octets(dice: &mut Dice, octets: &mut Vec<u8>, harm: Harm) {
     match harm {
         Harm::Cut => octets.truncate(dice.below(12)),
         Harm::Stretch => {
-            octets.resize(dice.one_of([1025, 1026, 1028, 1032, 1100]), 0);
+            octets.resize(dice.any_of([1025, 1026, 1028, 1032, 1100]), 0);
             set_length_word(octets);
         }
         Harm::Version => change(
             octets,
             0,
-            |old, dice| old & 0x3f | dice.one_of([0, 1, 3]) << 6,
+            |old, dice| old & 0x3f | dice.any_of([0, 1, 3]) << 6,
             dice,
         ),
         Harm::PaddingBit => change(octets, 0, |old, _| old | 0x20, dice),
         Harm::PacketType => change(
             octets,
             1,
-            |_, dice| dice.one_of([0, 200, 203, 205, 76]),
+            |_, dice| dice.any_of([0, 200, 203, 205, 76]),
             dice,
         ),
         Harm::LengthWord => spoil_length_word(dice, octets),
@@ -380,14 +380,14 @@ fn spoil_octets(dice: &mut Dice, octets: &mut Vec<u8>, harm: Harm) {
             change(
                 octets,
                 place,
-                |old, dice| old ^ dice.one_of([0x20, 1, 0x80, 0xff]),
+                |old, dice| old ^ dice.any_of([0x20, 1, 0x80, 0xff]),
                 dice,
             );
         }
         Harm::Type => change(
             octets,
             0,
-            |old, dice| old & 0xf0 | dice.one_of(UNLISTED),
+            |old, dice| old & 0xf0 | dice.any_of(UNLISTED),
             dice,
         ),
         Harm::AnyOctet => {
@@ -408,7 +408,7 @@ fn spoil_length_word(dice: &mut Dice, octets: &mut [u8]) {
     let count = octets.len() as u16;
     let words = count / 4;
     // Among them the faults of those who count octets, or forget the "less one".
-    let wrong = dice.one_of([
+    let wrong = dice.any_of([
         words,
         words.wrapping_sub(2),
         count,

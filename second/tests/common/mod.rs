@@ -21,7 +21,7 @@ pub fn wishes() -> Wishes {
 }
 
 pub fn desk(wishes: Wishes) -> Desk {
-    Desk::fresh(Settings::judge(wishes).expect("settings"), Seats::default())
+    Desk::fresh(Settings::weigh(wishes).expect("settings"), Seats::default())
 }
 
 /// The SSRC that the tests give to a seat.
