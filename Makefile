@@ -3,7 +3,7 @@
 #   make             build/libfloor.a, build/floorplay, build/thursday, build/floor.pc
 #   make install     header, archive and floor.pc below PREFIX (/usr/local)
 #   make check       what the header promises, tested with cmocka
-#   make bench       instructions a call, beside the same work in plain C
+#   make bench       instructions a call, beside the same work in plain C; installs what it needs of Debian's packages (tests/set-up)
 #   make clean
 #
 # The archive is proved and compiled by the Rattle kit (`rt staticlib floor`) and links into x86-64 programs. On an x86-64 machine they
@@ -66,16 +66,24 @@ $(OUT)/floorplay $(OUT)/thursday: $(OUT)/%: bench/%.c include/floor.h $(ARCHIVE)
 
 # ---- speed ----
 
-# The kit compiles through LLVM, so plain.c is compiled by LLVM's compiler for the comparison, where there is one.
-BENCH_CC = $(if $(shell command -v clang),clang --target=x86_64-linux-gnu,$(CC))
+# The kit compiles through LLVM, so plain.c is compiled by LLVM's compiler: by another, the table would compare compilers too.
+BENCH_CC = clang --target=x86_64-linux-gnu
 
-$(OUT)/bench: bench/bench.c bench/plain.c bench/plain.h bench/as_plain.h include/floor.h $(ARCHIVE) | $(OUT)
+bench-needs:
+	@BENCH_CC='$(BENCH_CC)' LIB='$(LIB)' bash -c '. tests/set-up bench'
+
+# The compiler's name, written only where it is another one than last time: then the program is made again.
+$(OUT)/bench-compiler: FORCE | $(OUT) bench-needs
+	@$(BENCH_CC) --version | sed -n '1s/^/plain C at -O2 by /p' > $@.now
+	@if cmp -s $@.now $@; then rm $@.now; else mv $@.now $@; fi
+
+$(OUT)/bench: bench/bench.c bench/plain.c bench/plain.h bench/as_plain.h include/floor.h $(OUT)/bench-compiler $(ARCHIVE) | $(OUT)
 	$(BENCH_CC) -std=c99 -O2 -Wall -Wextra -Werror -pedantic -Iinclude -c bench/plain.c -o $(OUT)/bench-plain.o
 	$(COMPILE) bench/bench.c $(ARCHIVE) $(OUT)/bench-plain.o -Wl,-z,now,-S -o $@
 
-bench: $(OUT)/bench
+bench: bench-needs $(OUT)/bench
 	$(RUN) $(OUT)/bench play $(OUT)/desks
-	@$(BENCH_CC) --version | sed -n '1s/^/plain C at -O2 by /p'
+	@cat $(OUT)/bench-compiler
 	@python3 bench/bench.py $(OUT)/bench $(OUT)/desks
 
 # ---- tests ----
@@ -111,4 +119,4 @@ $(sort build $(OUT)):
 	mkdir -p $@
 
 FORCE:
-.PHONY: all check bench install clean FORCE
+.PHONY: all check bench bench-needs install clean FORCE

@@ -3,7 +3,8 @@
  *   bench play FILE       plays many events on a desk with each library and keeps the desks in FILE; nothing is counted here
  *   bench measure FILE    makes the calls to be counted, and prints a line LIBRARY CASE for each section, in order
  *
- * Where a call changes what is lent, each of the CALLS calls has its own copy. */
+ * Where a call changes what is lent, each of the CALLS calls has its own copy. All that is lent to a counted call stands at the start of a
+ * page: what C's memory functions do, and so the count, depends on where octets lie, and the stack lies elsewhere in each environment. */
 #include <floor.h>
 #include "plain.h"
 #include <inttypes.h>
@@ -52,8 +53,10 @@ static const struct library
     native = {"native", plain_make, plain_join, plain_start, native_packet, native_timer, NULL, NULL, NULL, NULL},
     empty = {"empty", plain_make, plain_join, plain_start, plain_packet, nothing, NULL, NULL, NULL, NULL};
 
-static uint8_t desks[CALLS][FLOOR_DESK], report[FLOOR_REPORT], room[LONGEST + FLOOR_SHEET], packet[LONGEST], source[LONGEST];
-static uint8_t message[FLOOR_MESSAGE];
+#define ON_A_PAGE __attribute__((aligned(4096)))
+
+static ON_A_PAGE uint8_t desks[CALLS][FLOOR_DESK], report[FLOOR_REPORT], room[LONGEST + FLOOR_SHEET];
+static ON_A_PAGE uint8_t packet[LONGEST], source[LONGEST], message[FLOOR_MESSAGE];
 static size_t packet_len;
 
 /* The counter looks for this function. */
@@ -259,9 +262,10 @@ static void count_sheet(const struct library *l, const uint8_t *desk)
 {
     int32_t n = 0;
     uint32_t refused = 0;
+    for_each_call(desk);
     mark();
     for (int i = 0; i < CALLS; i++)
-        n |= l->save(desk, FLOOR_DESK, room, sizeof room);
+        n |= l->save(desks[i], FLOOR_DESK, room, sizeof room);
     mark();
     say(l, "save", "seats-16");
     must(n > 0, "save");

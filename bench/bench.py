@@ -2,25 +2,37 @@
 """bench.py PROGRAM DESKS: instructions a call, the library's beside plain C's, all from one run of bench.c's program.
 
 On x86-64 valgrind counts; elsewhere, or with BY_EMULATOR set, the emulator writes a line for each instruction. Times are not measured: under
-an emulator they mean nothing. Exit status 1 if a bar does not hold."""
-import glob, os, platform, re, subprocess, sys, tempfile, threading
+an emulator they mean nothing. The same program prints the same table in any folder and any environment; on another processor C's memory
+functions may be others, and counts differ a little. Exit status 1 if a bar does not hold."""
+import glob, os, platform, re, shutil, subprocess, sys, tempfile, threading
 
 CALLS = 16            # calls in a section, as in bench.c
 READ_OR_WRITE, STEP = 1.25, 2.0  # the bars: at most so many times what plain C takes
 LINEAR, FLAT = 1.10, 1.01        # how far costs may be off a straight line, and off each other
 
+def found(tool):
+    return shutil.which(tool) or sys.exit(f'{tool} is not installed: . tests/set-up bench')
+
+def run(counter, program, desks):
+    """What the program prints. It runs in its own folder, and with no variable but those by which a counter finds its own files: the path to it
+    and the environment stand on its stack and move it, and some variables change what C's library or the counter do."""
+    folder, name = os.path.split(os.path.abspath(program))
+    kept = {variable: os.environ[variable] for variable in ('VALGRIND_LIB', 'QEMU_LD_PREFIX') if variable in os.environ}
+    command = [*counter, f'./{name}', 'measure', os.path.relpath(desks, folder)]
+    done = subprocess.run(command, cwd=folder, env=kept, capture_output=True, text=True)
+    if done.returncode != 0:
+        sys.exit(done.stderr)
+    return done.stdout
+
 def by_valgrind(program, desks):
     """The names of the sections, and the instructions between each mark() and the next."""
     with tempfile.TemporaryDirectory() as folder:
-        run = subprocess.run(['valgrind', '--tool=callgrind', f'--callgrind-out-file={folder}/out', '--dump-before=mark', program, 'measure', desks],
-                             capture_output=True, text=True)
-        if run.returncode != 0:
-            sys.exit(run.stderr)
+        said = run([found('valgrind'), '--tool=callgrind', f'--callgrind-out-file={folder}/out', '--dump-before=mark'], program, desks)
         parts = sorted(glob.glob(f'{folder}/out.*'), key=lambda name: int(name.rsplit('.', 1)[1]))
-        return run.stdout, [int(re.search(r'^totals: (\d+)', open(part).read(), re.M).group(1)) for part in parts[1:]]
+        return said, [int(re.search(r'^totals: (\d+)', open(part).read(), re.M).group(1)) for part in parts[1:]]
 
 def by_emulator(program, desks):
-    emulator = 'qemu-x86_64'
+    emulator = found('qemu-x86_64')
     known = subprocess.run([emulator, '-h'], capture_output=True, text=True).stdout
     single = '-one-insn-per-tb' if 'one-insn-per-tb' in known else '-singlestep'
     with tempfile.TemporaryDirectory() as folder:
@@ -30,18 +42,16 @@ def by_emulator(program, desks):
         def listen():
             at = re.compile(r'\[[0-9a-f]+/([0-9a-f]+)/')
             for line in open(log):
-                found = at.search(line)
-                if found:
-                    addresses.append(int(found.group(1), 16))
-        listener = threading.Thread(target=listen)
+                executed = at.search(line)
+                if executed:
+                    addresses.append(int(executed.group(1), 16))
+        listener = threading.Thread(target=listen, daemon=True)
         listener.start()
-        run = subprocess.run([emulator, single, '-d', 'exec,nochain', '-D', log, program, 'measure', desks], capture_output=True, text=True)
+        said = run([emulator, single, '-d', 'exec,nochain', '-D', log], program, desks)
         listener.join()
-        if run.returncode != 0:
-            sys.exit(run.stderr)
-    mark = int(re.match(r'mark (\w+)', run.stdout).group(1), 16)
+    mark = int(re.match(r'mark (\w+)', said).group(1), 16)
     places = [i for i, address in enumerate(addresses) if address == mark]
-    return run.stdout, [after - before for before, after in zip(places, places[1:])]
+    return said, [after - before for before, after in zip(places, places[1:])]
 
 def measure(program, desks):
     emulated = platform.machine() != 'x86_64' or os.environ.get('BY_EMULATOR')

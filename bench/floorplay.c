@@ -1,6 +1,8 @@
 /* floorplay [FILE]: plays a script of events on a desk and prints one line for each, as second/FORMAT.md says.
- * A teacher writes exercises in it and keeps them as files; scripts/thursday.script is one. */
+ * A teacher writes exercises in it and keeps them as files; scripts/thursday.script is one.
+ * Exit status 0 if the script was read to its end and every answer was written; else 1, and standard error says why. */
 #define _POSIX_C_SOURCE 200809L /* getline */
+#include <errno.h>
 #include <floor.h>
 #include <inttypes.h>
 #include <stdio.h>
@@ -14,8 +16,26 @@ static int has_desk;
 static uint8_t *octets; /* a HEX word of the line, as octets: as long as the longest line needs */
 static size_t octets_room;
 
+static const char blanks[] = " \t\r\n"; /* what stands between words, and the end of the line */
 static const char not_a_number[] = "not a number, or too large a one";
 static const char not_octets[] = "not octets in hexadecimal";
+static const char not_a_flag[] = "neither 0 nor 1";
+
+/* What could not be read, written or had, for people; the status to end with. */
+static int failed(const char *name)
+{
+    fprintf(stderr, "floorplay: %s: %s\n", name, strerror(errno));
+    return 1;
+}
+
+/* Memory as realloc gives it; without it nothing can be played on. */
+static void *more(void *old, size_t size)
+{
+    void *got = realloc(old, size);
+    if (!got)
+        exit(failed("a line of the script"));
+    return got;
+}
 
 static void malformed(const char *why)
 {
@@ -40,6 +60,11 @@ static int number(const char *word, uint64_t most, uint64_t *value)
     return 1;
 }
 
+static int flag(const char *word, uint64_t *value)
+{
+    return strlen(word) == 1 && number(word, 1, value);
+}
+
 static int digit(char c)
 {
     if (c >= '0' && c <= '9')
@@ -61,9 +86,7 @@ static long hex(const char *word, size_t from)
         return -1;
     if (from + n > octets_room) {
         octets_room = 2 * (from + n) + 64;
-        octets = realloc(octets, octets_room);
-        if (!octets)
-            exit(2);
+        octets = more(octets, octets_room);
     }
     for (size_t i = 0; i < n; i++) {
         int high = digit(word[2 * i]), low = digit(word[2 * i + 1]);
@@ -342,9 +365,12 @@ static void play_write(char **word, int words)
     uint8_t message[FLOOR_MESSAGE] = {0}, packet[1024];
     uint64_t room, type, ack, ssrc;
     size_t used = 0;
-    if (!number(word[1], 4294967295u, &room) || !number(word[2], 255, &type) || !number(word[3], 1, &ack) || strlen(word[3]) != 1
-        || !number(word[4], 4294967295u, &ssrc)) {
+    if (!number(word[1], 4294967295u, &room) || !number(word[2], 255, &type) || !number(word[4], 4294967295u, &ssrc)) {
         malformed(not_a_number);
+        return;
+    }
+    if (!flag(word[3], &ack)) {
+        malformed(not_a_flag);
         return;
     }
     for (int i = 5; i < words; i++) {
@@ -426,12 +452,16 @@ static void play_join(char **word)
 {
     uint64_t ssrc, highest, queueing, receive_only;
     long n = hex(word[1], 0);
-    if (n < 0 || !number(word[2], 4294967295u, &ssrc) || !number(word[3], 255, &highest)) {
+    if (n < 0) {
+        malformed(not_octets);
+        return;
+    }
+    if (!number(word[2], 4294967295u, &ssrc) || !number(word[3], 255, &highest)) {
         malformed(not_a_number);
         return;
     }
-    if (strlen(word[4]) != 1 || strlen(word[5]) != 1 || !number(word[4], 1, &queueing) || !number(word[5], 1, &receive_only)) {
-        malformed("neither 0 nor 1");
+    if (!flag(word[4], &queueing) || !flag(word[5], &receive_only)) {
+        malformed(not_a_flag);
         return;
     }
     if (!has_desk) {
@@ -531,12 +561,10 @@ static int cut(char *line, char ***words)
     static char **found;
     static int room;
     int n = 0;
-    for (char *at = strtok(line, " \t\r\n"); at; at = strtok(NULL, " \t\r\n")) {
+    for (char *at = strtok(line, blanks); at; at = strtok(NULL, blanks)) {
         if (n == room) {
             room = 2 * room + MOST_WORDS;
-            found = realloc(found, (size_t)room * sizeof *found);
-            if (!found)
-                exit(2);
+            found = more(found, (size_t)room * sizeof *found);
         }
         found[n++] = at;
     }
@@ -544,30 +572,46 @@ static int cut(char *line, char ***words)
     return n;
 }
 
-int main(int argc, char **argv)
+/* One line of the script, `length` octets and a zero behind them. A comment may hold anything, octets of zero too. */
+static void play_line(char *line, size_t length)
 {
-    FILE *script = argc > 1 ? fopen(argv[1], "r") : stdin;
-    char *line = NULL, **words;
+    char **words;
+    if (line[strspn(line, blanks)] == '#')
+        return;
+    if (memchr(line, 0, length)) {
+        malformed("an octet of zero");
+        return;
+    }
+    int n = cut(line, &words);
+    if (n > 0)
+        play(words, n);
+}
+
+/* Plays line by line to the end, or to the first line that cannot be read whole or be answered; the exit status. A read that fails looks like
+ * the end, and a write that fails like one that does not, if nobody asks. */
+static int play_script(FILE *script, const char *name)
+{
+    char *line = NULL;
     size_t room = 0;
     ssize_t got;
-    if (!script) {
-        perror(argv[1]);
-        return 1;
+    while ((got = getline(&line, &room, script)) >= 0 && !ferror(script)) {
+        play_line(line, (size_t)got);
+        if (ferror(stdout))
+            return failed("standard output");
     }
-    octets_room = 2048;
-    octets = malloc(octets_room);
-    if (!octets)
-        return 2;
-    while ((got = getline(&line, &room, script)) >= 0) {
-        if (memchr(line, 0, (size_t)got)) {
-            malformed("an octet of zero");
-            continue;
-        }
-        int n = cut(line, &words);
-        if (n > 0 && words[0][0] != '#')
-            play(words, n);
-    }
+    if (ferror(script) || !feof(script))
+        return failed(name);
     free(line);
-    free(octets);
-    return 0;
+    return fflush(stdout) == 0 ? 0 : failed("standard output");
+}
+
+int main(int argc, char **argv)
+{
+    const char *name = argc > 1 ? argv[1] : "standard input";
+    FILE *script = argc > 1 ? fopen(name, "r") : stdin;
+    if (!script)
+        return failed(name);
+    octets_room = 2048;
+    octets = more(NULL, octets_room);
+    return play_script(script, name);
 }

@@ -69,13 +69,13 @@ extern "C" {
 #define FLOOR_PAST_THE_END 9       /* a padded field runs past the end */
 #define FLOOR_AGAINST_THE_TABLE 10 /* ID 192 or above, or L or content against the table */
 #define FLOOR_MISSING 11           /* a required field is missing */
-#define FLOOR_UNREADABLE 12        /* a message that no reader would accept */
+#define FLOOR_UNREADABLE 12        /* a message that no reader would accept, or octets that are no message's or no report's */
 #define FLOOR_NO_ROOM 13           /* the lent room is shorter than the whole result */
 
 /* Refusals of the desk. */
 #define FLOOR_NOT_A_DESK 20        /* the lent octets are not a desk's */
 #define FLOOR_CALL_STOPPED 21      /* the call is stopped */
-#define FLOOR_NO_SUCH_SEAT 22      /* no such seat, or no seat has this SSRC or this identity */
+#define FLOOR_NO_SUCH_SEAT 22      /* no such seat, or a free one; no seat has this SSRC or this identity; nobody holds the floor */
 #define FLOOR_NOT_EXPECTED 23      /* no rule for this event as things stand */
 #define FLOOR_ALL_SEATS_TAKEN 24   /* no seat is free */
 #define FLOOR_IDENTITY_LENGTH 25   /* identity not 1 to 62 octets */
@@ -87,7 +87,7 @@ extern "C" {
 #define FLOOR_NO_TRAILER 41        /* under 20 octets, or no letters FS */
 #define FLOOR_SHEET_FORM 42        /* form not 1 */
 #define FLOOR_SHEET_OFFSETS 43     /* count above 16, settings not 20 octets before the end, or seats' offset not zero */
-#define FLOOR_SHEET_SETTINGS 44    /* a setting outside its range, or the two octets behind them not zero */
+#define FLOOR_SHEET_SETTINGS 44    /* a setting outside its range, or one of the two octets behind them not zero */
 #define FLOOR_SHEET_SEATS 45       /* a seat against the layout or that could not join, or seats that do not end at the settings */
 
 /* Types of packets, and kinds of outgoing messages. */
@@ -144,6 +144,7 @@ uint32_t floor_make(uint8_t *desk, size_t desk_len, uint32_t ssrc, uint32_t leve
  *          highest       the highest priority that a request of this seat can have, 0 to 255
  *          queueing      whether it negotiated queueing: 0 for no, anything else for yes
  *          receive_only  whether it only listens: 0 for no, anything else for yes
+ *          These three are octets: C cuts a larger number to its lowest 8 bits, unseen here (300 becomes 44, a flag of 256 becomes no).
  * Answers  0   done
  *          20  not a desk
  *          25  identity of 0 octets, or of more than 62
@@ -175,7 +176,7 @@ uint32_t floor_join(uint8_t *desk, size_t desk_len, const uint8_t *identity, siz
  *   report[6]       FLOOR_NOT_GIVEN, FLOOR_GIVEN_AT_ONCE or FLOOR_GIVEN_OUT_OF_THE_LINE
  *   report[7]       zero
  *   report[8]       the first message, report[16] the second, 8 octets each:
- *     [0]           its kind, or FLOOR_NOTHING
+ *     [0]           its kind (Granted, Taken, Deny, Idle, Revoke or Queue Position Info), or FLOOR_NOTHING
  *     [1]           the seat (Taken), else zero
  *     [2], [3]      the sequence number (Taken, Idle), the cause (Deny, Revoke), the place, 1 for the head (Queue Position Info), else zero
  *     [4]           the priority (Granted, Queue Position Info), else zero
@@ -288,15 +289,18 @@ uint32_t floor_media(uint8_t *desk, size_t desk_len, uint32_t ssrc, uint8_t *rep
 uint32_t floor_timer(uint8_t *desk, size_t desk_len, uint32_t timer, uint8_t *report, size_t report_len);
 
 /* Writes a message of a report as its packet. For Taken the seat's identity is looked up in the desk as it is now, so call it before the next
- * step. Who gets the packet stands in the report, and is not asked here.
+ * step. Who gets the packet stands in the report, and is not asked here. Any cause, sequence number and priority, and any place up to 255, is
+ * written as it stands, also one that no step would send.
  *
  * Takes    report  exactly FLOOR_REPORT octets, as a step wrote them
  *          which   0 for the first message, 1 for the second
  *          room    for the packet; FLOOR_PACKET octets are always enough
  * Answers  16 to 84  the packet's length
- *          0         the report has no such message, or which is neither 0 nor 1
+ *          0         the report has no such message: FLOOR_NOTHING stands there, or which is neither 0 nor 1
  *          -20       not a desk
- *          -12       the report has another length, the message asked for is none that a step writes, or Taken names a free seat
+ *          -12       the report has another length, whatever which is; or the message asked for has a kind that is not listed at A REPORT,
+ *                    anything but zero where zero is said there (with FLOOR_NOTHING too), a place above 255, or in Taken a seat that is free
+ *                    or above 15
  *          -13       the room is shorter than the packet
  * Leaves   desk and report.
  * Example:
@@ -350,7 +354,9 @@ uint32_t floor_read(const uint8_t *packet, size_t packet_len, uint8_t *message, 
  *          source   where its identities and its phrase are; nothing if it has none; the packet itself if it was read from one
  *          room     for the packet; FLOOR_PACKET octets are always enough
  * Answers  12 to 440  the packet's length
- *          -12        the message has another length, no reader would accept it, or a part is not in the source
+ *          -12        the message has another length; no reader would accept it (a type that is not listed, a required field that is missing, a
+ *                     number or a length beyond what is said above, a bit for a field that is not there); or a part, also an empty phrase, is
+ *                     not in the source
  *          -13        the room is shorter than the packet
  * Leaves   message and source.
  * Example:
@@ -382,9 +388,9 @@ int32_t floor_save(const uint8_t *desk, size_t desk_len, uint8_t *room, size_t r
  * Takes    sheet  exactly the octets that floor_save wrote, or such by hand
  * Answers  0   done
  *          41  under 20 octets, or no letters FS at the end
- *          42  another form
- *          43  a count or an offset is wrong
- *          44  a setting outside its range
+ *          42  another form than 1
+ *          43  count above 16, settings not 20 octets before the end, or seats' offset not zero
+ *          44  a setting outside its range, or one of the two octets behind the settings not zero
  *          45  a seat against the layout or that could not join, or seats that do not end at the settings
  *          13  fewer than FLOOR_DESK octets lent for the desk
  * Leaves   the sheet, and octets behind the first FLOOR_DESK.

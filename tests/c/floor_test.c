@@ -283,6 +283,7 @@ static const struct {
     {44, SEAT "00000001 c8 02 02 00 001e 0000 000c 0000 01 01 4653"},
     {44, SEAT "00000001 c8 02 02 02 0000 0000 000c 0000 01 01 4653"},
     {44, SEAT "00000001 c8 02 02 02 001e 0001 000c 0000 01 01 4653"},
+    {44, SEAT "00000001 c8 02 02 02 001e 0100 000c 0000 01 01 4653"},
     {45, SEAT SETTINGS "000c 0000 00 01 4653"},
     {45, SEAT SETTINGS "000c 0000 02 01 4653"},
     {45, SETTINGS "0000 0000 01 01 4653"},
@@ -328,6 +329,7 @@ static const char *const unreadable[] = {
     TAKEN_BY("0000", "0005"),     /* a part that is not in the source, which has 4 octets */
     TAKEN_BY("0004", "0001"),
     TAKEN_BY("ffff", "0001"),
+    "03 00 0004 00000001 00 00 0000 0007 0000 0000 0000 0000 0000 00000000 0005 0000 0000 0000 0000 0000", /* also one of no octets */
     TAKEN_BY("0000", "0004") "00", /* 41 octets */
     "",
 };
@@ -362,7 +364,14 @@ static const struct {
     {16, FIRST("09 00 00ff ff 00 8000")},
     {20, FIRST("01 00 0000 ff 00 0001")},
     {28, FIRST("02 00 0000 00 00 0000")},
+    {16, FIRST("03 00 270f 00 00 0001")}, /* causes and places that no step sends */
+    {16, FIRST("03 00 0000 00 00 0001")},
+    {16, FIRST("06 00 0007 00 00 0001")},
+    {16, FIRST("09 00 0000 00 00 0001")},
+    {16, FIRST("09 00 00c8 05 00 0001")},
+    {16, "ffff ff 00 00 00 ff ff 05 00 0001 00 00 000f 00 00 0000 00 00 0000"}, /* nothing else of the report is looked at */
     {0, FIRST("ff 00 0000 00 00 0000")},
+    {0, FIRST("ff 00 0000 00 00 ffff")},
     {-12, FIRST("00 00 0000 00 00 0001")}, /* kinds that the desk does not send */
     {-12, FIRST("04 00 0000 00 00 0001")},
     {-12, FIRST("0a 00 0000 00 00 0001")},
@@ -379,6 +388,8 @@ static const struct {
     {-12, FIRST("09 00 0100 05 00 0001")},
     {-12, FIRST("ff 00 0001 00 00 0000")},
     {-12, FIRST("ff 01 0000 00 00 0000")},
+    {-12, FIRST("ff 00 0000 01 00 0000")},
+    {-12, FIRST("ff 00 0000 00 01 0000")},
     {-12, FIRST("05 00 0001 00 00 0001") "00"}, /* 25 octets */
     {-12, ""},
 };
@@ -399,6 +410,8 @@ static void test_report_messages(void **state)
         set_scene(&s, message, thursday_desk(TAKEN), FIRST("05 00 0001 00 00 000f"));
         s.number[0] = which;
         assert_int_equal(play(message, &s), 0);
+        s.lent[1].n--;
+        assert_refused_first(12, message, &s);
     }
 }
 
