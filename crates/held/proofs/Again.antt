@@ -1,5 +1,6 @@
 -- What a packet was read into is written again: the 40 octets hold the message that was read, and with the packet as source and room for as
--- many octets as it has the writer puts that message there in its one form, IDs ascending, without spare, padding or skipped fields.
+-- many octets as it has the writer puts that message there in its one form: IDs ascending, spare octets and padding zero. Skipped and
+-- repeated fields do not come back, since the message has none.
 --     read-then-written : (packet kept room : List ℕ) (m : Message) → reading packet ≡ result m → 40 ≤ length kept
 --         → length packet ≤ length room → ReadThenWritten packet kept room m
 -- Assumes nothing.
