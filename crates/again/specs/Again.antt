@@ -33,7 +33,8 @@ abbrev pub ReadBack : Type 0
 ReadBack = (m : Message) (src : List ℕ) → readable m src ≡ true → ReadsAs (wire (said m src)) (said m src)
 
 -- Written again (proofs/Again): a message that was read is one that the writer accepts, its octets read as the same message, and they
--- are no more than there were ("without spare, padding or skipped fields").
+-- are no more than there were. A message has no spare octets, padding or skipped fields: the writer puts zeros for the first two, and
+-- nothing for the last.
 pub record WrittenAgain (s : List ℕ) (m : Message) : Type 0 where
   pub accepted : readable m s ≡ true
   pub again : ReadsAs (wire (said m s)) (said m s)

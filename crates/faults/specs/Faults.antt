@@ -1,5 +1,6 @@
--- Servers of students, and where the demands stop them: each is the rules' server with one fault, and a short history at which a statement
--- of Demands is not so. Assumes nothing.
+-- Servers of students, and where the demands stop them (document 01, "Faults seen in student servers"; 3 below is "one whose marks are invented"
+-- of document 01, "How strictly it is stated"): each is the rules' server with one fault, and a short history at which a statement of Demands is
+-- not so. The fault in reading packets is stopped in crate reading. Assumes nothing.
 use Prim.Native.Nat.{ℕ, _+_}
 use mathlib.Core.Path.{_≡_, refl, sym, _∙_}
 use mathlib.Core.Bool.{Bool, true, false, _&&_}

@@ -1,7 +1,7 @@
 -- The C face (document 01, "The desk": "For C programs the desk rests in lent octets, their form fixed in docs/. Octets not in that form get 20,
 -- before all else"). Each exported function is its rule between decoding and encoding: what it answers, and what it leaves in every lent
--- buffer. The order of its tests is said once, in `settles`: 20, then the paper's refusals, then 13; a refusal leaves all as it was.
--- Assumes nothing.
+-- buffer. The order of the tests: 20, where a desk is lent; then the paper's refusals; then 13. A refusal leaves all as it was. For steps that
+-- order stands in `settles`; what makes, loads, joins, looks, shows, saves, reads or writes has it in its own definition. Assumes nothing.
 use Prim.Native.Nat.{ℕ, _+_, _*_}
 use mathlib.Core.Bool.{Bool, not, _&&_}
 use mathlib.Core.List.{List, [], _∷_}
@@ -51,7 +51,8 @@ use Rattle.report.specs.declared.Told.the-variants.{Says, NoMessage}
 use Rattle.floor.specs.declared.Named.{Named}
 use Rattle.floor.specs.declared.Named.the-variants.{Known, Unknown}
 
--- octets are a desk's if they hold what the table of docs/FORMS.md says, and stand for a desk that steps could have left
+-- octets are a desk's if they hold what the table of docs/FORMS.md says, and the desk that they stand for passes the test of crate sound. Every
+-- desk that steps can reach from a fresh one does (crate kept); so do some that none reaches, for instance one in Idle with C7 at 0.
 unfoldable pub formed : List ℕ → Bool
 formed d = canonical d && isSound (coreAt d) (hallAt d) (namesAt d)
 

@@ -1,6 +1,7 @@
--- The desk in lent octets, as docs/FORMS.md has it: what stands at each of the 1,200 places, in that page's order; then the desk that octets
--- stand for; then when octets are in the form as far as the table says. That steps could have left such a desk (the line sorted, zeros behind
--- it, ..) is a question to the desk and not to its octets, and is asked elsewhere. Assumes nothing.
+-- The desk in lent octets (document 01, "The desk": "For C programs the desk rests in lent octets, their form fixed in docs/"), as docs/FORMS.md
+-- has it: what stands at each of the 1,200 places, in that page's order; then the desk that octets stand for; then when octets are in the form
+-- as far as the table says. That the desk keeps what every desk keeps that steps can reach (the line sorted, zeros behind it, ..) is a question
+-- to the desk and not to its octets, and is asked in crates sound and seated. Assumes nothing.
 use Prim.Native.Nat.{ℕ, _+_, _*_}
 use mathlib.Core.Bool.{Bool, true, false, _&&_}
 use mathlib.Core.List.{List, [], _∷_, _++_}

@@ -1,5 +1,6 @@
--- "One desk has one such string of octets, and one string stands for one desk" (docs/FORMS.md). Each statement here is proved in proofs/, in
--- the file named beside it. No bound on a number is asked on the way back; on the way forth an octet is below 256. Assumes nothing.
+-- "One desk has one such string of octets, and one string stands for one desk" (docs/FORMS.md; document 01, "The desk": "which stand for that
+-- desk alone"). Each statement here is proved in proofs/, in the file named beside it. No bound on a number is asked on the way back; on the
+-- way forth an octet is below 256. Assumes nothing.
 use Prim.Native.Nat.{ℕ, _<_}
 use mathlib.Core.Path.{_≡_}
 use mathlib.Core.Bool.{true}

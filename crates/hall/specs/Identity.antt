@@ -1,4 +1,4 @@
--- Identities: 1 to 62 octets, kept in an array of 62 with zeros behind them. Assumes nothing.
+-- Identities (document 01, "The desk", 25 and 26): 1 to 62 octets, kept in an array of 62 with zeros behind them. Assumes nothing.
 use Prim.Native.Nat.{ℕ}
 use mathlib.Core.Bool.{Bool, true, false, _&&_}
 use mathlib.Core.List.{List, [], _∷_}

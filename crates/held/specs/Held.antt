@@ -1,6 +1,6 @@
--- A message as 40 octets (docs/FORMS.md, "A message: 40 octets"): what a message is held as, in that page's order; the message that octets
--- hold, or that they hold none; what is answered when a packet is read into such octets, and when a message is written out of them.
--- Assumes nothing.
+-- A message as 40 octets (docs/FORMS.md, "A message: 40 octets"; document 01, "The packet"): what a message is held as, in that page's order;
+-- the message that octets hold, or that they hold none; what is answered when a packet is read into such octets, and when a message is
+-- written out of them (document 01, "What is answered to packets", 1 to 13). Assumes nothing.
 use Prim.Native.Nat.{ℕ, zero, suc, _+_, _*_, _/_, _%_, _^_}
 use mathlib.Core.Bool.{Bool, true, false, not, _||_}
 use mathlib.Core.List.{List, [], _∷_, _++_}
@@ -103,6 +103,7 @@ heldOctets m = headOctets m ++ firstOctets m ++ nextOctets m ++ partOctets m
 
 -- THE MESSAGE THAT OCTETS HOLD, IF THEY HOLD ONE
 
+-- a message, or none; `Held` of crate writing is something else, what its functions know of a message that they lay
 pub data Held : Type 0 where
   Is : Message → Held
   Nothing : Held
@@ -186,7 +187,8 @@ abbrev pub answered : Answer Message → ℕ → ℕ
 answered (refused n) room = n
 answered (result m) room = if ltb room 40 then 13 else 0
 
--- "On any refusal every lent buffer is as it was. A result leaves the room past its end untouched"
+-- "A refusal returns its number only and writes nothing; a result leaves the room past its end untouched" (document 01, "What is answered to
+-- packets")
 abbrev pub keeping : Answer Message → List ℕ → List ℕ
 keeping (refused n) room = room
 keeping (result m) room = if ltb (length room) 40 then room else over room 0 (heldOctets m)

@@ -1,4 +1,4 @@
--- A desk and anything that happens to it: the events of a running call, leave and join. Assumes nothing.
+-- A desk and anything that happens to it (document 01, "The desk"): the events of a running call, leave and join. Assumes nothing.
 use Prim.Native.Nat.{ℕ}
 use mathlib.Core.List.{List, [], _∷_}
 use Rattle.hall.specs.declared.Hall.{Hall}

@@ -44,7 +44,7 @@ module _ (s : List ℕ) where
   unfolding formed
   passes q = and-right (canonical s) (isSound (coreAt s) (hallAt s) (namesAt s)) q
 
--- a desk that steps could have left, each number of it in its place
+-- a desk that keeps what every desk keeps that steps can reach, each number of it in its place
 pub record Right (d : Desk) : Type 0 where
   pub sound : Sound d
   pub narrow : NarrowDesk d

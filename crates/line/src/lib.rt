@@ -7,7 +7,7 @@ ghost use mathlib.Core.Bool.{true, false};
 ghost use lib.ListN.{length, take, drop, getD, set};
 ghost use Rattle.line.specs.Line.{waiting, lineOf, empty, before, ahead, enter, otherAtLeast, anotherAtLeast, without, seatsOf};
 
-// A seat in line, and the holder of the floor: who, and the priority it asked at.
+// A seat in line, and the holder of the floor: who, and the effective priority that it waits at, or was given the floor at.
 pub struct Entry {
     pub seat: u8,
     pub priority: u8,

@@ -1,6 +1,6 @@
--- "Each step reports .. four marks: placed (a seat), struck off (a set), ended (a seat), given (a seat, at once or out of the line)." What a
--- report's marks say of a seat and what the step did to it are two accounts, and they agree: in every step, of every desk, for every seat. Each
--- statement here is proved in proofs/, in the file named beside it. Assumes nothing.
+-- "Each step reports .. four marks: placed (a seat), struck off (a set), ended (a seat), given (a seat, at once or out of the line)"
+-- (document 01, "The desk"). What a report's marks say of a seat and what the step did to it are two accounts, and they agree: in every step, of
+-- every desk, for every seat. Each statement here is proved in proofs/, in the file named beside it. Assumes nothing.
 use Prim.Native.Nat.{ℕ, _+_, _≤_, _<_}
 use mathlib.Core.Path.{_≡_}
 use mathlib.Core.Bool.{Bool, true, false}

@@ -73,8 +73,10 @@ pub struct Message {
     pub user: Part,
     pub sequence: Word,
     pub source: Word,
+    // field 12, "Message Type"
     pub subject: Octet,
     pub indicator: Word,
+    // field 14, "SSRC"; the header's is `ssrc`
     pub party: Number,
 }
 

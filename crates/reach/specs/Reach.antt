@@ -1,5 +1,5 @@
--- "every desk that steps can reach from a fresh one": a fresh desk is sound, whatever happens keeps it so, and at every such desk the marks are
--- what the line and the holder did. Each statement here is proved in proofs/Reach. Assumes nothing.
+-- "every desk that steps can reach from a fresh one" (document 01, "The desk"): a fresh desk is sound, whatever happens keeps it so, and at every
+-- such desk the marks are what the line and the holder did. Each statement here is proved in proofs/Reach. Assumes nothing.
 use Prim.Native.Nat.{ℕ}
 use mathlib.Core.Path.{_≡_}
 use mathlib.Core.Bool.{true}

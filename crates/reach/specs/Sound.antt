@@ -1,4 +1,4 @@
--- What every desk keeps that steps can reach from a fresh one. Assumes nothing.
+-- What every desk keeps that steps can reach from a fresh one (document 01, "The desk"). Assumes nothing.
 use Prim.Native.Nat.{ℕ, _≤_, _<_}
 use mathlib.Core.Path.{_≡_}
 use mathlib.Core.Bool.{Bool, true, false, _||_}

@@ -1,4 +1,5 @@
--- What the reader answers (document 01, "What is answered to packets", 1 to 11, in that order). Assumes nothing.
+-- What the reader answers (document 01, "What is answered to packets", 1 to 11, in that order), and the message that a packet is (document 01,
+-- "The packet"). Assumes nothing.
 use Prim.Native.Nat.{ℕ, _+_, _-_, _*_, _/_, _%_}
 use mathlib.Core.Bool.{Bool, not}
 use mathlib.Core.List.{List}

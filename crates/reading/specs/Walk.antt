@@ -50,18 +50,20 @@ abbrev pub Opens : Opening → List ℕ → Type 0
 Opens (Refused r) s = reading s ≡ refused (number r)
 Opens (Of k) s = (12 ≤ length s) × (reading s ≡ judged k s (fieldsIn s))
 
--- what is known once all checks are done: of a packet that is read its type and the starts of its fields' contents, by which its message
--- is made up; of one that is refused the refusal, and no start
+-- the array notes all fields of a packet; where one of them is at fault, no array does
 abbrev pub Noted : Fields → List ℕ → Type 0
 Noted (whole fs) starts = Notes starts fs
 Noted (fault n) starts = ⊥
 
+-- what is known once all checks are done: of a packet that is read its type and the starts of its fields' contents, by which its message
+-- is made up; of one that is refused the refusal, and no start
 abbrev pub Judges : Opening → List ℕ → List ℕ → Type 0
 Judges (Refused r) s starts = (reading s ≡ refused (number r)) × (starts ≡ replicate 16 0)
 Judges (Of k) s starts =
     (reading s ≡ result (messageAt k s (λ i. getD starts i 0))) × Reach s (λ i. getD starts i 0) × Noted (fieldsIn s) starts
 
--- the part of the packet that a field's octets are; none where the part does not lie in it
+-- "An identity is answered as the part of the lent packet that holds it" (document 01, "The packet"): the part of the packet that a field's
+-- octets are; none where the part does not lie in it
 abbrev pub partIn : List ℕ → Part → List ℕ
 partIn s Part.Absent = []
 partIn s (Part.At from count) = if leb (from + count) (length s) then part s from count else []

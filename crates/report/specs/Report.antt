@@ -1,4 +1,5 @@
--- A report as 24 octets (docs/FORMS.md). Assumes nothing.
+-- A report as 24 octets (docs/FORMS.md, "A report: 24 octets"; document 01, "The desk": "at most two messages with the set of seats they go to,
+-- and four marks"). Assumes nothing.
 use Prim.Native.Nat.{ℕ, _+_, _*_, _%_, _<_}
 use mathlib.Core.Bool.{Bool, true, false, not, _&&_}
 use mathlib.Core.List.{List, [], _∷_, _++_}

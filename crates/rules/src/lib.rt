@@ -1,5 +1,5 @@
-// The rules of the floor: given, ended, revoked, and Request by its rules 1 to 6 (document 01, "The desk"). The rules stand in specs/;
-// each has one function here.
+// The rules of the floor: given, ended, revoked, and Request by its rules 1 to 6 (document 01, "The desk"). The rules stand in specs/,
+// and the functions here follow them. Rules 4 and 5 end alike, by rule 6: `asksAgain` and `placed` of specs/ are one function, `stand`.
 use hall::Answer;
 use hall::Hall;
 use line::Entry;

@@ -1,5 +1,6 @@
 -- The test of the seats, asked of the octets themselves: "no two seats have the same SSRC or the same identity, and none the desk's SSRC;
--- identities have 1 to 62 octets", "zeros behind it", "zero for a free one" (docs/FORMS.md). Assumes nothing.
+-- identities have 1 to 62 octets", "zeros behind it", "zero for a free one" (docs/FORMS.md, the form of document 01, "The desk").
+-- Assumes nothing.
 use Prim.Native.Nat.{ℕ, _+_, _*_, _-_}
 use mathlib.Core.Bool.{Bool, not, _&&_}
 use mathlib.Core.List.{List}

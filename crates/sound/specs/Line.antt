@@ -1,4 +1,5 @@
--- The line in a desk's octets: who waits, and whether a place has another seat than one. Assumes nothing.
+-- The line in a desk's octets (docs/FORMS.md; document 01, "The desk"): who waits, and whether a place has another seat than one.
+-- Assumes nothing.
 use Prim.Native.Nat.{ℕ, _+_}
 use mathlib.Core.Bool.{Bool, not}
 use mathlib.Core.List.{List}

@@ -1,5 +1,5 @@
 -- The test decides: of a desk that has what its types give, it passes exactly the sound ones. So "every desk that steps can reach from a fresh
--- one" passes, and what passes goes on passing. Each statement here is proved in proofs/Sound. Assumes nothing.
+-- one" (document 01, "The desk") passes, and what passes goes on passing. Each statement here is proved in proofs/Sound. Assumes nothing.
 use mathlib.Core.Path.{_≡_}
 use mathlib.Core.Bool.{true}
 use mathlib.Core.List.{List}

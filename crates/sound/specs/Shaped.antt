@@ -1,5 +1,5 @@
--- What a desk has by the types of its parts alone: sixteen seats in each column, fifteen places in line, identities in 62 octets, a sequence
--- number of 16 bits. Assumes nothing.
+-- What a desk (document 01, "The desk") has by the types of its parts alone: sixteen seats in each column, fifteen places in line, identities
+-- in 62 octets, a sequence number of 16 bits. Assumes nothing.
 use Prim.Native.Nat.{ℕ, _<_}
 use mathlib.Core.Path.{_≡_}
 use lib.ListN.{length}

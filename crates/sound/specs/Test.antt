@@ -1,5 +1,6 @@
--- The test of a desk: the words of docs/FORMS.md on the desk that octets stand for, as Bools. What a value's own type gives (how many seats and
--- places there are, that a sequence number has 16 bits) is not tested. Assumes nothing.
+-- The test of a desk (document 01, "The desk": "Octets not in that form get 20"): the words of docs/FORMS.md on the desk that octets stand for,
+-- as Bools. What a value's own type gives (how many seats and places there are, that a sequence number has 16 bits) is not tested.
+-- Assumes nothing.
 use Prim.Native.Nat.{ℕ, suc}
 use mathlib.Core.Bool.{Bool, false, not, _&&_, _||_}
 use mathlib.Core.List.{List}

@@ -1,6 +1,6 @@
-// The test of a desk: whether it is one that steps could have left. specs/Test.antt has the test; proofs/Sound.antt has that it passes exactly
-// the sound desks. The floor and the line are judged here, in the octets where they rest, so that nothing is decoded twice; the seats in
-// crate `seated`.
+// The test of a desk: whether it keeps what every desk keeps that steps can reach from a fresh one. Those pass; so do some that no steps
+// reach, for instance one in Idle with C7 at 0. specs/Test.antt has the test; proofs/Sound.antt has that it passes exactly the sound desks.
+// The floor and the line are judged here, in the octets where they rest, so that nothing is decoded twice; the seats in crate `seated`.
 ghost use mathlib.Core.Path.{_≡_};
 ghost use mathlib.Core.Bool.{true};
 ghost use Prim.Native.Nat.{_≤_, _<_};
