@@ -21,7 +21,7 @@ use Rattle.message.specs.declared.Message.{Message}
 use Rattle.reading.specs.declared.Found.{Found}
 use Rattle.reading.specs.Fields.{Fields, whole, fault, fieldsIn, startOf}
 use Rattle.reading.specs.Reading.{reading, messageAt, version, padBit, typeBits, name, ofType, judged}
-use Rattle.writing.specs.Wire.{header, wire}
+use Rattle.writing.specs.Wire.{header, wire, headed, firstOctet}
 use Rattle.writing.specs.Writing.{readable, lies, allFit}
 use Rattle.again.specs.Again.{WrittenAgain, ReadIsWritten, OnlyTwelve}
 use Rattle.again.proofs.Judged.{passed, AllJudged, all-judged, sizeOf}
@@ -104,7 +104,7 @@ module _ (s : List ℕ) (k : Kind) (found : List Found) (w : AllJudged s 12 foun
   can-be-written full = rw (it-lies, all-fit kept) full
 
   no-longer : 12 ≤ length s → length (wire (said m s)) ≤ length s
-  unfolding wire header said octets16 octets32 ascends
+  unfolding wire header headed firstOctet said octets16 octets32 ascends
   no-longer h = omega (arith, body-sized kept, firsts-within found 0 (fieldsOf m s) refl, w .ends h)
 
 again : (s : List ℕ) (m : Message) → 12 ≤ length s → Accepted s m → WrittenAgain s m

@@ -22,7 +22,7 @@ use Rattle.message.specs.declared.Message.{Message}
 use Rattle.reading.specs.declared.Found.{Found}
 use Rattle.reading.specs.Fields.{fieldsIn, startOf}
 use Rattle.reading.specs.Reading.{reading, messageAt, version, padBit, typeBits, name, judged}
-use Rattle.writing.specs.Wire.{optional, body, header, wire, lengthOf}
+use Rattle.writing.specs.Wire.{optional, body, header, wire, lengthOf, headed, firstOctet}
 use Rattle.writing.specs.Writing.{readable, lies, allFit, fits}
 use Rattle.again.specs.Again.{ReadsAs, ReadBack}
 use Rattle.again.proofs.Numbers.{be16-first, be32-first, be16-back, be32-back, padded-words, padded-most}
@@ -159,16 +159,16 @@ module _ (m : Message) (src : List ℕ) (e : readable m src ≡ true) where
   first = first-back (m .ack) (typeNumber (m .kind)) (type-back (m .kind) .small)
 
   words-told : be16 s 2 ≡ (12 + length (body (fieldsOf m src))) / 4 - 1
-  unfolding wire header said octets16 octets32
+  unfolding wire header headed firstOctet said octets16 octets32
   words-told = be16-first s _ 2 refl ∙ be16-back ((12 + length (body (fieldsOf m src))) / 4 - 1) _
 
   ssrc-told : be32 s 4 ≡ m .ssrc
-  unfolding wire header said octets16 octets32
+  unfolding wire header headed firstOctet said octets16 octets32
   ssrc-told = be32-first s _ 4 refl ∙ be32-back (m .ssrc) _
 
-  headed : Headed s (m .kind)
-  unfolding wire header said octets16 octets32 most rowIn if_then_else_
-  headed =
+  its-head : Headed s (m .kind)
+  unfolding wire header headed firstOctet said octets16 octets32 most rowIn if_then_else_
+  its-head =
       let b : length (body (fieldsOf m src)) ≤ 461 = body-within (fieldsOf m src) fit in
       let w : length (body (fieldsOf m src)) % 4 ≡ 0 = body-words (fieldsOf m src) in
       record {
@@ -183,12 +183,12 @@ module _ (m : Message) (src : List ℕ) (e : readable m src ≡ true) where
       }
 
   walked : Walked s (fieldsOf m src) (fieldsIn s)
-  unfolding fieldsIn wire header said octets16 octets32 listed
+  unfolding fieldsIn wire header headed firstOctet said octets16 octets32 listed
   walked = walk s (fieldsOf m src) (length s) 12 refl fit refl (omega arith)
 
   same-told : (start : ℕ → ℕ) → ((i : ℕ) → Stands s i (firstOf (fieldsOf m src) i) (start i))
       → said (messageAt (m .kind) s start) s ≡ said m src
-  unfolding said messageAt wire header
+  unfolding said messageAt wire header headed firstOctet
   same-told start h =
       λ j. record { kind = m .kind; ack = first .ack j; ssrc = ssrc-told j; fields = fields-back m src s (m .kind) start h j }
 
@@ -200,7 +200,7 @@ module _ (m : Message) (src : List ℕ) (e : readable m src ≡ true) where
       record {
         message = m′;
         read =
-            judged-next s (m .kind) headed
+            judged-next s (m .kind) its-head
             ∙ rw (walked .all) (if-yes (complete (said m′ s)) (result m′) (refused 11) (ap complete q ∙ whole-message));
         same = q;
       }

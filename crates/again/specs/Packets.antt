@@ -16,7 +16,7 @@ use Rattle.message.specs.Message.{Field, field, Said, said, has, hasAll, comple
 use Rattle.message.specs.Answers.{refused}
 use Rattle.reading.specs.Fields.{stepAt, fieldsFrom, fieldsIn, startOf}
 use Rattle.reading.specs.Reading.{octetAt, wordAt, numberAt, queueAt, partAt, causeAt, messageAt, reading}
-use Rattle.writing.specs.Wire.{fieldOctets, optional, body, header, wire}
+use Rattle.writing.specs.Wire.{fieldOctets, optional, body, header, headed, firstOctet, wire}
 use Rattle.again.specs.Again.{ReadsAs}
 
 -- a message with these fields and no others: type, Ack bit, SSRC, and the content of each field that it has
@@ -39,7 +39,7 @@ with k asksAck ssrc fs =
 opened : Type 0
 unfolding
     reading messageAt octetAt wordAt numberAt queueAt partAt causeAt fieldsIn fieldsFrom stepAt startOf
-    wire header body optional fieldOctets said complete hasAll has against atFault rowIn padded padding
+    wire header headed firstOctet body optional fieldOctets said complete hasAll has against atFault rowIn padded padding
     be16 be32 octets16 octets32 part if_then_else_
 opened = ℕ
 

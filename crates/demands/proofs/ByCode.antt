@@ -10,7 +10,7 @@ use Rattle.hall.specs.declared.Joined.{Joined}
 use Rattle.rules.specs.declared.Step.{Step}
 use Rattle.desk.specs.Events.{left}
 use Rattle.history.specs.Doing.{Desk, event, leaves, joins, joined, made, does}
-use Rattle.demands.specs.Demands.{Happening, packet, other, heard, byReading as heardBy, Outcome, outcome, ofDoing, happens, History, deskAfter, Row, rowOf, sheet}
+use Rattle.demands.specs.Demands.{Happening, packet, other, heard, byReading as heardBy, Outcome, outcome, ofDoing, happens, History, deskAfter, Row, rowOf, log}
 use Rattle.demands.specs.ThroughCode.{Code, Promises, ofCalled, runs, madeBy, deskBy, sheetBy, CountedAreTheCodes}
 
 packet-heard : (d : Desk) (a : Answer read.Message) → ofCalled d (byReading (d .core) (d .hall) a) ≡ outcome d (heardBy a)
@@ -32,11 +32,11 @@ same-desk : (f : Code) → Promises f → (g : Settings) (past : History) → de
 same-desk f k g [] = first-desk f k g
 same-desk f k g (x ∷ past) = ap (λ (r : Outcome). r .desk) (ap (λ (d : Desk). runs f d x) (same-desk f k g past) ∙ one-step f k (deskAfter happens g past) x)
 
-same-sheet : (f : Code) → Promises f → (g : Settings) (past : History) → sheetBy f g past ≡ sheet happens g past
-same-sheet f k g [] = refl
-same-sheet f k g (x ∷ past) =
-    ap (λ (rows : List Row). rowOf (runs f) (deskBy f g past) x ∷ rows) (same-sheet f k g past)
-    ∙ ap (λ (r : Row). r ∷ sheet happens g past) (same-row (deskBy f g past) (deskAfter happens g past) (same-desk f k g past))
+same-log : (f : Code) → Promises f → (g : Settings) (past : History) → sheetBy f g past ≡ log happens g past
+same-log f k g [] = refl
+same-log f k g (x ∷ past) =
+    ap (λ (rows : List Row). rowOf (runs f) (deskBy f g past) x ∷ rows) (same-log f k g past)
+    ∙ ap (λ (r : Row). r ∷ log happens g past) (same-row (deskBy f g past) (deskAfter happens g past) (same-desk f k g past))
   where
     same-row : (d e : Desk) → d ≡ e → rowOf (runs f) d x ≡ rowOf happens e x
     same-row d e q =
@@ -46,4 +46,4 @@ same-sheet f k g (x ∷ past) =
         withReport y r = record { asked = rowOf happens y x .asked; report = r .report }
 
 pub counted-are-the-codes : CountedAreTheCodes
-counted-are-the-codes f k g past = (same-sheet f k g past, same-desk f k g past)
+counted-are-the-codes f k g past = (same-log f k g past, same-desk f k g past)

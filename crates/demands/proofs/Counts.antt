@@ -22,7 +22,7 @@ use Rattle.marks.proofs.Floor.{holds-one}
 use Rattle.reach.specs.Sound.{Sound, Once}
 use Rattle.reach.proofs.Reach.{sound-made, sound-kept, marks-counted}
 use Rattle.line.proofs.Laws.{waiting-lineOf}
-use Rattle.demands.specs.Demands.{Happening, Heard, unread, doing, heard, happens, outcome, History, deskAfter, sheet, times, standing, isPlaced, isStruck, isGivenOut, isGivenAny, isEnded, NobodyDropsOut, GivenAndEnded, NothingUnseen}
+use Rattle.demands.specs.Demands.{Happening, Heard, unread, doing, heard, happens, outcome, History, deskAfter, log, times, standing, isPlaced, isStruck, isGivenOut, isGivenAny, isEnded, NobodyDropsOut, GivenAndEnded, NothingUnseen}
 
 -- every desk that a history leads to is sound
 pub sound-after : (g : Settings) → inRange g ≡ true → (past : History) → Sound (deskAfter happens g past)
@@ -50,7 +50,7 @@ unfolding waits fresh
 nobody-at-first s = ap (isIn s) (waiting-lineOf [] (omega arith)) ∙ in-nil s
 
 line-account : (g : Settings) → inRange g ≡ true → (past : History) (s : ℕ) →
-    times (isPlaced s) (sheet happens g past) ≡ times (isGivenOut s) (sheet happens g past) + times (isStruck s) (sheet happens g past) + one (waits (deskAfter happens g past .core) s)
+    times (isPlaced s) (log happens g past) ≡ times (isGivenOut s) (log happens g past) + times (isStruck s) (log happens g past) + one (waits (deskAfter happens g past .core) s)
 line-account g r [] s = rw (nobody-at-first s)
 line-account g r (x ∷ past) s = omega (arith, line-account g r past s, counted (deskAfter happens g past) x s (sound-after g r past) .0)
 
@@ -68,7 +68,7 @@ nobody-drops-out g r past s = (line-account g r past s, stands-once s _ (sound-a
 
 -- 4
 floor-account : (g : Settings) → inRange g ≡ true → (past : History) (s : ℕ) →
-    times (isGivenAny s) (sheet happens g past) ≡ times (isEnded s) (sheet happens g past) + one (holds (deskAfter happens g past .core .phase) s)
+    times (isGivenAny s) (log happens g past) ≡ times (isEnded s) (log happens g past) + one (holds (deskAfter happens g past .core .phase) s)
 unfolding fresh
 floor-account g r [] s = refl
 floor-account g r (x ∷ past) s = omega (arith, floor-account g r past s, counted (deskAfter happens g past) x s (sound-after g r past) .1)

@@ -21,7 +21,7 @@ use Rattle.rules.specs.Request.{entry, waits}
 use Rattle.marks.proofs.InLine.{in-nil, in-cons, in-without, only-at}
 use Rattle.reach.specs.Sound.{AtMost, Sorted, ListOk}
 use Rattle.reach.proofs.InLine.{without-ok}
-use Rattle.demands.specs.Demands.{Asking, nobody, Row, happens, History, deskAfter, sheet, rowOf, isPlaced, priorityOf, moves, isMoved, lineFrom, latest, ComesFirst, GoesToTheFirst}
+use Rattle.demands.specs.Demands.{Asking, nobody, Row, happens, History, deskAfter, log, rowOf, isPlaced, priorityOf, moves, isMoved, lineFrom, latest, ComesFirst, GoesToTheFirst}
 use Rattle.demands.proofs.Counts.{sound-after}
 use Rattle.demands.proofs.Did.{Did, rests, gives, places, shifts, strikes, passes, frees, halts, closes}
 use Rattle.demands.proofs.OfEach.{goes-to-head}
@@ -137,12 +137,12 @@ latest-past s (r ∷ past) =
     let z = latest-past s past in
     by-if (λ (n : ℕ). n ≤ suc (length past)) (isPlaced s (r .report .marks) || isMoved s (r .asked) (lineFrom past)) (λ _. omega arith) (λ _. omega arith)
 
-in-order : (g : Settings) → inRange g ≡ true → (past : History) → InOrder (λ s. latest s (sheet happens g past)) (lineFrom (sheet happens g past))
+in-order : (g : Settings) → inRange g ≡ true → (past : History) → InOrder (λ s. latest s (log happens g past)) (lineFrom (log happens g past))
 in-order g r [] = tt
 in-order g r (x ∷ past) =
-    let rows = sheet happens g past in
+    let rows = log happens g past in
     let w : waiting (deskAfter happens g past .core .line) ≡ lineFrom rows = line-worked-out g r past in
-    subst (λ (es : List Entry). InOrder (λ s. latest s (sheet happens g (x ∷ past))) es) (line-worked-out g r (x ∷ past))
+    subst (λ (es : List Entry). InOrder (λ s. latest s (log happens g (x ∷ past))) es) (line-worked-out g r (x ∷ past))
     (subst (λ (es : List Entry). InOrder (stamp (rowOf happens (deskAfter happens g past) x .report .marks) (rowOf happens (deskAfter happens g past) x .asked) es (length rows) (λ s. latest s rows)) (waiting (deskAfter happens g (x ∷ past) .core .line))) w
     (order-kept _ _ _ _ _ _ (λ s. latest s rows) (length rows) (λ s. latest-past s rows) (sound-after g r past .core .line .list) (rw (sym w) at (in-order g r past)) (step-did g r past x)))
 
@@ -183,6 +183,6 @@ pub goes-to-the-first : GoesToTheFirst happens
 unfolding waits
 goes-to-the-first g r past now t u z i n =
     let x = goes-to-head (step-did g r past now) t u z i n in
-    let o : InOrder (λ s. latest s (sheet happens g past)) (waiting (deskAfter happens g past .core .line)) = rw (sym (line-worked-out g r past)) at (in-order g r past) in
-    let f = head-first (sheet happens g past) (x .0) (x .1) (rw (x .2) at (sound-after g r past .core .line .list .sorted)) (rw (x .2) at o) in
+    let o : InOrder (λ s. latest s (log happens g past)) (waiting (deskAfter happens g past .core .line)) = rw (sym (line-worked-out g r past)) at (in-order g r past) in
+    let f = head-first (log happens g past) (x .0) (x .1) (rw (x .2) at (sound-after g r past .core .line .list .sorted)) (rw (x .2) at o) in
     (x .0 .seat, x .3, rw (x .2) f)

@@ -34,7 +34,7 @@ use Rattle.reach.specs.Sound.{Sound}
 use Rattle.reach.proofs.InLine.{present-below}
 use Rattle.reach.proofs.Hall.{stored, hall-ok}
 use Rattle.reach.proofs.Reach.{marks-counted}
-use Rattle.demands.specs.Demands.{Happening, Heard, unread, doing, heard, outcome, happens, History, deskAfter, asks, asking, asked, sheet, isPlaced, isStruck, isGivenOut, changed, lineFrom, holderFrom, reason, StruckForAReason, WorkedOut}
+use Rattle.demands.specs.Demands.{Happening, Heard, unread, doing, heard, outcome, happens, History, deskAfter, asks, asking, asked, log, isPlaced, isStruck, isGivenOut, changed, lineFrom, holderFrom, reason, StruckForAReason, WorkedOut}
 use Rattle.demands.proofs.Counts.{sound-after, comes-by}
 use Rattle.demands.proofs.Did.{Did, rests, Deaf, did}
 use Rattle.demands.proofs.OfEach.{placed-why, struck-why, line-changed, holder-changed}
@@ -114,15 +114,15 @@ pub struck-for-a-reason : StruckForAReason happens
 struck-for-a-reason g r past now s z = struck-why (step-did g r past now) s z
 
 -- 5
-pub line-worked-out : (g : Settings) → inRange g ≡ true → (past : History) → waiting (deskAfter happens g past .core .line) ≡ lineFrom (sheet happens g past)
+pub line-worked-out : (g : Settings) → inRange g ≡ true → (past : History) → waiting (deskAfter happens g past .core .line) ≡ lineFrom (log happens g past)
 unfolding changed fresh
 line-worked-out g r [] = waiting-lineOf [] (omega arith)
 line-worked-out g r (x ∷ past) = rw (sym (line-worked-out g r past)) (sym (line-changed (step-did g r past x)))
 
-holder-worked-out : (g : Settings) → inRange g ≡ true → (past : History) (s : ℕ) → holds (deskAfter happens g past .core .phase) s ≡ isSeat (holderFrom (sheet happens g past)) s
+holder-worked-out : (g : Settings) → inRange g ≡ true → (past : History) (s : ℕ) → holds (deskAfter happens g past .core .phase) s ≡ isSeat (holderFrom (log happens g past)) s
 unfolding fresh
 holder-worked-out g r [] s = refl
-holder-worked-out g r (x ∷ past) s = holder-changed (step-did g r past x) (holderFrom (sheet happens g past)) (holder-worked-out g r past) s
+holder-worked-out g r (x ∷ past) s = holder-changed (step-did g r past x) (holderFrom (log happens g past)) (holder-worked-out g r past) s
 
 pub worked-out : WorkedOut happens
 worked-out g r past = (line-worked-out g r past, holder-worked-out g r past)

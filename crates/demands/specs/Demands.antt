@@ -102,7 +102,7 @@ abbrev pub deskAfter : Server → Settings → History → Desk
 deskAfter server g [] = made g
 deskAfter server g (x ∷ past) = server (deskAfter server g past) x .desk
 
--- THE SHEET OF AN EVENING
+-- THE LOG OF AN EVENING
 -- A row for each step, the latest first: what was asked, and what was reported. The rest of the desk is not on it.
 
 -- A request names its seat by SSRC; its priority is the lower of the one asked and the seat's highest.
@@ -140,9 +140,9 @@ pub record Row : Type 0 where
 abbrev pub rowOf : Server → Desk → Happening → Row
 rowOf server d x = record { asked = asked (d .hall) (heard x); report = server d x .report }
 
-abbrev pub sheet : Server → Settings → History → List Row
-sheet server g [] = []
-sheet server g (x ∷ past) = rowOf server (deskAfter server g past) x ∷ sheet server g past
+abbrev pub log : Server → Settings → History → List Row
+log server g [] = []
+log server g (x ∷ past) = rowOf server (deskAfter server g past) x ∷ log server g past
 
 -- COUNTING, by the marks alone
 
@@ -256,14 +256,14 @@ reason h (doing x) s = reasonOf h x s
 
 -- THE FIVE STATEMENTS
 -- Each is of a server, any settings in range, any history and any seat number: proved of the rules' server `happens`, and refuted of faulty
--- ones (crate `faults`). `desk` and `rows` are the desk and the sheet after the history; in 2, 3 and the first half of 5, `now` is what happens
+-- ones (crate `faults`). `desk` and `rows` are the desk and the log after the history; in 2, 3 and the first half of 5, `now` is what happens
 -- next and `new` what comes of it.
 
 -- 1. "times placed in line = times given the floor out of the line + times struck off + 1 if it waits now"; and it waits at most once
 abbrev pub NobodyDropsOut : Server → Type 0
 NobodyDropsOut server = (g : Settings) → inRange g ≡ true → (past : History) (s : ℕ) →
     let desk = deskAfter server g past in
-    let rows = sheet server g past in
+    let rows = log server g past in
     (times (isPlaced s) rows ≡ times (isGivenOut s) rows + times (isStruck s) rows + one (waits (desk .core) s))
     × (standing s (waiting (desk .core .line)) ≡ one (waits (desk .core) s))
 
@@ -286,13 +286,13 @@ GoesToTheFirst server = (g : Settings) → inRange g ≡ true → (past : Histor
     let desk = deskAfter server g past in
     let new = server desk now in
     isEnded t (new .report .marks) ≡ true → waits (desk .core) u ≡ true → isStopped (new .desk .core .phase) ≡ false →
-    (s : ℕ) × (new .report .marks .given ≡ OutOfLine s) × ComesFirst (waiting (desk .core .line)) (sheet server g past) s
+    (s : ℕ) × (new .report .marks .given ≡ OutOfLine s) × ComesFirst (waiting (desk .core .line)) (log server g past) s
 
 -- 4. "Times given = times ended + 1 for the seat that holds it."; and at most one seat holds it
 abbrev pub GivenAndEnded : Server → Type 0
 GivenAndEnded server = (g : Settings) → inRange g ≡ true → (past : History) (s : ℕ) →
     let desk = deskAfter server g past in
-    let rows = sheet server g past in
+    let rows = log server g past in
     (times (isGivenAny s) rows ≡ times (isEnded s) rows + one (holds (desk .core .phase) s))
     × ((t : ℕ) → holds (desk .core .phase) s ≡ true → holds (desk .core .phase) t ≡ true → s ≡ t)
 
@@ -313,6 +313,6 @@ NothingUnseen server = (g : Settings) → inRange g ≡ true → (past : History
 abbrev pub WorkedOut : Server → Type 0
 WorkedOut server = (g : Settings) → inRange g ≡ true → (past : History) →
     let desk = deskAfter server g past in
-    let rows = sheet server g past in
+    let rows = log server g past in
     (waiting (desk .core .line) ≡ lineFrom rows)
     × ((s : ℕ) → holds (desk .core .phase) s ≡ isSeat (holderFrom rows) s)

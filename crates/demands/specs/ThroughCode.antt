@@ -19,7 +19,7 @@ use Rattle.desk.specs.declared.Event.{Event}
 use Rattle.desk.specs.declared.Left.{Left}
 use Rattle.desk.specs.Events.{fresh, step, left, leave}
 use Rattle.history.specs.Doing.{Desk, event, leaves, joins, joined}
-use Rattle.demands.specs.Demands.{packet, other, Outcome, ofDoing, Server, History, deskAfter, Row, rowOf, sheet, happens}
+use Rattle.demands.specs.Demands.{packet, other, Outcome, ofDoing, Server, History, deskAfter, Row, rowOf, log, happens}
 
 -- desk::fresh_core, hall::empty_hall, hall::no_names; desk::make_step, desk::leave_call, hall::join_call, call::hear
 pub record Code : Type 0 where
@@ -55,7 +55,7 @@ runs f d (other (event e)) = ofDoing (left (f .make-step (d .core) (d .hall) e) 
 runs f d (other (leaves s)) = ofDoing (f .leave-call (d .core) (d .hall) (d .names) s)
 runs f d (other (joins o n)) = ofDoing (joined (d .core) (f .join-call (d .hall) (d .names) o n))
 
--- the desk and the sheet that the code leaves behind, one event after the other
+-- the desk and the log that the code leaves behind, one event after the other
 abbrev pub madeBy : Code → Settings → Desk
 madeBy f g = record { core = f .fresh-core; hall = f .empty-hall g; names = f .no-names }
 
@@ -70,4 +70,4 @@ sheetBy f g (x ∷ past) = rowOf (runs f) (deskBy f g past) x ∷ sheetBy f g pa
 -- the reports counted are the code's reports, and the desk they are held against is the code's desk
 abbrev pub CountedAreTheCodes : Type 0
 CountedAreTheCodes = (f : Code) → Promises f → (g : Settings) (past : History) →
-    (sheetBy f g past ≡ sheet happens g past) × (deskBy f g past ≡ deskAfter happens g past)
+    (sheetBy f g past ≡ log happens g past) × (deskBy f g past ≡ deskAfter happens g past)

@@ -26,7 +26,7 @@ use Rattle.desk.specs.declared.Event.the-variants.{Start, Request, Release}
 use Rattle.desk.specs.Timers.{isStopped}
 use Rattle.desk.specs.Events.{fresh, starts, callerOf, struckOff, releases, step}
 use Rattle.history.specs.Doing.{Desk, event, joins, does}
-use Rattle.demands.specs.Demands.{Happening, other, heard, Outcome, happens, Server, History, deskAfter, Asking, nobody, asks, asked, sheet, times, isPlaced, isStruck, isGivenOut, isEnded, priorityOf, moves, changed, latest, reason, NobodyDropsOut, StruckForAReason, GoesToTheFirst}
+use Rattle.demands.specs.Demands.{Happening, other, heard, Outcome, happens, Server, History, deskAfter, Asking, nobody, asks, asked, log, times, isPlaced, isStruck, isGivenOut, isEnded, priorityOf, moves, changed, latest, reason, NobodyDropsOut, StruckForAReason, GoesToTheFirst}
 
 -- THE EVENING ON WHICH THEY ARE TRIED
 -- Three sit down: test1, test10 and anna, with SSRCs 10, 11 and 12; the line has room for all.
@@ -96,8 +96,8 @@ unfoldable pub student : Server
 student d x = byLetters d (asked (d .hall) (heard x)) (happens d x)
 
 -- test1 was placed, was never given the floor or struck off, and does not wait
-student-counts : (times (isPlaced 0) (sheet student settings two-wait) ≡ 1) × (times (isGivenOut 0) (sheet student settings two-wait) ≡ 0)
-    × (times (isStruck 0) (sheet student settings two-wait) ≡ 0) × (waits (deskAfter student settings two-wait .core) 0 ≡ false)
+student-counts : (times (isPlaced 0) (log student settings two-wait) ≡ 1) × (times (isGivenOut 0) (log student settings two-wait) ≡ 0)
+    × (times (isStruck 0) (log student settings two-wait) ≡ 0) × (waits (deskAfter student settings two-wait .core) 0 ≡ false)
 unfolding student happens heard if_then_else_ waiting lineOf before ahead enter anotherAtLeast without emptyHall alone effective seatOf freeSeat withSeat octetsOf nameOf noNames withName same seatNamed lengthAllowed ssrcTaken seated join next given givenAtOnce entersIdle revokes waits priorityIn full presses denied infoOf holderAsks informed pressed rule6 asksAgain placed request fresh starts callerOf step does
 student-counts = (refl, refl, refl, refl)
 
@@ -119,8 +119,8 @@ stays d x = stillThere d (happens d x .report .marks .given) (happens d x)
 abbrev handed-over : History
 handed-over = lets-go 2 ∷ one-waits
 
-stays-counts : (times (isPlaced 0) (sheet stays settings handed-over) ≡ 1) × (times (isGivenOut 0) (sheet stays settings handed-over) ≡ 1)
-    × (times (isStruck 0) (sheet stays settings handed-over) ≡ 0) × (waits (deskAfter stays settings handed-over .core) 0 ≡ true)
+stays-counts : (times (isPlaced 0) (log stays settings handed-over) ≡ 1) × (times (isGivenOut 0) (log stays settings handed-over) ≡ 1)
+    × (times (isStruck 0) (log stays settings handed-over) ≡ 0) × (waits (deskAfter stays settings handed-over .core) 0 ≡ true)
 unfolding stays happens heard if_then_else_ waiting lineOf before ahead enter anotherAtLeast without emptyHall alone effective seatOf freeSeat withSeat octetsOf nameOf noNames withName same seatNamed lengthAllowed ssrcTaken seated join next given givenAtOnce givenOutOfLine entersIdle passesOn floorEnds revokes waits priorityIn full presses denied infoOf holderAsks informed pressed rule6 asksAgain placed request fresh starts callerOf struckOff releases step does
 stays-counts = (refl, refl, refl, refl)
 
@@ -143,7 +143,7 @@ invented = (refl, refl)
 pub invents-a-mark : StruckForAReason invents → ⊥
 invents-a-mark k = clash (k settings in-range [] begins 1 (invented .0)) (invented .1)
 
-invented-counts : (times (isPlaced 1) (sheet invents settings (begins ∷ [])) ≡ 0) × (times (isStruck 1) (sheet invents settings (begins ∷ [])) ≡ 1)
+invented-counts : (times (isPlaced 1) (log invents settings (begins ∷ [])) ≡ 0) × (times (isStruck 1) (log invents settings (begins ∷ [])) ≡ 1)
 unfolding invents happens heard does step starts entersIdle fresh next
 invented-counts = (refl, refl)
 
@@ -172,7 +172,7 @@ sent-back :
     × (sends-back (deskAfter sends-back settings asked-again) (lets-go 2) .report .marks .given ≡ OutOfLine 1)
     × (isIn 0 (waiting (deskAfter sends-back settings asked-again .core .line)) ≡ true)
     × (priorityOf 0 (waiting (deskAfter sends-back settings asked-again .core .line)) ≡ 5) × (priorityOf 1 (waiting (deskAfter sends-back settings asked-again .core .line)) ≡ 5)
-    × (latest 0 (sheet sends-back settings asked-again) ≡ 6) × (latest 1 (sheet sends-back settings asked-again) ≡ 7)
+    × (latest 0 (log sends-back settings asked-again) ≡ 6) × (latest 1 (log sends-back settings asked-again) ≡ 7)
 unfolding sends-back happens heard changed moves priorityOf if_then_else_ waiting lineOf before ahead enter anotherAtLeast without emptyHall alone effective seatOf freeSeat withSeat octetsOf nameOf noNames withName same seatNamed lengthAllowed ssrcTaken seated join next given givenAtOnce givenOutOfLine entersIdle passesOn floorEnds revokes waits priorityIn full presses denied infoOf holderAsks informed pressed rule6 asksAgain placed request fresh starts callerOf struckOff releases step does
 sent-back = (refl, refl, refl, refl, refl, refl, refl, refl, refl)
 

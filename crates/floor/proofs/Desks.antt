@@ -12,13 +12,12 @@ use mir.Val.{Fits}
 use borrow.Author.Tests.{eqb-true, ltb-true}
 use Rattle.words.specs.Choice.{if_then_else_}
 use Rattle.words.specs.Below.{and-left}
-use Rattle.octets.specs.Octets.{over}
+use Rattle.octets.specs.Octets.{over, Octets}
 use Rattle.message.specs.Answers.{Answer}
 use Rattle.rules.specs.declared.Core.{Core}
 use Rattle.hall.specs.declared.Hall.{Hall}
 use Rattle.hall.specs.declared.Names.{Names}
 use Rattle.form.specs.Form.{lettersFit, coreFits, hallFits, namesFit, canonical, coreAt, hallAt, namesAt, octetsOf}
-use Rattle.forms.specs.Forms.{Octets}
 use Rattle.forms.proofs.Fits.{length-octets}
 use Rattle.words.proofs.Tests.{and-five}
 use Rattle.sound.specs.Test.{isSound}

@@ -7,6 +7,7 @@ use mathlib.Core.Bool.{Bool, true, false, _&&_}
 use mathlib.Core.List.{List, [], _∷_, _++_}
 use lib.Dec.{leb, eqb}
 use lib.ListN.{length, getD, replicate}
+use Rattle.rules.specs.Request.{entry as entryOf}
 use Rattle.words.specs.Choice.{if_then_else_, one as flag}
 use Rattle.octets.specs.Octets.{be16, be32, octets16, octets32}
 use Rattle.line.specs.declared.Entry.{Entry}
@@ -124,9 +125,6 @@ flagAt s i = eqb (getD s i 0) 1
 
 unfoldable pub besideOf : ℕ → Beside
 besideOf n = if eqb n 0 then NoMore else if eqb n 1 then T2 else T20
-
-abbrev pub entryOf : ℕ → ℕ → Entry
-entryOf s p = record { seat = s; priority = p }
 
 unfoldable pub phaseOf : ℕ → ℕ → Entry → ℕ → Phase
 phaseOf kind timers holder cause =

@@ -15,12 +15,13 @@ ghost use mathlib.Core.List.{_++_, _∷_, []};
 ghost use Prim.Native.Nat.{_+_, _*_, _≤_, _<_, min};
 ghost use lib.Dec.{eqb};
 ghost use lib.ListN.{length, getD, replicate};
+ghost use Rattle.rules.specs.Request.{entry as entryOf};
 ghost use Rattle.words.specs.Choice.{one as flag};
 ghost use Rattle.octets.specs.Octets.{over};
 ghost use Rattle.line.specs.Line.{waiting, empty};
 ghost use Rattle.hall.specs.Identity.{octetsOf, nameAt};
 ghost use Rattle.form.specs.Columns.{column, rows};
-ghost use Rattle.form.specs.Form.{letters, kindOctet, besideOctet, timersOctet, holderIn, causeIn, phaseOctets, seatIn, priorityIn, lineOctets, coreOctets, flagOctets, seatOctets, wordOctets, settingsOctets, hallOctets, lengthOctets, nameOctets, namesOctets, besideOf, entryOf, phaseOf, phaseAt, entriesAt, coreAt, flagsAt, octetsAt, wordsAt, settingsAt, hallAt, nameIn, namesAt, upTo, phaseFits, lettersFit, coreFits, hallFits, namesFit, canonical};
+ghost use Rattle.form.specs.Form.{letters, kindOctet, besideOctet, timersOctet, holderIn, causeIn, phaseOctets, seatIn, priorityIn, lineOctets, coreOctets, flagOctets, seatOctets, wordOctets, settingsOctets, hallOctets, lengthOctets, nameOctets, namesOctets, besideOf, phaseOf, phaseAt, entriesAt, coreAt, flagsAt, octetsAt, wordsAt, settingsAt, hallAt, nameIn, namesAt, upTo, phaseFits, lettersFit, coreFits, hallFits, namesFit, canonical};
 
 // Whether octets hold what the table says. A test of a column has no early exit, so that it runs on many octets at once.
 

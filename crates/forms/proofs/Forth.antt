@@ -9,17 +9,18 @@ use mathlib.Core.List.{List, [], _∷_, _++_, append-assoc}
 use lib.Dec.{eqb, leb}
 use lib.ListN.{length, getD, take, length-take}
 use borrow.Author.Tests.{eqb-true, leb-true}
+use Rattle.rules.specs.Request.{entry as entryOf}
 use Rattle.words.specs.Choice.{one as flag}
-use Rattle.octets.specs.Octets.{be16, be32, octets16, octets32}
+use Rattle.octets.specs.Octets.{be16, be32, octets16, octets32, Octets}
 use Rattle.line.specs.Line.{waiting}
 use Rattle.hall.specs.declared.Name.{Name}
 use Rattle.hall.specs.Identity.{nameAt}
 use Rattle.hall.specs.Identity as identity
 use Rattle.form.specs.Columns.{column, rows, every}
-use Rattle.form.specs.Form.{letters, phaseOctets, lineOctets, coreOctets, flagOctets, seatOctets, wordOctets, settingsOctets, hallOctets, lengthOctets, nameOctets, namesOctets, octetsOf, octetAt, flagAt, entryOf, entryAt, phaseAt, entriesAt, coreAt, flagsAt, octetsAt, wordsAt, settingsAt, hallAt, nameIn, namesAt, upTo, phaseFits, lettersFit, coreFits, hallFits, namesFit, canonical}
+use Rattle.form.specs.Form.{letters, phaseOctets, lineOctets, coreOctets, flagOctets, seatOctets, wordOctets, settingsOctets, hallOctets, lengthOctets, nameOctets, namesOctets, octetsOf, octetAt, flagAt, entryAt, phaseAt, entriesAt, coreAt, flagsAt, octetsAt, wordsAt, settingsAt, hallAt, nameIn, namesAt, upTo, phaseFits, lettersFit, coreFits, hallFits, namesFit, canonical}
 use Rattle.form.proofs.Columns.{column-same, column-two, column-is-from-0, rows-same, length-column, getD-column, every-at}
 use Rattle.form.proofs.Pieces.{name-of-seat}
-use Rattle.forms.specs.Forms.{Octets, EveryStringForth}
+use Rattle.forms.specs.Forms.{EveryStringForth}
 use Rattle.words.proofs.Tests.{and-four, and-five}
 use Rattle.forms.proofs.Numbers.{forth16, forth32, flag-forth}
 use Rattle.forms.proofs.Phases.{Octets4, phase-forth}

@@ -7,12 +7,11 @@ use mathlib.Core.Bool.{Bool, true, false}
 use mathlib.Core.List.{List, [], _∷_, _++_}
 use lib.Dec.{eqb, leb}
 use lib.ListN.{getD}
-use Rattle.octets.specs.Octets.{be16, be32, octets16, octets32}
+use Rattle.octets.specs.Octets.{be16, be32, octets16, octets32, Octets}
 use Rattle.words.specs.Choice.{by-test, one as flag}
 use borrow.Author.Tests.{eqb-true, eqb-false, leb-true}
 use Rattle.form.specs.Columns.{column}
 use Rattle.form.specs.Form.{octetAt}
-use Rattle.forms.specs.Forms.{Octets}
 
 -- back: two octets, and four, are the number that they were made of, however large
 pub back16 : (n : ℕ) → 256 * (n / 256) + n % 256 ≡ n

@@ -6,13 +6,13 @@ use mathlib.Core.Bool.{true}
 use mathlib.Core.List.{List, _++_, append-assoc}
 use lib.ListN.{length, drop}
 use lib.Seq.{drop-at}
-use Rattle.octets.specs.Octets.{over}
+use Rattle.octets.specs.Octets.{over, Octets}
 use Rattle.hall.specs.declared.Hall.{Hall}
 use Rattle.hall.specs.declared.Names.{Names}
 use Rattle.rules.specs.declared.Core.{Core}
 use Rattle.form.specs.Form.{letters, coreOctets, hallOctets, namesOctets, octetsOf, coreAt, hallAt, namesAt, canonical}
 use Rattle.form.proofs.Places.{over-behind}
-use Rattle.forms.specs.Forms.{Octets, StandsFor, OneString, CoreWritten}
+use Rattle.forms.specs.Forms.{StandsFor, OneString, CoreWritten}
 use Rattle.forms.proofs.Fits.{length-core}
 use Rattle.forms.proofs.Forth.{forth}
 

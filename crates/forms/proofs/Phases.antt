@@ -4,6 +4,7 @@ use native.Mathlib.Omega.{arith}
 use mathlib.Core.Path.{_≡_, refl, sym, ap, _∙_}
 use mathlib.Core.Bool.{Bool, true, false, _&&_}
 use lib.Dec.{eqb, leb}
+use Rattle.rules.specs.Request.{entry as entryOf}
 use Rattle.words.specs.Choice.{if_then_else_, by-test, one as flag}
 use borrow.Author.Tests.{eqb-true, eqb-false, leb-true}
 use Rattle.line.specs.declared.Entry.{Entry}
@@ -11,7 +12,7 @@ use Rattle.rules.specs.declared.Beside.{Beside}
 use Rattle.rules.specs.declared.Beside.the-variants.{NoMore, T2, T20}
 use Rattle.rules.specs.declared.Phase.{Phase}
 use Rattle.rules.specs.declared.Phase.the-variants.{Stopped, Idle, Taken, Revoking}
-use Rattle.form.specs.Form.{kindOctet, timersOctet, besideOctet, holderIn, causeIn, phaseOf, besideOf, phaseFits, entryOf}
+use Rattle.form.specs.Form.{kindOctet, timersOctet, besideOctet, holderIn, causeIn, phaseOf, besideOf, phaseFits}
 use Rattle.words.proofs.Tests.{and-both, and-four}
 use Rattle.forms.proofs.Numbers.{flag-back, flag-fits, flag-forth}
 

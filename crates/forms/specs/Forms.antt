@@ -6,11 +6,11 @@ use mathlib.Core.Path.{_≡_}
 use mathlib.Core.Bool.{true}
 use mathlib.Core.List.{List}
 use lib.ListN.{length, getD}
-use Rattle.octets.specs.Octets.{over}
+use Rattle.octets.specs.Octets.{over, Octets}
 use Rattle.line.specs.Line.{waiting, lineOf}
 use Rattle.hall.specs.declared.Hall.{Hall}
 use Rattle.hall.specs.declared.Names.{Names}
-use Rattle.hall.specs.Identity.{nameOf, nameAt}
+use Rattle.hall.specs.Identity.{nameOf, nameAt, Sixteen}
 use Rattle.hall.specs.Identity as identity
 use Rattle.rules.specs.declared.Core.{Core}
 use Rattle.form.specs.Form.{coreOctets, octetsOf, coreAt, hallAt, namesAt, canonical}
@@ -18,7 +18,7 @@ use Rattle.form.specs.Form.{coreOctets, octetsOf, coreAt, hallAt, namesAt, cano
 -- a desk of the right shape, as steps leave every desk: columns of sixteen, empty places behind those who wait, zeros behind an identity
 pub record Shaped (c : Core) (h : Hall) (ns : Names) : Type 0 where
   pub line : c .line ≡ lineOf (waiting (c .line))
-  pub columns : (length (h .present) ≡ 16) × (length (h .ssrcs) ≡ 16) × (length (h .highest) ≡ 16) × (length (h .queueing) ≡ 16) × (length (h .listener) ≡ 16) × (length (ns .«of») ≡ 16)
+  pub columns : Sixteen h ns
   pub behind : (s : ℕ) → nameAt ns s ≡ nameOf (identity.octetsOf (nameAt ns s))
 
 -- the octets stand for this desk
@@ -26,9 +26,6 @@ pub record StandsFor (s : List ℕ) (c : Core) (h : Hall) (ns : Names) : Type 0 
   pub core : coreAt s ≡ c
   pub hall : hallAt s ≡ h
   pub names : namesAt s ≡ ns
-
-abbrev pub Octets : List ℕ → Type 0
-Octets s = (i : ℕ) → getD s i 0 < 256
 
 -- Back (proofs/Fits, on proofs/Back): the octets of a desk hold what the table says, and stand for that desk
 pub record Back (c : Core) (h : Hall) (ns : Names) : Type 0 where

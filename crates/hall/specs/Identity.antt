@@ -2,6 +2,7 @@
 use Prim.Native.Nat.{ℕ}
 use mathlib.Core.Bool.{Bool, true, false, _&&_}
 use mathlib.Core.List.{List, [], _∷_}
+use mathlib.Core.Path.{_≡_}
 use lib.Dec.{leb, eqb}
 use lib.ListN.{length, take, getD, set, replicate}
 use Rattle.words.specs.Choice.{if_then_else_}
@@ -26,6 +27,13 @@ noNames = record { «of» = replicate 16 noName }
 
 abbrev pub nameAt : Names → ℕ → Name
 nameAt ns s = getD (ns .«of») s noName
+
+-- each column of a hall, and the names, have a place for each of the sixteen seats
+abbrev pub Sixteen : Hall → Names → Type 0
+Sixteen h ns =
+    (length (h .present) ≡ 16) × (length (h .ssrcs) ≡ 16) × (length (h .highest) ≡ 16) × (length (h .queueing) ≡ 16)
+    × (length (h .listener) ≡ 16)
+    × (length (ns .«of») ≡ 16)
 
 unfoldable pub withName : Names → ℕ → Name → Names
 withName ns s n = record { «of» = set (ns .«of») s n }

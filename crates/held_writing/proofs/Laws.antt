@@ -12,6 +12,7 @@ use mathlib.Core.Path.{_≡_, refl, sym, ap, _∙_}
 use lib.Dec.{eqb, ltb}
 use lib.ListN.{length, List·getD-eq-default}
 use borrow.Author.Tests.{eqb-true, eqb-false, ltb-true, ltb-false, ne-eqb, eq-eqb, lt-ltb, le-ltb}
+use Rattle.writing.specs.Wire.{firstOctet}
 use Rattle.words.specs.Choice.{if_then_else_, by-test}
 use Rattle.words.specs.Below.{below}
 use Rattle.words.proofs.Tests.{clash}
@@ -24,7 +25,7 @@ use Rattle.message.specs.declared.Kind.the-variants.{Request, Granted, Taken, D
 use Rattle.message.specs.declared.Typed.{Typed}
 use Rattle.message.specs.declared.Typed.the-variants.{Listed, Unlisted}
 use Rattle.writing.specs.Writing.{lies, readable}
-use Rattle.writing.specs.Puts.{fitting, firstOctet, octetSize, wordSize, queueSize, numberSize, partSize, causeSize, frontSize, restSize}
+use Rattle.writing.specs.Puts.{fitting, octetSize, wordSize, queueSize, numberSize, partSize, causeSize, frontSize, restSize}
 use Rattle.writing.proofs.Headers.{type-small as small}
 use Rattle.writing.proofs.Fits.{readable-by}
 use Rattle.writing.proofs.Whole.{refused-12}

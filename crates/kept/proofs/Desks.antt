@@ -4,6 +4,7 @@ use mathlib.Core.Path.{_≡_, refl, ap, sym, _∙_}
 use mathlib.Core.Bool.{true}
 use mathlib.Core.List.{List, [], _∷_}
 use lib.ListN.{length}
+use Rattle.octets.specs.Octets.{Octets}
 use Rattle.words.specs.Below.{and-left, and-right}
 use Rattle.hall.specs.declared.Settings.{Settings}
 use Rattle.hall.specs.Seats.{inRange}
@@ -14,7 +15,7 @@ use Rattle.reach.proofs.Reach.{sound-made, sound-kept}
 use Rattle.form.specs.Form.{octetAt, coreAt, entriesAt, flagsAt, octetsAt, wordsAt, hallAt, nameIn, namesAt, canonical}
 use Rattle.form.specs.Columns.{column}
 use Rattle.form.proofs.Columns.{length-column, getD-column}
-use Rattle.forms.specs.Forms.{Octets, Back}
+use Rattle.forms.specs.Forms.{Back}
 use Rattle.forms.proofs.Fits.{back}
 use Rattle.forms.proofs.Forth.{forth}
 use Rattle.sound.specs.Test.{isSound}

@@ -6,3 +6,4 @@ pub mod Refusals
 pub mod Steps
 pub mod Made
 pub mod Loaded
+pub mod Wall

@@ -8,7 +8,7 @@ use mathlib.Core.List.{List, [], _∷_, _++_}
 use lib.Dec.{eqb, ltb}
 use lib.ListN.{length, take, drop}
 use borrow.Author.Tests.{not-false, lt-ltb, le-leb}
-use Rattle.octets.specs.Octets.{part}
+use Rattle.octets.specs.Octets.{part, Octets}
 use Rattle.hall.specs.declared.Hall.{Hall}
 use Rattle.hall.specs.declared.Names.{Names}
 use Rattle.hall.specs.declared.Found.{Found}
@@ -23,7 +23,6 @@ use Rattle.sheet.specs.Layout.{Seat, form, letters}
 use Rattle.sheet.specs.Loading.{Load, Seats, whole, fault, refused, ifSeated, joinAll, seatAll, settled, loading, settingsPlace, settingsAt, whoIs, readSeat, identityLength, afterSeat, laidOut, infront, readSeats, zeros, settingsOffset, seatsOffset, seatCount, formOf, lettersOf}
 use Rattle.sheets.proofs.Back.{saved-loads}
 use Rattle.form.specs.Form.{hallAt, namesAt}
-use Rattle.forms.specs.Forms.{Octets}
 use Rattle.words.proofs.Tests.{both, five, neither-left}
 use Rattle.floor.specs.Floor.{inOctets, settable, written, loadOn}
 use Rattle.kept.specs.Kept.{Fits, AllFit, leftByAll, didAll, Settable, deskIn, joinsOf, seatedFrom, settingsOn, joinsOn, LoadedInForm, SavedIsLoaded, FromLoaded}

@@ -8,8 +8,9 @@ use native.Mathlib.Omega.{arith}
 use lib.Dec.{eqb}
 use lib.ListN.{length, getD, replicate}
 use borrow.Author.Tests.{eqb-true}
+use Rattle.rules.specs.Request.{entry as entryOf}
 use Rattle.words.specs.Choice.{by-test, by-if, one as flag}
-use Rattle.octets.specs.Octets.{be16, be32, octets16, octets32}
+use Rattle.octets.specs.Octets.{be16, be32, octets16, octets32, Octets}
 use Rattle.line.specs.declared.Entry.{Entry}
 use Rattle.line.specs.declared.Line.{Line}
 use Rattle.line.specs.Line.{waiting, empty}
@@ -34,9 +35,8 @@ use Rattle.desk.specs.Events.{fresh, leave}
 use Rattle.history.specs.Doing.{Desk, Doing, event, leaves as leaving, joins as joining, made, does, deskOf, after}
 use Rattle.reach.specs.Sound.{Sound, causeOk}
 use Rattle.reach.proofs.Hall.{hall-ok}
-use Rattle.form.specs.Form.{letters, kindOctet, besideOctet, timersOctet, holderIn, causeIn, phaseOctets, seatIn, priorityIn, lineOctets, coreOctets, flagOctets, seatOctets, wordOctets, settingsOctets, hallOctets, lengthOctets, nameOctets, namesOctets, octetsOf, octetAt, entryOf, phaseOf, phaseAt, entryAt, entriesAt, coreAt, octetsAt, wordsAt, settingsAt, hallAt, nameIn, namesAt}
+use Rattle.form.specs.Form.{letters, kindOctet, besideOctet, timersOctet, holderIn, causeIn, phaseOctets, seatIn, priorityIn, lineOctets, coreOctets, flagOctets, seatOctets, wordOctets, settingsOctets, hallOctets, lengthOctets, nameOctets, namesOctets, octetsOf, octetAt, phaseOf, phaseAt, entryAt, entriesAt, coreAt, octetsAt, wordsAt, settingsAt, hallAt, nameIn, namesAt}
 use Rattle.form.specs.Columns.{column, rows}
-use Rattle.forms.specs.Forms.{Octets}
 use Rattle.forms.proofs.Back.{name-short}
 use Rattle.words.proofs.Tests.{or-else}
 use Rattle.kept.specs.Kept.{deskAt, octetsFor, Fits, DoingFits}

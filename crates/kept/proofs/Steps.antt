@@ -10,7 +10,7 @@ use Rattle.words.specs.Choice.{if_then_else_, by-if}
 use Rattle.message.specs.Answers.{Answer, refused, result}
 use Rattle.message.specs.declared.Message.{Message}
 use Rattle.reading.specs.Reading.{reading}
-use Rattle.octets.specs.Octets.{over}
+use Rattle.octets.specs.Octets.{over, Octets}
 use Rattle.hall.specs.Answers.{number}
 use Rattle.hall.specs.declared.Newcomer.{Newcomer}
 use Rattle.hall.specs.declared.Joined.{Joined}
@@ -21,7 +21,6 @@ use Rattle.history.specs.Doing.{Desk, Doing, event, leaves as leaving, joins as
 use Rattle.call.specs.declared.Called.{Called}
 use Rattle.call.specs.Call.{eventOf, byReading, hears}
 use Rattle.form.specs.Form.{coreAt, hallAt, namesAt}
-use Rattle.forms.specs.Forms.{Octets}
 use Rattle.floor.specs.declared.Named.{Named}
 use Rattle.floor.specs.declared.Named.the-variants.{Known, Unknown}
 use Rattle.floor.specs.Floor.{formed, Leaves, leaves, settles, calledOn, leftOn, written, eventOn, firedOn}

@@ -2,16 +2,19 @@
 -- mark"; "Octets not in that form get 20, before all else; a step writes only octets in it, and every desk that steps can reach from a fresh
 -- one has octets there, which stand for that desk alone". Each statement here is proved in proofs/, in the file named beside it. Octets are
 -- numbers below 256, as all that is lent. Assumes nothing.
-use Prim.Native.Nat.{ℕ, _≤_, _<_}
+use Prim.Native.Nat.{ℕ, _/_, _≤_, _<_}
 use mathlib.Core.Path.{_≡_}
 use mathlib.Core.Bool.{true, false}
 use mathlib.Core.List.{List, [], _∷_, _++_}
 use lib.Dec.{eqb}
 use lib.ListN.{length, take}
+use Rattle.octets.specs.Octets.{Octets}
 use Rattle.words.specs.Choice.{if_then_else_}
 use Rattle.message.specs.Answers.{Answer, refused, result}
 use Rattle.message.specs.declared.Message.{Message}
 use Rattle.reading.specs.Reading.{reading}
+use Rattle.line.specs.declared.Entry.{Entry}
+use Rattle.screen.specs.Screen.{answered}
 use Rattle.hall.specs.Answers.{number}
 use Rattle.hall.specs.declared.Settings.{Settings}
 use Rattle.hall.specs.declared.Newcomer.{Newcomer}
@@ -23,10 +26,9 @@ use Rattle.sheet.specs.Layout.{Seat, seatsOf, sheetOf}
 use Rattle.sheet.specs.Loading.{Seats, whole, fault, settingsAt, settingsPlace, seatCount, readSeats, loading}
 use Rattle.sheets.specs.Sheets.{IsDesk}
 use Rattle.form.specs.Form.{octetsOf, coreAt, hallAt, namesAt}
-use Rattle.forms.specs.Forms.{Octets}
 use Rattle.floor.specs.declared.Named.{Named}
 use Rattle.floor.specs.declared.Named.the-variants.{Known, Unknown}
-use Rattle.floor.specs.Floor.{formed, Leaves, leaves, eventOn, packetOn, notRunning, firedOn, leaveOn, joinOn, settable, makeOn, loadOn}
+use Rattle.floor.specs.Floor.{formed, Leaves, leaves, eventOn, packetOn, notRunning, firedOn, leaveOn, joinOn, settable, makeOn, loadOn, signed, screened}
 
 -- WHAT A C PROGRAM HAS
 
@@ -231,6 +233,11 @@ SavedIsLoaded =
     (d room : List ℕ) → Octets d → formed d ≡ true → 1200 ≤ length room →
     let sheet = sheetOf (hallAt d) (namesAt d) in
     (loadOn room sheet .0 ≡ 0) × IsDesk (loading sheet) (seatsOf (hallAt d) (namesAt d)) (hallAt d .settings)
+
+-- "THE WALL SCREEN IS HANDED THE LINE AS A LIST OF ENTRIES" (proofs/Wall): two octets an entry, and C is answered as the crate `screen` answers
+
+abbrev pub OneScreen : Type 0
+OneScreen = (es : List Entry) (room : List ℕ) → screened es room .0 ≡ signed (answered es (length room / 2))
 
 -- SO WHATEVER A C PROGRAM DOES, ITS DESK IS ONE THAT STEPS REACH FROM A FRESH ONE (proofs/Made, proofs/Loaded)
 

@@ -1,8 +1,12 @@
 -- Numbers as octets, a part of some octets, and octets written over others: "All numbers are big-endian" (document 01, "The packet").
 -- Nothing here knows of packets. Assumes nothing.
-use Prim.Native.Nat.{ℕ, _+_, _*_, _/_, _%_}
+use Prim.Native.Nat.{ℕ, _+_, _*_, _/_, _%_, _<_}
 use mathlib.Core.List.{List, [], _∷_, _++_}
 use lib.ListN.{length, getD, take, drop}
+
+-- each of these numbers is an octet
+abbrev pub Octets : List ℕ → Type 0
+Octets s = (i : ℕ) → getD s i 0 < 256
 
 -- the number that two octets, and four, stand for from a place on
 unfoldable pub be16 : List ℕ → ℕ → ℕ

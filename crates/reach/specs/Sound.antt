@@ -11,7 +11,7 @@ use Rattle.line.specs.Line.{waiting, lineOf, isIn}
 use Rattle.hall.specs.declared.Hall.{Hall}
 use Rattle.hall.specs.declared.Names.{Names}
 use Rattle.hall.specs.Seats.{isPresent, inRange}
-use Rattle.hall.specs.Identity.{octetsOf, nameOf, noName, nameAt, same, lengthAllowed}
+use Rattle.hall.specs.Identity.{octetsOf, nameOf, noName, nameAt, same, lengthAllowed, Sixteen}
 use Rattle.rules.specs.declared.Phase.{Phase}
 use Rattle.rules.specs.declared.Phase.the-variants.{Stopped, Idle, Taken, Revoking}
 use Rattle.rules.specs.declared.Core.{Core}
@@ -85,7 +85,7 @@ pub record CoreOk (h : Hall) (c : Core) : Type 0 where
 -- them; a free seat has zeros throughout
 pub record SeatsOk (h : Hall) (ns : Names) : Type 0 where
   pub settings : inRange (h .settings) ≡ true
-  pub columns : (length (h .present) ≡ 16) × (length (h .ssrcs) ≡ 16) × (length (h .highest) ≡ 16) × (length (h .queueing) ≡ 16) × (length (h .listener) ≡ 16) × (length (ns .«of») ≡ 16)
+  pub columns : Sixteen h ns
   pub ssrcs : (s t : ℕ) → isPresent h s ≡ true → isPresent h t ≡ true → getD (h .ssrcs) s 0 ≡ getD (h .ssrcs) t 0 → s ≡ t
   pub desk : (s : ℕ) → isPresent h s ≡ true → getD (h .ssrcs) s 0 ≡ h .settings .ssrc → ⊥
   pub lengths : (s : ℕ) → isPresent h s ≡ true → lengthAllowed (octetsOf (nameAt ns s)) ≡ true

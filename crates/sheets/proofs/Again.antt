@@ -9,14 +9,14 @@ use lib.ListN.{length, getD, take, drop, take-append-drop}
 use lib.Seq.{length-take-le}
 use borrow.Author.Tests.{ltb-true, ltb-false, eqb-true, eqb-false}
 use Rattle.words.specs.Choice.{by-test}
-use Rattle.octets.specs.Octets.{be16}
+use Rattle.octets.specs.Octets.{be16, Octets}
 use Rattle.hall.specs.declared.Settings.{Settings}
 use Rattle.hall.specs.Seats.{inRange, emptyHall}
 use Rattle.hall.specs.Identity.{noNames}
 use Rattle.sheet.specs.Layout.{Seat, form, letters, seatsOctets, sheet, sheetOf}
 use Rattle.sheet.specs.Loading.{Load, refused, settingsPlace, settingsAt, zeros, settingsOffset, seatsOffset, seatCount, formOf, lettersOf, Seats, whole, fault, readSeats, joinAll, seatAll, settled, loading}
 use Rattle.sheet.proofs.Loads.{loads-short, loads-letters, loads-form, loads-count, loads-settings, loads-seats, loads-framed, settles-range, settles-zeros, settles}
-use Rattle.sheets.specs.Sheets.{IsDesk, Octets, WrittenBack}
+use Rattle.sheets.specs.Sheets.{IsDesk, WrittenBack}
 use Rattle.sheets.proofs.Read.{ending, sheet-ends}
 use Rattle.sheets.proofs.Printed.{seats-back, ending-back}
 use Rattle.sheets.proofs.Back.{joined}

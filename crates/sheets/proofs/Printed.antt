@@ -11,12 +11,11 @@ use lib.Seq.{drop-cons, drop-drop, take-add, take-all}
 use borrow.Author.Tests.{ltb-true, eqb-true, eqb-false}
 use Rattle.words.specs.Choice.{if_then_else_, by-test}
 use Rattle.words.specs.Below.{and-right}
-use Rattle.octets.specs.Octets.{be16, be32, octets16, octets32, part}
+use Rattle.octets.specs.Octets.{be16, be32, octets16, octets32, part, Octets}
 use Rattle.octets.proofs.Over.{length-part}
 use Rattle.sheet.specs.Layout.{Seat, form, letters, flags, seatOctets, seatsOctets, settingsOctets, trailer}
 use Rattle.sheet.specs.Loading.{settingsPlace, settingsAt, identityLength, afterSeat, whoIs, readSeat, laidOut, Seats, whole, fault, infront, readSeats}
 use Rattle.sheet.proofs.Loads.{laid-fits}
-use Rattle.sheets.specs.Sheets.{Octets}
 use Rattle.sheets.proofs.Numbers.{octets16-again, octets32-again}
 use Rattle.sheets.proofs.Read.{ending}
 

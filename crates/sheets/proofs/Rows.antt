@@ -17,7 +17,7 @@ use Rattle.hall.specs.declared.Names.{Names}
 use Rattle.hall.specs.declared.Hall.{Hall}
 use Rattle.hall.specs.declared.Found.the-variants.{At, Nowhere}
 use Rattle.hall.specs.Seats.{emptyHall, isPresent, firstFrom, freeSeat, withSeat}
-use Rattle.hall.specs.Identity.{octetsOf, nameOf, noName, noNames, withName, lengthAllowed}
+use Rattle.hall.specs.Identity.{octetsOf, nameOf, noName, noNames, Sixteen, withName, lengthAllowed}
 use Rattle.hall.proofs.Laws.{allowed-short, name-octets}
 use Rattle.sheet.specs.Layout.{Seat, seatAt, seatsFrom, seatsOf}
 
@@ -36,26 +36,16 @@ unfolding if_then_else_
 first-none test zero s f = refl
 first-none test (suc n) s f = rw (f s (omega arith)) (first-none test n (suc s) (λ i h. f i (omega arith)))
 
--- the arrays of a hall have 16 places
-pub record Sixteen (h : Hall) (ns : Names) : Type 0 where
-  pub present : length (h .present) ≡ 16
-  pub ssrcs : length (h .ssrcs) ≡ 16
-  pub highest : length (h .highest) ≡ 16
-  pub queueing : length (h .queueing) ≡ 16
-  pub listener : length (h .listener) ≡ 16
-  pub names : length (ns .«of») ≡ 16
-
 pub sixteen-with : (h : Hall) (ns : Names) (s : ℕ) (here : Bool) (n : Newcomer) (name : Name) → Sixteen h ns → Sixteen (withSeat h s here n) (withName ns s name)
 unfolding withSeat withName
-sixteen-with h ns s here n name l =
-    record {
-      present = length-set (h .present) s here ∙ l .present;
-      ssrcs = length-set (h .ssrcs) s (n .ssrc) ∙ l .ssrcs;
-      highest = length-set (h .highest) s (n .highest) ∙ l .highest;
-      queueing = length-set (h .queueing) s (n .queueing) ∙ l .queueing;
-      listener = length-set (h .listener) s (n .listener) ∙ l .listener;
-      names = length-set (ns .«of») s name ∙ l .names;
-    }
+sixteen-with h ns s here n name l = (
+  length-set (h .present) s here ∙ l .0,
+  length-set (h .ssrcs) s (n .ssrc) ∙ l .1,
+  length-set (h .highest) s (n .highest) ∙ l .2,
+  length-set (h .queueing) s (n .queueing) ∙ l .3,
+  length-set (h .listener) s (n .listener) ∙ l .4,
+  length-set (ns .«of») s name ∙ l .5,
+)
 
 -- what stands at a seat once one seat is set: the new, or what stood there
 module _ (h : Hall) (ns : Names) (s : ℕ) (here : Bool) (n : Newcomer) (name : Name) where
@@ -77,17 +67,17 @@ module _ (h : Hall) (ns : Names) (s : ℕ) (here : Bool) (n : Newcomer) (name : 
   module _ (l : Sixteen h ns) (w : s < 16) where
     pub present-same : isPresent (withSeat h s here n) s ≡ here
     unfolding withSeat
-    present-same = getD-set-same (h .present) s here false (omega (arith, l .present))
+    present-same = getD-set-same (h .present) s here false (omega (arith, l .0))
 
     pub seat-same : seatAt (withSeat h s here n) (withName ns s name) s ≡ record { who = n; identity = octetsOf name }
     unfolding withSeat withName
     seat-same =
         rw (
-          getD-set-same (h .ssrcs) s (n .ssrc) 0 (omega (arith, l .ssrcs)),
-          getD-set-same (h .highest) s (n .highest) 0 (omega (arith, l .highest)),
-          getD-set-same (h .queueing) s (n .queueing) false (omega (arith, l .queueing)),
-          getD-set-same (h .listener) s (n .listener) false (omega (arith, l .listener)),
-          getD-set-same (ns .«of») s name noName (omega (arith, l .names)),
+          getD-set-same (h .ssrcs) s (n .ssrc) 0 (omega (arith, l .1)),
+          getD-set-same (h .highest) s (n .highest) 0 (omega (arith, l .2)),
+          getD-set-same (h .queueing) s (n .queueing) false (omega (arith, l .3)),
+          getD-set-same (h .listener) s (n .listener) false (omega (arith, l .4)),
+          getD-set-same (ns .«of») s name noName (omega (arith, l .5)),
         )
 
 -- a seat past the end of a list, where a list's look-up asks for one
@@ -103,7 +93,7 @@ pub row-starts : (st : Settings) (zs : List Seat) → Row (emptyHall st) noNames
 unfolding emptyHall noNames
 row-starts st zs =
     record {
-      long = record { present = refl; ssrcs = refl; highest = refl; queueing = refl; listener = refl; names = refl };
+      long = (refl, refl, refl, refl, refl, refl);
       present = λ i h. getD-replicate 16 i false false h ∙ sym (le-ltb i 0 (omega arith));
       seats = λ i h. absurd (omega arith);
     }

@@ -6,6 +6,7 @@ use mathlib.Core.List.{List}
 use mathlib.Core.Path.{_≡_}
 use lib.Dec.{ltb}
 use lib.ListN.{length, getD}
+use Rattle.octets.specs.Octets.{Octets}
 use Rattle.hall.specs.declared.Settings.{Settings}
 use Rattle.hall.specs.declared.Hall.{Hall}
 use Rattle.hall.specs.declared.Names.{Names}
@@ -38,9 +39,6 @@ SavedFromAny = (g : Settings) → inRange g ≡ true → (xs : List Doing) →
     IsDesk (loading (sheetOf (d .hall) (d .names))) (seatsOf (d .hall) (d .names)) (d .hall .settings)
 
 -- "an accepted sheet is written back octet for octet" (proofs/Again); each is an octet, so below 256
-abbrev pub Octets : List ℕ → Type 0
-Octets s = (i : ℕ) → getD s i 0 < 256
-
 abbrev pub WrittenBack : Type 0
 WrittenBack = (s : List ℕ) → Octets s → loading s .number ≡ 0 → sheetOf (loading s .hall) (loading s .names) ≡ s
 

@@ -10,6 +10,7 @@ use lib.Dec.{eqb, leb, ltb}
 use lib.ListN.{length, take, getD, length-take, List·getD-eq-default}
 use lib.Seq.{getD-take}
 use borrow.Author.Tests.{eqb-true, eq-eqb, leb-true, le-leb, ltb-true, ltb-false, le-ltb, not-true, ne-eqb}
+use Rattle.rules.specs.Request.{entry as entryOf}
 use Rattle.words.specs.Choice.{if_then_else_, by-test}
 use Rattle.words.specs.Below.{allBelow, below, and-left, and-right}
 use Rattle.words.proofs.Tests.{clash, both, and-five, or-left, or-right, or-else}
@@ -19,7 +20,7 @@ use Rattle.line.proofs.Laws.{before-here, before-later}
 use Rattle.octets.specs.Octets.{be16}
 use Rattle.hall.specs.Seats.{isPresent}
 use Rattle.rules.specs.declared.Phase.the-variants.{Stopped, Idle, Taken, Revoking}
-use Rattle.form.specs.Form.{octetAt, flagAt, besideOf, entryOf, phaseOf, phaseAt, entryAt, entriesAt, coreAt, flagsAt, settingsAt, hallAt, phaseFits, coreFits}
+use Rattle.form.specs.Form.{octetAt, flagAt, besideOf, phaseOf, phaseAt, entryAt, entriesAt, coreAt, flagsAt, settingsAt, hallAt, phaseFits, coreFits}
 use Rattle.form.proofs.Columns.{length-column, getD-column}
 use Rattle.sound.specs.Test.{inOrder, isFirst, placeSound, placeBehind, lineSound, floorSound, coreSound}
 use Rattle.sound.specs.Line.{lineIn, isAnother}

@@ -5,11 +5,11 @@ use mathlib.Core.Path.{_≡_}
 use lib.ListN.{length}
 use Rattle.hall.specs.declared.Hall.{Hall}
 use Rattle.hall.specs.declared.Names.{Names}
-use Rattle.hall.specs.Identity.{nameAt}
+use Rattle.hall.specs.Identity.{nameAt, Sixteen}
 use Rattle.history.specs.Doing.{Desk}
 
 pub record ShapedSeats (h : Hall) (ns : Names) : Type 0 where
-  pub columns : (length (h .present) ≡ 16) × (length (h .ssrcs) ≡ 16) × (length (h .highest) ≡ 16) × (length (h .queueing) ≡ 16) × (length (h .listener) ≡ 16) × (length (ns .«of») ≡ 16)
+  pub columns : Sixteen h ns
   pub octets : (s : ℕ) → s < 16 → length (nameAt ns s .octets) ≡ 62
 
 pub record Shaped (d : Desk) : Type 0 where

@@ -9,8 +9,7 @@ use Rattle.message.specs.Message.{said, fieldsOf}
 use Rattle.message.specs.declared.Message.{Message}
 use Rattle.message.specs.declared.Kind.{Kind}
 use Rattle.message.specs.declared.Kind.the-variants.{Request, Granted, Taken, Deny, Release, Idle, Revoke, QueuePositionRequest, QueuePositionInfo, Ack}
-use Rattle.writing.specs.Wire.{header, body}
-use Rattle.writing.specs.Puts.{headed, firstOctet}
+use Rattle.writing.specs.Wire.{header, body, headed, firstOctet}
 
 pub type-small : (k : Kind) → typeNumber k ≤ 10
 type-small Request = omega arith

@@ -19,7 +19,7 @@ use Rattle.message.specs.declared.Queue.{Queue}
 use Rattle.message.specs.declared.Part.{Part}
 use Rattle.message.specs.declared.Cause.{Cause}
 use Rattle.message.specs.declared.Message.{Message}
-use Rattle.writing.specs.Wire.{optional, body, header, wire}
+use Rattle.writing.specs.Wire.{optional, body, header, wire, headed, firstOctet}
 use Rattle.writing.specs.Writing.{partLies, phraseLies, readable}
 use Rattle.writing.specs.Puts.{Held, octetSize, wordSize, queueSize, numberSize, partSize, causeSize, frontFields, restFields, frontSize, restSize}
 use Rattle.writing.proofs.Fields.{octet-is, word-is, queue-is, number-is, identity-is, cause-is, text-length, part-lies, phrase-lies}
@@ -98,7 +98,7 @@ module _ (m : Message) (src : List ℕ) (h : Held m src) where
   body-length = rw (halves m src, length-append, front-length, rest-length)
 
 pub header-length : (s : Said) → length (header s) ≡ 12
-unfolding header octets16 octets32
+unfolding header headed firstOctet octets16 octets32
 header-length s = refl
 
 pub wire-length : (m : Message) (src : List ℕ) → Held m src → length (wire (said m src)) ≡ 12 + (frontSize m + restSize m)

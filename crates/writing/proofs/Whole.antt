@@ -13,9 +13,9 @@ use Rattle.octets.specs.Octets.{over}
 use Rattle.message.specs.Message.{said}
 use Rattle.message.specs.Answers.{refused, result}
 use Rattle.message.specs.declared.Message.{Message}
-use Rattle.writing.specs.Wire.{header, body, wire}
+use Rattle.writing.specs.Wire.{header, body, wire, headed, firstOctet}
 use Rattle.writing.specs.Writing.{readable, writing, written}
-use Rattle.writing.specs.Puts.{Laid, frontFields, restFields, frontSize, restSize, firstOctet, headed}
+use Rattle.writing.specs.Puts.{Laid, frontFields, restFields, frontSize, restSize}
 use Rattle.writing.proofs.Lays.{lay-fits, lay-rest, lay-join, lay-as}
 use Rattle.writing.proofs.Bodies.{halves}
 use Rattle.writing.proofs.Headers.{header-is}

@@ -1,15 +1,13 @@
 -- What the functions inside the writer say of themselves; document 01 needs none of it. Assumes nothing.
-use Prim.Native.Nat.{ℕ, _+_, _-_, _/_, _≤_}
+use Prim.Native.Nat.{ℕ, _+_, _≤_}
 use mathlib.Core.Bool.{Bool, true, not, _&&_}
-use mathlib.Core.List.{List, [], _∷_, _++_}
+use mathlib.Core.List.{List}
 use mathlib.Core.Path.{_≡_}
 use lib.Dec.{leb}
-use lib.ListN.{length}
+use lib.ListN.{length, take, drop}
 use Rattle.words.specs.Choice.{if_then_else_}
-use Rattle.octets.specs.Octets.{octets16, octets32, over}
-use Rattle.message.specs.Types.{typeNumber}
+use Rattle.octets.specs.Octets.{over}
 use Rattle.message.specs.Table.{padded, atFault}
-use Rattle.message.specs.declared.Kind.{Kind}
 use Rattle.message.specs.declared.Octet.{Octet}
 use Rattle.message.specs.declared.Word.{Word}
 use Rattle.message.specs.declared.Number.{Number}
@@ -17,7 +15,7 @@ use Rattle.message.specs.declared.Queue.{Queue}
 use Rattle.message.specs.declared.Part.{Part}
 use Rattle.message.specs.declared.Cause.{Cause}
 use Rattle.message.specs.declared.Message.{Message}
-use Rattle.message.specs.Message.{Field, field, ofOctet, ofWord, ofNumber, ofQueue, ofPart, ofCause}
+use Rattle.message.specs.Message.{Field, fieldsOf}
 use Rattle.writing.specs.Writing.{partLies, phraseLies}
 
 -- octets were laid over a room from a place on, and end where they say
@@ -49,24 +47,10 @@ pub record Held (m : Message) (src : List ℕ) : Type 0 where
 
 -- the fields 0 to 5, and 6 to 14: all of a message's, in two halves
 abbrev pub frontFields : Message → List ℕ → List Field
-frontFields m src =
-    field 0 (ofOctet (m .priority))
-    ∷ field 1 (ofWord (m .duration))
-    ∷ field 2 (ofCause src (m .cause))
-    ∷ field 3 (ofQueue (m .queue))
-    ∷ field 4 (ofPart src (m .granted))
-    ∷ field 5 (ofWord (m .permission))
-    ∷ []
+frontFields m src = take 6 (fieldsOf m src)
 
 abbrev pub restFields : Message → List ℕ → List Field
-restFields m src =
-    field 6 (ofPart src (m .user))
-    ∷ field 8 (ofWord (m .sequence))
-    ∷ field 10 (ofWord (m .source))
-    ∷ field 12 (ofOctet (m .subject))
-    ∷ field 13 (ofWord (m .indicator))
-    ∷ field 14 (ofNumber (m .party))
-    ∷ []
+restFields m src = drop 6 (fieldsOf m src)
 
 -- no field is against the table, by the numbers that the fields hold: a phrase is short enough, an identity has a length of the table,
 -- a number that the table limits is not at fault
@@ -119,10 +103,3 @@ frontSize m =
 abbrev pub restSize : Message → ℕ
 restSize m =
     partSize (m .user) + wordSize (m .sequence) + wordSize (m .source) + octetSize (m .subject) + wordSize (m .indicator) + numberSize (m .party)
-
--- the first octet of a packet, and the header that begins with it, of a packet that has so many octets
-unfoldable pub firstOctet : Kind → Bool → ℕ
-firstOctet kind ack = 128 + (if ack then 16 else 0) + typeNumber kind
-
-unfoldable pub headed : ℕ → ℕ → ℕ → List ℕ
-headed first ssrc size = first ∷ 204 ∷ octets16 (size / 4 - 1) ++ octets32 ssrc ++ (77 ∷ 67 ∷ 80 ∷ 84 ∷ [])

@@ -8,6 +8,7 @@ use Rattle.words.specs.Choice.{if_then_else_}
 use Rattle.octets.specs.Octets.{octets16, octets32}
 use Rattle.message.specs.Types.{typeNumber}
 use Rattle.message.specs.Table.{rowOf, padding}
+use Rattle.message.specs.declared.Kind.{Kind}
 use Rattle.message.specs.Message.{Field, Said}
 
 -- L of a field: its content and the spare octets behind it
@@ -29,13 +30,14 @@ body [] = []
 body (f ∷ fs) = optional (f .id) (f .content) ++ body fs
 
 -- version 2, P not set, the Ack bit and the type; 204; the length in 32-bit words less one; SSRC; the name MCPT
+unfoldable pub firstOctet : Kind → Bool → ℕ
+firstOctet kind ack = 128 + (if ack then 16 else 0) + typeNumber kind
+
+unfoldable pub headed : ℕ → ℕ → ℕ → List ℕ
+headed first ssrc size = first ∷ 204 ∷ octets16 (size / 4 - 1) ++ octets32 ssrc ++ (77 ∷ 67 ∷ 80 ∷ 84 ∷ [])
+
 unfoldable pub header : Said → List ℕ
-header m =
-    (128 + (if m .ack then 16 else 0) + typeNumber (m .kind))
-    ∷ 204
-    ∷ octets16 ((12 + length (body (m .fields))) / 4 - 1)
-    ++ octets32 (m .ssrc)
-    ++ (77 ∷ 67 ∷ 80 ∷ 84 ∷ [])
+header m = headed (firstOctet (m .kind) (m .ack)) (m .ssrc) (12 + length (body (m .fields)))
 
 unfoldable pub wire : Said → List ℕ
 wire m = header m ++ body (m .fields)

@@ -1,9 +1,9 @@
+use Rattle.writing.specs.Wire.{headed, firstOctet}
 use Rattle.held.specs.Held.{messageWith, heldAt}
 use Rattle.held_writing.specs.Writes.{messageIn}
 use Prim.Native.Nat.{ℕ}
 use mathlib.Core.Path.{_≡_, refl, sym, ap, _∙_}
 use Rattle.octets.specs.Octets.{over}
-use Rattle.writing.specs.Puts.{firstOctet, headed}
 use Rattle.writing.proofs.Fits.{held-by}
 use Rattle.writing.proofs.Whole.{refused-13, size-whole, front-fits, rest-fits, laid-whole}
 use Rattle.held_writing.proofs.Laws.{Holds, holds, first-is, type-small, nothing-length, refused-in}

@@ -1,5 +1,5 @@
+use Rattle.writing.specs.Wire.{firstOctet}
 use Rattle.writing.proofs.Headers.{type-small}
-use Rattle.writing.specs.Puts.{firstOctet}
 use native.Mathlib.Omega.{arith}
 use borrow.Author.Needs.{needs}
 use Rattle.words.specs.Choice.{if_then_else_}

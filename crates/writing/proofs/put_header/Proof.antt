@@ -2,8 +2,9 @@ use Prim.Native.Nat.{ℕ, _-_, _/_, _≤_}
 use mathlib.Core.List.{List, [], _∷_, _++_}
 use mathlib.Core.Path.{refl}
 use lib.ListN.{length}
+use Rattle.writing.specs.Wire.{headed}
 use Rattle.octets.specs.Octets.{octets16, octets32}
-use Rattle.writing.specs.Puts.{Laid, headed}
+use Rattle.writing.specs.Puts.{Laid}
 use Rattle.writing.proofs.Lays.{lay-join, lay-rest}
 use native.Mathlib.Omega.{arith}
 use borrow.Author.Needs.{needs}

@@ -1,9 +1,9 @@
 use Prim.Native.Nat.{ℕ}
 use mathlib.Core.Bool.{true}
 use mathlib.Core.Path.{_≡_, ap, sym, _∙_}
+use Rattle.writing.specs.Wire.{headed, firstOctet}
 use Rattle.octets.specs.Octets.{over}
 use Rattle.writing.specs.Writing.{readable}
-use Rattle.writing.specs.Puts.{firstOctet, headed}
 use Rattle.writing.proofs.Fits.{held-by}
 use Rattle.writing.proofs.Whole.{refused-12, refused-13, size-whole, front-fits, rest-fits, laid-whole}
 use native.Mathlib.Omega.{arith}
