@@ -10,14 +10,14 @@ use borrow.Author.Tests.{eq-eqb, leb-false}
 use Rattle.words.specs.Choice.{by-test, by-if}
 use Rattle.words.proofs.Tests.{clash, and-no}
 use Rattle.line.specs.declared.Entry.{Entry}
-use Rattle.line.specs.Line.{waiting, lineOf, isIn, enter, without, seatsOf, nobody as no-one}
+use Rattle.line.specs.Line.{waiting, lineOf, isIn, enter, without, seatsOf, nobody as no-one, priorityOf}
 use Rattle.line.proofs.Laws.{waiting-lineOf, without-le, enter-length}
 use Rattle.hall.specs.declared.Hall.{Hall}
 use Rattle.hall.specs.declared.Asked.{Asked}
 use Rattle.hall.specs.declared.Found.{Found}
 use Rattle.hall.specs.declared.Found.the-variants.{At, Nowhere}
 use Rattle.hall.specs.declared.Answer.the-variants.{Done, NotExpected}
-use Rattle.hall.specs.Seats.{only, alone, queues, receivesOnly, effective, isPresent, seatOf, vacated}
+use Rattle.hall.specs.Seats.{only, alone, queues, receivesOnly, effective, isPresent, seatOf, vacated, finds}
 use Rattle.rules.specs.declared.Beside.{Beside}
 use Rattle.rules.specs.declared.Beside.the-variants.{T2}
 use Rattle.rules.specs.declared.Phase.{Phase}
@@ -48,7 +48,7 @@ use Rattle.reach.specs.Sound.{HallOk, CoreOk, Sound, isBusy}
 use Rattle.reach.proofs.InLine.{present-below}
 use Rattle.reach.proofs.Steps.{idle-quiet}
 use Rattle.reach.proofs.Hall.{hall-ok}
-use Rattle.demands.specs.Demands.{Asking, nobody, asks, fromSeat, asking, priorityOf, moves, isMoved, isFound, isT4, reasonOf}
+use Rattle.demands.specs.Demands.{Asking, nobody, asks, fromSeat, asking, moves, isMoved, isT4, reasonOf}
 
 abbrev pub marksOf : Mark → List Bool → Mark → Given → Marks
 marksOf p s e g = record { placed = p; struck = s; ended = e; given = g }
@@ -328,13 +328,13 @@ module _ (h : Hall) (k : HallOk h) (c : Core) (o : CoreOk h c) (deaf : (s : ℕ)
       go (At t) = requests t (effective h t a)
       go Nowhere = silent
 
-  releases-heard : (x : ℕ) → Does nobody (isFound (seatOf h x)) (heard c (callerOf c h x) (λ s. releases c h s))
+  releases-heard : (x : ℕ) → Does nobody (finds (seatOf h x)) (heard c (callerOf c h x) (λ s. releases c h s))
   unfolding callerOf
   releases-heard x =
-      by-if (λ (who : Caller). Does nobody (isFound (seatOf h x)) (heard c who (λ s. releases c h s))) (isStopped (c .phase))
+      by-if (λ (who : Caller). Does nobody (finds (seatOf h x)) (heard c who (λ s. releases c h s))) (isStopped (c .phase))
       (λ _. silent) (λ _. go (seatOf h x))
     where
-      go : (f : Found) → Does nobody (isFound f) (heard c (sitting f) (λ s. releases c h s))
+      go : (f : Found) → Does nobody (finds f) (heard c (sitting f) (λ s. releases c h s))
       go (At t) = releases-on h t (eq-eqb t t refl)
       go Nowhere = silent
 

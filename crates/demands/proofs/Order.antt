@@ -10,7 +10,7 @@ use borrow.Author.Tests.{eqb-true, eq-eqb, ne-eqb, leb-false}
 use Rattle.words.specs.Choice.{if_then_else_, if-yes, if-no, by-test, by-if}
 use Rattle.words.proofs.Tests.{clash, and-no, or-left, or-right, neither}
 use Rattle.line.specs.declared.Entry.{Entry}
-use Rattle.line.specs.Line.{waiting, isIn, empty, enter, without}
+use Rattle.line.specs.Line.{waiting, isIn, empty, enter, without, priorityOf}
 use Rattle.line.proofs.Laws.{enter-nil, enter-cons, before-here, before-later}
 use Rattle.hall.specs.declared.Settings.{Settings}
 use Rattle.hall.specs.declared.Hall.{Hall}
@@ -21,7 +21,7 @@ use Rattle.rules.specs.Request.{entry, waits}
 use Rattle.marks.proofs.InLine.{in-nil, in-cons, in-without, only-at}
 use Rattle.reach.specs.Sound.{AtMost, Sorted, ListOk}
 use Rattle.reach.proofs.InLine.{without-ok}
-use Rattle.demands.specs.Demands.{Asking, nobody, Row, happens, History, deskAfter, log, rowOf, isPlaced, priorityOf, moves, isMoved, lineFrom, latest, ComesFirst, GoesToTheFirst}
+use Rattle.demands.specs.Demands.{Asking, nobody, Row, happens, History, deskAfter, log, rowOf, isPlaced, moves, isMoved, lineFrom, latest, ComesFirst, GoesToTheFirst}
 use Rattle.demands.proofs.Counts.{sound-after}
 use Rattle.demands.proofs.Did.{Did, rests, gives, places, shifts, strikes, passes, frees, halts, closes}
 use Rattle.demands.proofs.OfEach.{goes-to-head}

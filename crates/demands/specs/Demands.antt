@@ -18,14 +18,14 @@ use Rattle.message.specs.declared.Message as read
 use Rattle.reading.specs.Reading.{reading}
 use Rattle.call.specs.Call.{eventOf}
 use Rattle.line.specs.declared.Entry.{Entry}
-use Rattle.line.specs.Line.{waiting, empty, before, isIn, enter, without}
+use Rattle.line.specs.Line.{waiting, isIn, enter, without, priorityOf}
 use Rattle.hall.specs.declared.Settings.{Settings}
 use Rattle.hall.specs.declared.Hall.{Hall}
 use Rattle.hall.specs.declared.Asked.{Asked}
 use Rattle.hall.specs.declared.Found.{Found}
 use Rattle.hall.specs.declared.Found.the-variants.{At, Nowhere}
 use Rattle.hall.specs.Answers.{number}
-use Rattle.hall.specs.Seats.{inRange, only, effective, seatOf}
+use Rattle.hall.specs.Seats.{inRange, only, effective, seatOf, finds}
 use Rattle.rules.specs.declared.Core.{Core}
 use Rattle.rules.specs.declared.Message.{Message}
 use Rattle.rules.specs.declared.Mark.{Mark}
@@ -172,10 +172,6 @@ standing s (e ∷ es) = one (eqb (e .seat) s) + standing s es
 
 -- THE LINE AND THE HOLDER, by the marks and the requests alone
 
--- the priority at which a seat waits
-unfoldable pub priorityOf : ℕ → List Entry → ℕ
-priorityOf s es = getD es (before s es) empty .priority
-
 -- "a changed priority moves it": a request of one who waits, at another priority
 unfoldable pub moves : ℕ → ℕ → List Entry → Bool
 moves s p es = isIn s es && not (eqb (priorityOf s es) p)
@@ -222,10 +218,6 @@ latest s (r ∷ past) =
 
 -- WHY A SEAT MAY BE STRUCK OFF: its own release, its own leave, or the call stops
 
-abbrev pub isFound : Found → ℕ → Bool
-isFound (At t) s = eqb t s
-isFound Nowhere s = false
-
 abbrev pub isT4 : Timer → Bool
 isT4 timer.T4 = true
 isT4 timer.T1 = false
@@ -236,7 +228,7 @@ isT4 timer.T8 = false
 isT4 timer.T20 = false
 
 abbrev pub reasonIn : Hall → Event → ℕ → Bool
-reasonIn h (Release x) s = isFound (seatOf h x) s
+reasonIn h (Release x) s = finds (seatOf h x) s
 reasonIn h Stop s = true
 reasonIn h (Expiry t) s = isT4 t
 reasonIn h Start s = false

@@ -8,7 +8,7 @@ use mathlib.Core.List.{List, [], _∷_}
 use lib.ListN.{replicate}
 use Rattle.words.specs.Choice.{if_then_else_}
 use Rattle.line.specs.declared.Entry.{Entry}
-use Rattle.line.specs.Line.{waiting, lineOf, before, ahead, enter, anotherAtLeast, without, seatsOf}
+use Rattle.line.specs.Line.{waiting, lineOf, before, ahead, enter, anotherAtLeast, without, seatsOf, priorityOf}
 use Rattle.hall.specs.declared.Settings.{Settings}
 use Rattle.hall.specs.declared.Newcomer.{Newcomer}
 use Rattle.hall.specs.declared.Asked.the-variants.{Priority}
@@ -181,7 +181,7 @@ seenAll (l ∷ ls) = seen l ∷ seenAll ls
 
 -- the statement: the rules, from the desk that was made and the four that joined it, give the table
 pub thursday : seenAll (stepsOf start (events table)) ≡ outcomes table
-unfolding if_then_else_ waiting lineOf before ahead enter anotherAtLeast without seatsOf emptyHall alone effective seatOf freeSeat withSeat octetsOf nameOf noNames withName same seatNamed lengthAllowed ssrcTaken seated join next given givenAtOnce givenOutOfLine entersIdle passesOn floorEnds revokes waits priorityIn full presses denied infoOf holderAsks informed pressed rule6 asksAgain placed request halted stops endsIn revokesIn idleAgain revokesAgain grantsOrEnds grantsAgain fires expires fresh starts callerOf struckOff releases asksPlace talks step leaves leave does
+unfolding if_then_else_ waiting lineOf before ahead enter anotherAtLeast without seatsOf emptyHall alone effective seatOf freeSeat withSeat octetsOf nameOf noNames withName same seatNamed lengthAllowed ssrcTaken seated join next given givenAtOnce givenOutOfLine entersIdle passesOn floorEnds revokes waits priorityIn priorityOf full presses denied infoOf holderAsks informed pressed rule6 asksAgain placed request halted stops endsIn revokesIn idleAgain revokesAgain grantsOrEnds grantsAgain fires expires fresh starts callerOf struckOff releases asksPlace talks step leaves leave does
 thursday = refl
 
 -- the four took the seats 0 to 3, each with answer 0

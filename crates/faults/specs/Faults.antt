@@ -10,7 +10,7 @@ use lib.ListN.{take}
 use Rattle.words.proofs.Tests.{clash}
 use Rattle.words.specs.Choice.{if_then_else_}
 use Rattle.line.specs.declared.Entry.{Entry}
-use Rattle.line.specs.Line.{waiting, lineOf, before, isIn, ahead, enter, anotherAtLeast, without}
+use Rattle.line.specs.Line.{waiting, lineOf, before, isIn, ahead, enter, anotherAtLeast, without, priorityOf}
 use Rattle.hall.specs.declared.Settings.{Settings}
 use Rattle.hall.specs.declared.Asked.the-variants.{Priority}
 use Rattle.hall.specs.Seats.{inRange, only, emptyHall, alone, effective, seatOf, freeSeat, withSeat}
@@ -26,7 +26,7 @@ use Rattle.desk.specs.declared.Event.the-variants.{Start, Request, Release}
 use Rattle.desk.specs.Timers.{isStopped}
 use Rattle.desk.specs.Events.{fresh, starts, callerOf, struckOff, releases, step}
 use Rattle.history.specs.Doing.{Desk, event, joins, does}
-use Rattle.demands.specs.Demands.{Happening, other, heard, Outcome, happens, Server, History, deskAfter, Asking, nobody, asks, asked, log, times, isPlaced, isStruck, isGivenOut, isEnded, priorityOf, moves, changed, latest, reason, NobodyDropsOut, StruckForAReason, GoesToTheFirst}
+use Rattle.demands.specs.Demands.{Happening, other, heard, Outcome, happens, Server, History, deskAfter, Asking, nobody, asks, asked, log, times, isPlaced, isStruck, isGivenOut, isEnded, moves, changed, latest, reason, NobodyDropsOut, StruckForAReason, GoesToTheFirst}
 
 -- THE EVENING ON WHICH THEY ARE TRIED
 -- Three sit down: test1, test10 and anna, with SSRCs 10, 11 and 12; the line has room for all.
@@ -98,7 +98,7 @@ student d x = byLetters d (asked (d .hall) (heard x)) (happens d x)
 -- test1 was placed, was never given the floor or struck off, and does not wait
 student-counts : (times (isPlaced 0) (log student settings two-wait) ≡ 1) × (times (isGivenOut 0) (log student settings two-wait) ≡ 0)
     × (times (isStruck 0) (log student settings two-wait) ≡ 0) × (waits (deskAfter student settings two-wait .core) 0 ≡ false)
-unfolding student happens heard if_then_else_ waiting lineOf before ahead enter anotherAtLeast without emptyHall alone effective seatOf freeSeat withSeat octetsOf nameOf noNames withName same seatNamed lengthAllowed ssrcTaken seated join next given givenAtOnce entersIdle revokes waits priorityIn full presses denied infoOf holderAsks informed pressed rule6 asksAgain placed request fresh starts callerOf step does
+unfolding student happens heard if_then_else_ waiting lineOf before ahead enter anotherAtLeast without emptyHall alone effective seatOf freeSeat withSeat octetsOf nameOf noNames withName same seatNamed lengthAllowed ssrcTaken seated join next given givenAtOnce entersIdle revokes waits priorityIn priorityOf full presses denied infoOf holderAsks informed pressed rule6 asksAgain placed request fresh starts callerOf step does
 student-counts = (refl, refl, refl, refl)
 
 pub student-drops-one : NobodyDropsOut student → ⊥
@@ -121,7 +121,7 @@ handed-over = lets-go 2 ∷ one-waits
 
 stays-counts : (times (isPlaced 0) (log stays settings handed-over) ≡ 1) × (times (isGivenOut 0) (log stays settings handed-over) ≡ 1)
     × (times (isStruck 0) (log stays settings handed-over) ≡ 0) × (waits (deskAfter stays settings handed-over .core) 0 ≡ true)
-unfolding stays happens heard if_then_else_ waiting lineOf before ahead enter anotherAtLeast without emptyHall alone effective seatOf freeSeat withSeat octetsOf nameOf noNames withName same seatNamed lengthAllowed ssrcTaken seated join next given givenAtOnce givenOutOfLine entersIdle passesOn floorEnds revokes waits priorityIn full presses denied infoOf holderAsks informed pressed rule6 asksAgain placed request fresh starts callerOf struckOff releases step does
+unfolding stays happens heard if_then_else_ waiting lineOf before ahead enter anotherAtLeast without emptyHall alone effective seatOf freeSeat withSeat octetsOf nameOf noNames withName same seatNamed lengthAllowed ssrcTaken seated join next given givenAtOnce givenOutOfLine entersIdle passesOn floorEnds revokes waits priorityIn priorityOf full presses denied infoOf holderAsks informed pressed rule6 asksAgain placed request fresh starts callerOf struckOff releases step does
 stays-counts = (refl, refl, refl, refl)
 
 pub stays-in-line : NobodyDropsOut stays → ⊥

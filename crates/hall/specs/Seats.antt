@@ -70,6 +70,11 @@ firstFrom test (suc n) s = if test s then At s else firstFrom test n (suc s)
 abbrev pub lowest : (ℕ → Bool) → Found
 lowest test = firstFrom test 16 0
 
+-- whether a search found this seat
+abbrev pub finds : Found → ℕ → Bool
+finds (At t) s = eqb t s
+finds Nowhere s = false
+
 -- packets and media name their seat by SSRC
 abbrev pub hasSsrc : Hall → ℕ → ℕ → Bool
 hasSsrc h x s = isPresent h s && eqb (getD (h .ssrcs) s 0) x

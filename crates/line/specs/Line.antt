@@ -5,6 +5,7 @@ use lib.Dec.{ltb, leb, eqb}
 use mathlib.Core.Bool.{Bool, true, false, not, _&&_}
 use mathlib.Core.List.{List, [], _∷_, _++_}
 use lib.ListN.{length, take, drop, getD, set, replicate}
+use Rattle.words.specs.Table.{padded}
 use Rattle.words.specs.Choice.{if_then_else_}
 use Rattle.line.specs.declared.Entry.{Entry}
 use Rattle.line.specs.declared.Line.{Line}
@@ -18,7 +19,7 @@ abbrev pub empty : Entry
 empty = record { seat = 0; priority = 0 }
 
 unfoldable pub lineOf : List Entry → Line
-lineOf es = record { entries = take 15 (es ++ replicate 15 empty); len = length (take 15 es) }
+lineOf es = record { entries = padded empty 15 es; len = length (take 15 es) }
 
 -- how many at the front pass the test
 abbrev pub leading : (Entry → Bool) → List Entry → ℕ
@@ -31,6 +32,10 @@ isOther s e = not (eqb (e .seat) s)
 
 unfoldable pub before : ℕ → List Entry → ℕ
 before s es = leading (isOther s) es
+
+-- the priority at which a seat waits
+unfoldable pub priorityOf : ℕ → List Entry → ℕ
+priorityOf s es = getD es (before s es) empty .priority
 
 abbrev pub isIn : ℕ → List Entry → Bool
 isIn s es = ltb (before s es) (length es)

@@ -2,11 +2,11 @@
 use Prim.Native.Nat.{ℕ, _+_}
 use mathlib.Core.Bool.{Bool, true, false, not, _&&_}
 use lib.Dec.{leb, eqb}
-use lib.ListN.{length, getD}
+use lib.ListN.{length}
 use Rattle.words.specs.Choice.{if_then_else_}
 use Rattle.line.specs.declared.Entry.{Entry}
 use Rattle.line.specs.declared.Line.{Line}
-use Rattle.line.specs.Line.{waiting, lineOf, empty, before, isIn, enter, anotherAtLeast, without}
+use Rattle.line.specs.Line.{waiting, lineOf, before, isIn, enter, anotherAtLeast, without, priorityOf}
 use Rattle.hall.specs.declared.Hall.{Hall}
 use Rattle.hall.specs.declared.Answer.the-variants.{NotExpected}
 use Rattle.hall.specs.Seats.{only, alone, queues, receivesOnly}
@@ -34,9 +34,8 @@ entry s p = record { seat = s; priority = p }
 unfoldable pub waits : Core → ℕ → Bool
 waits c s = isIn s (waiting (c .line))
 
--- the priority at which a seat waits
 unfoldable pub priorityIn : Line → ℕ → ℕ
-priorityIn l s = getD (waiting l) (before s (waiting l)) empty .priority
+priorityIn l s = priorityOf s (waiting l)
 
 unfoldable pub full : Core → Hall → Bool
 full c h = leb (h .settings .limit) (length (waiting (c .line)))

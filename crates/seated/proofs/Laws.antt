@@ -13,12 +13,11 @@ use Rattle.words.specs.Below.{allBelow, below, and-left, and-right}
 use Rattle.words.proofs.Tests.{clash, both, and-four, and-five, four, and-no}
 use Rattle.hall.specs.declared.Found.{Found}
 use Rattle.hall.specs.declared.Found.the-variants.{At}
-use Rattle.hall.specs.Seats.{firstFrom, lowest}
+use Rattle.hall.specs.Seats.{firstFrom, lowest, finds}
 use Rattle.hall.proofs.Laws.{at-same}
 use Rattle.form.specs.Columns.{every}
 use Rattle.form.specs.Form.{octetAt, flagAt, upTo, hallFits, namesFit}
 use Rattle.form.proofs.Columns.{every-at, every-all}
-use Rattle.sound.specs.Test.{finds}
 use Rattle.sound.proofs.Laws.{all-below, together}
 use Rattle.sound.proofs.Seats.{finds-at}
 use Rattle.seated.specs.Seated.{ssrcAt, lengthAt, startOf, behind, freeFits}

@@ -12,11 +12,11 @@ use Rattle.words.specs.Choice.{if_then_else_, if-yes, if-no, by-test}
 use Rattle.words.specs.Below.{allBelow, below, and-left, and-right}
 use Rattle.words.proofs.Tests.{both}
 use Rattle.octets.specs.Octets.{be32}
-use Rattle.hall.specs.Seats.{isPresent, queues, receivesOnly, lowest, hasSsrc, seatOf, inRange}
+use Rattle.hall.specs.Seats.{isPresent, queues, receivesOnly, lowest, hasSsrc, seatOf, inRange, finds}
 use Rattle.hall.specs.Identity.{octetsOf, nameAt, same, hasName, seatNamed, lengthAllowed}
 use Rattle.form.specs.Form.{octetAt, flagAt, flagsAt, octetsAt, wordsAt, settingsAt, hallAt, namesAt, namesFit}
 use Rattle.form.proofs.Columns.{getD-column}
-use Rattle.sound.specs.Test.{nameSound, finds, takenSound, freeSound, seatSound, seatsSound}
+use Rattle.sound.specs.Test.{nameSound, takenSound, freeSound, seatSound, seatsSound}
 use Rattle.sound.specs.Test as test
 use Rattle.sound.proofs.Laws.{together, below-same, allowed-by-least}
 use Rattle.sound.proofs.InOctets.{present-is}

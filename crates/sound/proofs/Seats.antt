@@ -16,12 +16,12 @@ use Rattle.hall.specs.declared.Name.{Name}
 use Rattle.hall.specs.declared.Names.{Names}
 use Rattle.hall.specs.declared.Found.{Found}
 use Rattle.hall.specs.declared.Found.the-variants.{At, Nowhere}
-use Rattle.hall.specs.Seats.{isPresent, queues, receivesOnly, hasSsrc, seatOf, firstFrom, inRange}
+use Rattle.hall.specs.Seats.{isPresent, queues, receivesOnly, hasSsrc, seatOf, firstFrom, inRange, finds}
 use Rattle.hall.specs.Identity.{octetsOf, nameOf, noName, nameAt, same, hasName, seatNamed, lengthAllowed}
 use Rattle.hall.proofs.Laws.{at-same, found-holds, none-holds, no-name-whole}
 use Rattle.reach.specs.Sound.{SeatsOk}
 use Rattle.reach.proofs.InLine.{within-column}
-use Rattle.sound.specs.Test.{octetBehind, nameSound, finds, ssrcAt, takenSound, freeSound, seatSound, seatsSound}
+use Rattle.sound.specs.Test.{octetBehind, nameSound, ssrcAt, takenSound, freeSound, seatSound, seatsSound}
 use Rattle.sound.specs.Shaped.{ShapedSeats}
 use Rattle.sound.proofs.Laws.{all-below, filled-behind, behind-filled}
 

@@ -14,9 +14,7 @@ use Rattle.line.specs.Line.{waiting, empty, before, isIn}
 use Rattle.hall.specs.declared.Hall.{Hall}
 use Rattle.hall.specs.declared.Name.{Name}
 use Rattle.hall.specs.declared.Names.{Names}
-use Rattle.hall.specs.declared.Found.{Found}
-use Rattle.hall.specs.declared.Found.the-variants.{At, Nowhere}
-use Rattle.hall.specs.Seats.{isPresent, queues, receivesOnly, seatOf, inRange}
+use Rattle.hall.specs.Seats.{isPresent, queues, receivesOnly, seatOf, inRange, finds}
 use Rattle.hall.specs.Identity.{octetsOf, nameAt, seatNamed, lengthAllowed}
 use Rattle.rules.specs.declared.Phase.{Phase}
 use Rattle.rules.specs.declared.Phase.the-variants.{Stopped, Idle, Taken, Revoking}
@@ -66,10 +64,6 @@ unfoldable pub nameSound : Name → Bool
 nameSound n = eqb (n .len) (length (octetsOf n)) && allBelow (octetBehind n) 62
 
 -- a taken seat is the one that its SSRC and its identity find, so that no two seats have the same; a free one has zeros
-abbrev pub finds : Found → ℕ → Bool
-finds (At t) s = eqb t s
-finds Nowhere s = false
-
 abbrev pub ssrcAt : Hall → ℕ → ℕ
 ssrcAt h s = getD (h .ssrcs) s 0
 

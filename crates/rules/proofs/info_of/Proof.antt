@@ -4,7 +4,7 @@ use mathlib.Core.Path.{ap, sym}
 use borrow.Author.Tests.{lt-ltb, le-ltb}
 use Rattle.words.specs.Choice.{if_then_else_}
 use Rattle.line.specs.declared.Entry.{Entry}
-use Rattle.line.specs.Line.{before, waiting}
+use Rattle.line.specs.Line.{before, waiting, priorityOf}
 use Rattle.rules.specs.declared.Kind.the-variants.{Info}
 use Rattle.rules.specs.Request.{infoOf, priorityIn}
 use borrow.Author.Needs.{needs}
@@ -27,7 +27,7 @@ add-t9 : tie.Need-add-t9
 add-t9 c = search needs
 
 returns : tie.Need-returns
-unfolding infoOf priorityIn if_then_else_ before waiting
+unfolding infoOf priorityIn priorityOf if_then_else_ before waiting
 returns c =
     rw (sym (c .before .before .place-of .ensures), sym (c .before .before .before .count .ensures .0), lt-ltb _ _ (c .before .if1 .taken))
     (ap (λ (e : Entry). Info (c .before .before .place-of .result + 1) (e .priority)) (c .entry-at .ensures))

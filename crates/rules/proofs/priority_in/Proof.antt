@@ -1,5 +1,6 @@
 -- `rules::priority_in` meets its contract. Assumes nothing.
 use borrow.Author.Needs.{needs}
+use Rattle.line.specs.Line.{priorityOf}
 use Rattle.rules.specs.Request.{priorityIn}
 use Rattle.rules.proofs.priority_in.Statement.{statement}
 use Rattle.rules.proofs.priority_in.Tie as tie
@@ -11,7 +12,7 @@ entry-at-requires : tie.Need-entry-at-requires
 entry-at-requires c κs = search needs
 
 returns : tie.Need-returns
-unfolding priorityIn
+unfolding priorityIn priorityOf
 returns c = rw (c .entry-at .ensures, c .before .place-of .ensures)
 
 pub priority-in-spec : {M : Type 1} → statement M
