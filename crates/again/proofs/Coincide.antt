@@ -58,18 +58,15 @@ read-told (Reading.Refused r) (Reading.Refused r′) e = ap Reading.Refused (num
 pub readers-coincide : ReadersCoincide
 readers-coincide s q q′ p p′ = read-told q q′ (p ∙ sym p′)
 
-pub written-told : (r r′ : Writing) → toldByWriter r ≡ toldByWriter r′ → r ≡ r′
-written-told (Written n) (Written n′) e = ap Written (cc)
-written-told (Written n) (Writing.Refused r) e = cc
-written-told (Writing.Refused r) (Written n) e = cc
-written-told (Writing.Refused r) (Writing.Refused r′) e = ap Writing.Refused (number-of r r′ e)
+pub told-coincide : ToldCoincide
+told-coincide (Written n) (Written n′) e = ap Written (cc)
+told-coincide (Written n) (Writing.Refused r) e = cc
+told-coincide (Writing.Refused r) (Written n) e = cc
+told-coincide (Writing.Refused r) (Writing.Refused r′) e = ap Writing.Refused (number-of r r′ e)
 
 pub writers-coincide : WritersCoincide
 writers-coincide m src room r r′ left left′ p p′ =
-    record { answers = written-told r r′ (p .answer ∙ sym (p′ .answer)); rooms = p .left ∙ sym (p′ .left) }
-
-pub told-coincide : ToldCoincide
-told-coincide = written-told
+    record { answers = told-coincide r r′ (p .answer ∙ sym (p′ .answer)); rooms = p .left ∙ sym (p′ .left) }
 
 pub lays-coincide : LaysCoincide
 lays-coincide before octets after after′ at end end′ l l′ = (l .ends ∙ sym (l′ .ends), l .stands ∙ sym (l′ .stands))

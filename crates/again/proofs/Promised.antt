@@ -24,7 +24,7 @@ use Rattle.again.specs.Again.{ReadsAs, ReaderPromise, IsRead, WriteThenR
 use Rattle.again.proofs.Judged.{passed}
 use Rattle.again.proofs.Back.{read-back}
 use Rattle.again.proofs.Again.{read-is-written}
-use Rattle.again.proofs.Coincide.{read-told, written-told}
+use Rattle.again.proofs.Coincide.{read-told, told-coincide}
 
 -- a reader's answer where a message reads so
 is-read : (s : List ℕ) (what : Said) (q : Reading) → ReadsAs s what → ReaderPromise s q → IsRead s q what
@@ -81,5 +81,5 @@ read-then-write s room room′ q m r p e h wp =
     let a = read-is-written s m (sym p ∙ ap toldByReader e) in
     let n : ℕ = length (wire (said m s)) in
     let l : n ≤ length room = omega (arith, a .noLonger) in
-    let wr : r ≡ Written n = written-told r (Written n) (wp .answer ∙ writes m s (length room) (a .accepted) l) in
+    let wr : r ≡ Written n = told-coincide r (Written n) (wp .answer ∙ writes m s (length room) (a .accepted) l) in
     record { count = n; wrote = wr; readAgain = λ q′ z. write-then-read m s room room′ r n q′ wp wr z }

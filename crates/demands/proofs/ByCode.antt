@@ -11,7 +11,7 @@ use Rattle.rules.specs.declared.Step.{Step}
 use Rattle.desk.specs.Events.{left}
 use Rattle.history.specs.Doing.{Desk, event, leaves, joins, joined, made, does}
 use Rattle.demands.specs.Demands.{Happening, packet, other, heard, byReading as heardBy, Outcome, outcome, ofDoing, happens, History, deskAfter, Row, rowOf, log}
-use Rattle.demands.specs.ThroughCode.{Code, Promises, ofCalled, runs, madeBy, deskBy, sheetBy, CountedAreTheCodes}
+use Rattle.demands.specs.ThroughCode.{Code, Promises, ofCalled, runs, madeBy, deskBy, logBy, CountedAreTheCodes}
 
 packet-heard : (d : Desk) (a : Answer read.Message) → ofCalled d (byReading (d .core) (d .hall) a) ≡ outcome d (heardBy a)
 unfolding does
@@ -32,7 +32,7 @@ same-desk : (f : Code) → Promises f → (g : Settings) (past : History) → de
 same-desk f k g [] = first-desk f k g
 same-desk f k g (x ∷ past) = ap (λ (r : Outcome). r .desk) (ap (λ (d : Desk). runs f d x) (same-desk f k g past) ∙ one-step f k (deskAfter happens g past) x)
 
-same-log : (f : Code) → Promises f → (g : Settings) (past : History) → sheetBy f g past ≡ log happens g past
+same-log : (f : Code) → Promises f → (g : Settings) (past : History) → logBy f g past ≡ log happens g past
 same-log f k g [] = refl
 same-log f k g (x ∷ past) =
     ap (λ (rows : List Row). rowOf (runs f) (deskBy f g past) x ∷ rows) (same-log f k g past)

@@ -63,11 +63,11 @@ abbrev pub deskBy : Code → Settings → History → Desk
 deskBy f g [] = madeBy f g
 deskBy f g (x ∷ past) = runs f (deskBy f g past) x .desk
 
-abbrev pub sheetBy : Code → Settings → History → List Row
-sheetBy f g [] = []
-sheetBy f g (x ∷ past) = rowOf (runs f) (deskBy f g past) x ∷ sheetBy f g past
+abbrev pub logBy : Code → Settings → History → List Row
+logBy f g [] = []
+logBy f g (x ∷ past) = rowOf (runs f) (deskBy f g past) x ∷ logBy f g past
 
 -- the reports counted are the code's reports, and the desk they are held against is the code's desk
 abbrev pub CountedAreTheCodes : Type 0
 CountedAreTheCodes = (f : Code) → Promises f → (g : Settings) (past : History) →
-    (sheetBy f g past ≡ log happens g past) × (deskBy f g past ≡ deskAfter happens g past)
+    (logBy f g past ≡ log happens g past) × (deskBy f g past ≡ deskAfter happens g past)

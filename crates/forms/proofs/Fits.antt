@@ -1,14 +1,11 @@
 -- The octets of a desk hold what the table says. Assumes nothing.
-use Prim.Native.Nat.{ℕ, _+_, _*_, _≤_, _<_}
-use native.Mathlib.Nat.{add-zero}
-use native.Mathlib.Omega.{arith}
-use mathlib.Core.Path.{_≡_, refl, sym, ap, _∙_}
-use mathlib.Core.Bool.{Bool, true, false, _&&_}
-use mathlib.Core.List.{List, [], _∷_, _++_}
-use lib.Dec.{eqb, leb}
+use Prim.Native.Nat.{ℕ, _+_, _≤_}
+use mathlib.Core.Path.{_≡_, refl, _∙_}
+use mathlib.Core.Bool.{true}
+use mathlib.Core.List.{_++_}
+use lib.Dec.{leb}
 use lib.ListN.{length, getD, length-append}
-use borrow.Author.Tests.{le-leb, eq-eqb}
-use Rattle.words.specs.Choice.{one as flag}
+use borrow.Author.Tests.{le-leb}
 use Rattle.octets.specs.Octets.{be16, octets16, octets32}
 use Rattle.line.specs.Line.{waiting}
 use Rattle.hall.specs.declared.Hall.{Hall}
@@ -20,10 +17,10 @@ use Rattle.form.specs.Columns.{column, rows, every}
 use Rattle.form.specs.Form.{letters, causeIn, phaseOctets, lineOctets, coreOctets, flagOctets, seatOctets, wordOctets, settingsOctets, hallOctets, lengthOctets, nameOctets, namesOctets, octetsOf, upTo, lettersFit, coreFits, hallFits, namesFit, canonical}
 use Rattle.form.proofs.Columns.{every-all, length-column, length-rows}
 use Rattle.form.proofs.Pieces.{length-name}
-use Rattle.forms.specs.Forms.{Shaped, Back, EveryDeskBack}
+use Rattle.forms.specs.Forms.{Shaped, EveryDeskBack}
 use Rattle.forms.proofs.Numbers.{back16, flag-fits}
 use Rattle.forms.proofs.Phases.{phase-fits}
-use Rattle.forms.proofs.Back.{line-count, count-there, length-there, name-short, stands}
+use Rattle.forms.proofs.Back.{line-count, length-there, name-short, stands}
 
 pub length-core : (c : Core) → length (coreOctets c) ≡ 44
 unfolding coreOctets phaseOctets octets16 lineOctets column
@@ -45,11 +42,6 @@ length-head c h = simp (length-append, length-core c, length-hall h)
 pub length-octets : (c : Core) (h : Hall) (ns : Names) → length (octetsOf c h ns) ≡ 1200
 unfolding octetsOf
 length-octets c h ns = simp (length-append, length-core c, length-hall h, length-names ns)
-
--- a column of flags, wherever it stands
-flags-fit : (s : List ℕ) (at : ℕ) (bs : List Bool) → ((i : ℕ) → i < 16 → getD s (at + i) 0 ≡ flag (getD bs i false)) → upTo 1 s at 16 ≡ true
-unfolding upTo
-flags-fit s at bs h = every-all (λ i. leb (getD s i 0) 1) at 16 (λ i k. rw (h i k) (flag-fits (getD bs i false)))
 
 module _ (c : Core) (h : Hall) (ns : Names) where
   letters-there : lettersFit (octetsOf c h ns) ≡ true

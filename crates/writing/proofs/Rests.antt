@@ -1,5 +1,5 @@
 -- The padding of a length: as the code tells it, and that a padded field ends at a multiple of 4. Assumes nothing.
-use Prim.Native.Nat.{ℕ, _+_, _-_, _*_, _/_, _%_, _<_}
+use Prim.Native.Nat.{ℕ, _+_, _-_, _*_, _/_, _%_}
 use native.Mathlib.Omega.{arith}
 use mathlib.Core.Path.{_≡_}
 use Rattle.message.specs.Table.{padding, padded}
@@ -11,10 +11,6 @@ padding-is l = omega arith
 pub padded-is : (l : ℕ) → (l + 5) / 4 * 4 ≡ padded l
 unfolding padded padding
 padded-is l = omega arith
-
-pub padding-small : (l : ℕ) → padding l < 4
-unfolding padding
-padding-small l = omega arith
 
 pub padded-whole : (l : ℕ) → padded l % 4 ≡ 0
 unfolding padded padding
