@@ -1,4 +1,5 @@
 pub mod Seats
 pub mod Identity
 pub mod Join
+pub mod Joins
 pub mod Answers

@@ -18,9 +18,11 @@ use Rattle.hall.specs.declared.Hall.{Hall}
 use Rattle.hall.specs.declared.Joined.{Joined}
 use Rattle.hall.specs.declared.Found.{Found}
 use Rattle.hall.specs.declared.Found.the-variants.{At, Nowhere}
-use Rattle.hall.specs.Seats.{hasSsrc, seatOf, freeSeat, withSeat}
+use Rattle.hall.specs.Seats.{hasSsrc, seatOf, withSeat}
 use Rattle.hall.specs.Identity.{same, hasName, seatNamed, lengthAllowed}
 use Rattle.hall.specs.Join.{isAt, ssrcTaken, join, seated}
+use Rattle.hall.specs.Joins.{Passes, Joins, turnedAway, sitsDown}
+use Rattle.hall.proofs.Joins.{join-seats, every-join}
 use Rattle.sheet.specs.Layout.{Seat, seatAt}
 use Rattle.sheet.specs.Loading.{Load, loaded, refused, ifSeated, joinAll}
 use Rattle.sheets.proofs.Rows.{first-none, nobody, Row, row-free, row-on}
@@ -31,33 +33,13 @@ differ z = omega arith
 no-seat : (s : ℕ) → Nowhere ≡ At s → ⊥
 no-seat s e = differ (cc)
 
--- a newcomer that passes every test is seated
-module _ (h : Hall) (ns : Names) (o : List ℕ) (n : Newcomer) where
-  pub record Passes : Type 0 where
-    pub long : lengthAllowed o ≡ true
-    pub unnamed : isAt (seatNamed h ns o) ≡ false
-    pub unheard : ssrcTaken h (n .ssrc) ≡ false
-
-  pub join-seats : Passes → join h ns o n ≡ seated h ns o n (freeSeat h)
-  unfolding join if_then_else_
-  join-seats p = rw (p .long, p .unnamed, p .unheard)
-
-  -- a join either passes them, or changes nothing and gives no seat
-  pub join-cases {ℓ} : (P : Joined → Type ℓ) → (Passes → P (seated h ns o n (freeSeat h)))
-      → ((j : Joined) → j .seat ≡ Nowhere → j .hall ≡ h → j .names ≡ ns → P j) → P (join h ns o n)
-  unfolding join if_then_else_
-  join-cases P f g =
-      by-test (lengthAllowed o)
-      (λ a.
-      by-test (isAt (seatNamed h ns o)) (λ b. rw (a, b) (g _ refl refl refl))
-      (λ b.
-      by-test (ssrcTaken h (n .ssrc)) (λ t. rw (a, b, t) (g _ refl refl refl))
-      (λ t. rw (a, b, t) (f (record { long = a; unnamed = b; unheard = t })))))
-      (λ a. rw a (g _ refl refl refl))
-
-  pub join-passed : (s : ℕ) → join h ns o n .seat ≡ At s → Passes
-  join-passed s e =
-      join-cases (λ j. j .seat ≡ At s → Passes) (λ p _. p) (λ j q _ _ r. absurd (no-seat s (sym q ∙ r))) e
+-- a newcomer that has a seat has passed every test
+join-passed : (h : Hall) (ns : Names) (o : List ℕ) (n : Newcomer) (s : ℕ) → join h ns o n .seat ≡ At s → Passes h ns o n
+join-passed h ns o n s e = go (every-join h ns o n)
+  where
+    go : Joins h ns o n (join h ns o n) → Passes h ns o n
+    go (turnedAway a f q) = absurd (no-seat s (sym (ap (λ (j : Joined). j .seat) q) ∙ e))
+    go (sitsDown t p f z b q) = p
 
 -- what the row becomes when the next of the list joins
 module _ (h : Hall) (ns : Names) (zs : List Seat) (k : ℕ) (row : Row h ns zs k) (w : k < 16) where
