@@ -1,7 +1,5 @@
--- Proofs of specs/Demands.
-pub mod Counts
-pub mod Did
+pub mod Places
 pub mod OfEach
+pub mod Counts
 pub mod Steps
 pub mod Order
-pub mod ByCode

@@ -1,31 +1,47 @@
 -- What the nine things that a step can do say of one seat, of the line and of the holder. Assumes nothing.
 use Prim.Native.Nat.{ℕ, _<_}
 use mathlib.Core.Path.{_≡_, refl, ap, sym, _∙_}
-use mathlib.Core.Bool.{Bool, true, false, or-true}
+use mathlib.Core.Bool.{Bool, true, false, not, _&&_, _||_, or-true}
 use mathlib.Core.List.{List, [], _∷_}
+use native.Mathlib.Omega.{arith}
 use lib.Dec.{eqb}
 use lib.ListN.{getD}
-use borrow.Author.Tests.{eqb-true, eq-eqb}
-use Rattle.words.specs.Choice.{if-yes, if-no}
+use borrow.Author.Tests.{eqb-true, eq-eqb, ne-eqb}
+use Rattle.words.specs.Choice.{if_then_else_, if-yes, if-no, by-test, by-if}
 use Rattle.words.specs.Table.{getD-fill}
-use Rattle.words.proofs.Tests.{clash}
+use Rattle.words.proofs.Tests.{clash, and-no, or-left, or-right, neither}
 use Rattle.line.specs.declared.Entry.{Entry}
-use Rattle.line.specs.Line.{waiting, isIn, without, seatsOf, nobody as no-one}
+use Rattle.line.specs.Line.{waiting, isIn, enter, without, seatsOf, nobody as no-one, priorityOf}
 use Rattle.hall.specs.declared.Hall.{Hall}
-use Rattle.hall.specs.Seats.{receivesOnly}
+use Rattle.hall.specs.Seats.{only, receivesOnly}
 use Rattle.rules.specs.declared.Core.{Core}
 use Rattle.rules.specs.declared.Mark.{Mark}
-use Rattle.rules.specs.declared.Mark.the-variants.{NoSeat}
+use Rattle.rules.specs.declared.Mark.the-variants.{NoSeat, Seat}
 use Rattle.rules.specs.declared.Given.the-variants.{OutOfLine}
 use Rattle.rules.specs.declared.Marks.{Marks}
 use Rattle.rules.specs.Floor.{holds}
+use Rattle.rules.specs.Request.{isIdle, entry, waits, priorityIn}
+use Rattle.desk.specs.declared.Event.{Event}
+use Rattle.desk.specs.declared.Event.the-variants.{Start, Stop, Expiry, Request, Release, Position, Media, Other}
 use Rattle.desk.specs.Timers.{isStopped}
+use Rattle.history.specs.Doing.{Desk, Doing, event, leaves, joins}
+use Rattle.history.specs.Asking.{Asking, nobody, asks, askedBy, asking, givesUp, stopsBy, stopsCall}
+use Rattle.ways.specs.Ways.{Unmoved, quiet, holder, listener, outside, samePriority}
+use Rattle.ways.proofs.Walk.{idle-quiet}
+use Rattle.ways.proofs.Laws.{idle-none}
 use Rattle.marks.specs.Marks.{isSeat}
-use Rattle.marks.proofs.InLine.{in-nil, in-cons, only-at, in-added}
-use Rattle.demands.specs.Demands.{Asking, nobody, asks, moves, comesIn, goesOut, heldAfter, isPlaced, isStruck, isEnded}
-use Rattle.demands.proofs.Did.{Did, rests, gives, places, shifts, strikes, passes, frees, halts, closes, Still}
+use Rattle.marks.proofs.InLine.{in-nil, in-cons, in-without, only-at, in-added}
+use Rattle.marks.proofs.Did.{Did, rests, gives, places, shifts, strikes, passes, frees, halts, closes}
+use Rattle.reach.specs.Sound.{Sound}
+use Rattle.reach.proofs.Reach.{fits}
+use Rattle.demands.specs.Demands.{moves, comesIn, goesOut, heldAfter, isPlaced, isStruck, isGivenOut, isEnded, reasonOf, Place, away, inLine, placedAt, askedAgain, placeAfter, isMoved}
+use Rattle.demands.proofs.Places.{placeIn, place-out, place-at, place-enter, place-without}
 
-without-none : (es : List Entry) → without no-one es ≡ es
+-- nobody in line is receive only
+abbrev pub Deaf : Desk → Type 0
+Deaf d = (s : ℕ) → isIn s (waiting (d .core .line)) ≡ true → receivesOnly (d .hall) s ≡ false
+
+pub without-none : (es : List Entry) → without no-one es ≡ es
 unfolding without
 without-none [] = refl
 without-none (e ∷ es) = if-no _ _ _ (getD-fill false 16 (e .seat)) ∙ ap (λ (l : List Entry). e ∷ l) (without-none es)
@@ -41,68 +57,226 @@ all-struck : (es : List Entry) → ((s : ℕ) → isIn s es ≡ true → s < 16)
 unfolding seatsOf
 all-struck es f = without-all (seatsOf es) es (λ s q. in-added s no-one es refl f ∙ rw q (or-true (getD no-one s false)))
 
-still-line : (a : Asking) (es : List Entry) → Still a es → comesIn a NoSeat es ≡ es
-still-line nobody es q = refl
-still-line (asks t p) es q = if-no _ _ _ (let z : moves t p es ≡ false = rw (eq-eqb t t refl) at (q t) in z)
+-- a request that does not move
+module _ (d : Desk) (k : Sound d) (f : Deaf d) (t p : ℕ) where
+  abbrev line : List Entry
+  line = waiting (d .core .line)
 
-module _ {a : Asking} {why : ℕ → Bool} {h : Hall} {c d : Core} {m : Marks} where
+  not-in : isIn t line ≡ false → moves t p line ≡ false
+  unfolding moves
+  not-in q = rw q
+
+  pub unmoved : Unmoved (d .core) (d .hall) t p → moves t p line ≡ false
+  unfolding moves waits priorityIn
+  unmoved (quiet b) = not-in (ap (isIn t) (k .core .floor .still b) ∙ in-nil t)
+  unmoved (holder h) = not-in (k .core .floor .out t h)
+  unmoved (listener r) = not-in (by-test (isIn t line) (λ w. clash r (f t w)) (λ w. w))
+  unmoved (outside w) = not-in w
+  unmoved (samePriority q) = and-no (isIn t line) _ (ap not (eq-eqb (priorityOf t line) p q))
+
+-- "a changed priority moves it", by the line and by a seat's place
+pub moved-by : (s t p : ℕ) (es : List Entry) → isMoved s (asks t p) (placeIn s es) ≡ (eqb t s && moves t p es)
+unfolding moves
+moved-by s t p es =
+    by-test (eqb t s)
+    (λ q. let i : t ≡ s = eqb-true t s q in by-test (isIn s es) (λ w. rw (place-at s es w, i, eq-eqb s s refl, w)) (λ w. rw (place-out s es w, i, eq-eqb s s refl, w)))
+    (λ q. by-test (isIn s es) (λ w. rw (place-at s es w, q)) (λ w. rw (place-out s es w, q)))
+
+-- so asking again leaves a place as it is, but for one who moves
+pub asked-still : (s t p : ℕ) (es : List Entry) → (eqb t s && moves t p es) ≡ false → askedAgain s (asks t p) (placeIn s es) ≡ placeIn s es
+unfolding moves
+asked-still s t p es n =
+    by-test (isIn s es)
+    (λ w. rw (place-at s es w) (by-if (λ (y : Place). y ≡ inLine (priorityOf s es)) (eqb t s) (λ q. ap inLine (same q w)) (λ _. refl)))
+    (λ w. rw (place-out s es w))
+  where
+    same : eqb t s ≡ true → isIn s es ≡ true → p ≡ priorityOf s es
+    same q w =
+        let i : t ≡ s = eqb-true t s q in
+        by-test (eqb (priorityOf s es) p) (λ z. sym (eqb-true (priorityOf s es) p z)) (λ z. clash {b = true} refl (sym (rw (i, eq-eqb s s refl, w, z)) ∙ n))
+
+-- who asks for nothing, or does not move, leaves the line and every place as they are
+module _ (es : List Entry) (s : ℕ) where
+  pub still-line : (a : Asking) → ((t p : ℕ) → a ≡ asks t p → moves t p es ≡ false) → comesIn a NoSeat es ≡ es
+  still-line nobody u = refl
+  still-line (asks t p) u = if-no _ _ _ (u t p refl)
+
+  pub still-place : (a : Asking) → ((t p : ℕ) → a ≡ asks t p → moves t p es ≡ false) → askedAgain s a (placeIn s es) ≡ placeIn s es
+  still-place nobody u = refl
+  still-place (asks t p) u = asked-still s t p es (and-no (eqb t s) _ (u t p refl))
+
+  pub still-moved : (a : Asking) → ((t p : ℕ) → a ≡ asks t p → moves t p es ≡ false) → isMoved s a (placeIn s es) ≡ false
+  still-moved nobody u = refl
+  still-moved (asks t p) u = moved-by s t p es ∙ and-no (eqb t s) _ (u t p refl)
+
+pub moves-so : (t p : ℕ) (es : List Entry) → isIn t es ≡ true → (priorityOf t es ≡ p → ⊥) → moves t p es ≡ true
+unfolding moves
+moves-so t p es w n = rw (w, ne-eqb (priorityOf t es) p n)
+
+-- who stops the call asks for nothing
+stops-by : (h : Hall) (e : Event) → stopsBy e ≡ true → askedBy h e ≡ nobody
+stops-by h Stop y = refl
+stops-by h (Expiry t) y = refl
+stops-by h Start y = refl
+stops-by h (Request n a) y = clash y refl
+stops-by h (Release n) y = refl
+stops-by h (Position n) y = refl
+stops-by h (Media n) y = refl
+stops-by h (Other n) y = refl
+
+pub stops-nobody : (h : Hall) (x : Doing) → stopsCall x ≡ true → asking h x ≡ nobody
+stops-nobody h (event e) y = stops-by h e y
+stops-nobody h (leaves t) y = refl
+stops-nobody h (joins o n) y = refl
+
+-- a seat's place after its marks
+module _ (s : ℕ) (a : Asking) (m : Marks) (w : Place) where
+  pub place-stays : isStruck s m ≡ false → isGivenOut s m ≡ false → isPlaced s m ≡ false → placeAfter s a m w ≡ askedAgain s a w
+  unfolding placeAfter if_then_else_
+  place-stays p q r = rw (p, q, r)
+
+  place-comes : isStruck s m ≡ false → isGivenOut s m ≡ false → isPlaced s m ≡ true → placeAfter s a m w ≡ placedAt a
+  unfolding placeAfter if_then_else_
+  place-comes p q r = rw (p, q, r)
+
+  place-goes : (isStruck s m || isGivenOut s m) ≡ true → placeAfter s a m w ≡ away
+  unfolding placeAfter if_then_else_
+  place-goes p = rw p
+
+module _ (d : Desk) (x : Doing) (new : Core) (m : Marks) where
+  abbrev before : List Entry
+  before = waiting (d .core .line)
+
+  abbrev what : Asking
+  what = asking (d .hall) x
+
   -- who is placed asked for it, did not wait, and is not receive only
-  pub placed-why : Did a why h c d m → (s : ℕ) → isPlaced s m ≡ true → (p : ℕ) × (a ≡ asks s p) × (isIn s (waiting (c .line)) ≡ false) × (receivesOnly h s ≡ false)
-  placed-why (rests q l f e) s z = clash z (ap (isPlaced s) e)
-  placed-why (gives t q l f e) s z = clash z (ap (isPlaced s) e)
-  placed-why (places t p q w v l f e) s z = let x : t ≡ s = eqb-true t s (sym (ap (isPlaced s) e) ∙ z) in rw (sym x) (p, q, w, v)
-  placed-why (shifts t p b q w l f e) s z = clash z (ap (isPlaced s) e)
-  placed-why (strikes t b q y l f e) s z = clash z (ap (isPlaced s) e)
-  placed-why (passes t x es q w l f e) s z = clash z (ap (isPlaced s) e)
-  placed-why (frees t q w l f e) s z = clash z (ap (isPlaced s) e)
-  placed-why (halts t q y b l f e) s z = clash z (ap (isPlaced s) e)
-  placed-why (closes q y b n l f e) s z = clash z (ap (isPlaced s) e)
+  pub placed-why : Did d x new m → (s : ℕ) → isPlaced s m ≡ true → (p : ℕ) × (what ≡ asks s p) × (receivesOnly (d .hall) s ≡ false)
+  placed-why (rests u l f e) s z = clash z (ap (isPlaced s) e)
+  placed-why (gives t p a i l f e) s z = clash z (ap (isPlaced s) e)
+  placed-why (places t p a w r l f e) s z = let y : t ≡ s = eqb-true t s (sym (ap (isPlaced s) e) ∙ z) in rw (sym y) (p, a, r)
+  placed-why (shifts t p b a w n l f e) s z = clash z (ap (isPlaced s) e)
+  placed-why (strikes t b a g w l f e) s z = clash z (ap (isPlaced s) e)
+  placed-why (passes t y es a h b w l f e) s z = clash z (ap (isPlaced s) e)
+  placed-why (frees t a h w l f e) s z = clash z (ap (isPlaced s) e)
+  placed-why (halts t y h l f e) s z = clash z (ap (isPlaced s) e)
+  placed-why (closes y i l f e) s z = clash z (ap (isPlaced s) e)
 
   -- 2: who is struck off has a reason
-  pub struck-why : Did a why h c d m → (s : ℕ) → isStruck s m ≡ true → why s ≡ true
-  struck-why (rests q l f e) s z = clash z (ap (isStruck s) e ∙ getD-fill false 16 s)
-  struck-why (gives t q l f e) s z = clash z (ap (isStruck s) e ∙ getD-fill false 16 s)
-  struck-why (places t p q w v l f e) s z = clash z (ap (isStruck s) e ∙ getD-fill false 16 s)
-  struck-why (shifts t p b q w l f e) s z = clash z (ap (isStruck s) e ∙ getD-fill false 16 s)
-  struck-why (strikes t b q y l f e) s z = ap why (sym (eqb-true t s (sym (ap (isStruck s) e ∙ only-at t s b) ∙ z))) ∙ y
-  struck-why (passes t x es q w l f e) s z = clash z (ap (isStruck s) e ∙ getD-fill false 16 s)
-  struck-why (frees t q w l f e) s z = clash z (ap (isStruck s) e ∙ getD-fill false 16 s)
-  struck-why (halts t q y b l f e) s z = y s
-  struck-why (closes q y b n l f e) s z = y s
+  pub struck-why : Did d x new m → (s : ℕ) → isStruck s m ≡ true → reasonOf (d .hall) x s ≡ true
+  struck-why (rests u l f e) s z = clash z (ap (isStruck s) e ∙ getD-fill false 16 s)
+  struck-why (gives t p a i l f e) s z = clash z (ap (isStruck s) e ∙ getD-fill false 16 s)
+  struck-why (places t p a w r l f e) s z = clash z (ap (isStruck s) e ∙ getD-fill false 16 s)
+  struck-why (shifts t p b a w n l f e) s z = clash z (ap (isStruck s) e ∙ getD-fill false 16 s)
+  struck-why (strikes t b a g w l f e) s z =
+      or-left _ _ (ap (givesUp (d .hall) x) (sym (eqb-true t s (sym (ap (isStruck s) e ∙ only-at t s b) ∙ z))) ∙ g)
+  struck-why (passes t y es a h b w l f e) s z = clash z (ap (isStruck s) e ∙ getD-fill false 16 s)
+  struck-why (frees t a h w l f e) s z = clash z (ap (isStruck s) e ∙ getD-fill false 16 s)
+  struck-why (halts t y h l f e) s z = or-right (givesUp (d .hall) x s) (stopsCall x) y
+  struck-why (closes y i l f e) s z = or-right (givesUp (d .hall) x s) (stopsCall x) y
 
   -- 3: a floor that ends with a line waiting, the call going on, goes to its head
-  pub goes-to-head : Did a why h c d m → (t u : ℕ) → isEnded t m ≡ true → isIn u (waiting (c .line)) ≡ true → isStopped (d .phase) ≡ false →
-      (e : Entry) × (es : List Entry) × (waiting (c .line) ≡ e ∷ es) × (m .given ≡ OutOfLine (e .seat))
-  goes-to-head (rests q l f e) t u z i n = clash z (ap (isEnded t) e)
-  goes-to-head (gives s q l f e) t u z i n = clash z (ap (isEnded t) e)
-  goes-to-head (places s p q w v l f e) t u z i n = clash z (ap (isEnded t) e)
-  goes-to-head (shifts s p b q w l f e) t u z i n = clash z (ap (isEnded t) e)
-  goes-to-head (strikes s b q y l f e) t u z i n = clash z (ap (isEnded t) e)
-  goes-to-head (passes s x es q w l f e) t u z i n = (x, es, w, ap (λ (y : Marks). y .given) e)
-  goes-to-head (frees s q w l f e) t u z i n = clash i (ap (isIn u) w ∙ in-nil u)
-  goes-to-head (halts s q y b l f e) t u z i n = clash (ap isStopped f) n
-  goes-to-head (closes q y b x l f e) t u z i n = clash (ap isStopped f) n
-
-  -- 5: the line afterwards
-  pub line-changed : Did a why h c d m → comesIn a (m .placed) (goesOut (m .given) (without (m .struck) (waiting (c .line)))) ≡ waiting (d .line)
-  line-changed (rests q l f e) = rw (e, l, without-none (waiting (c .line))) (still-line a (waiting (c .line)) q)
-  line-changed (gives t q l f e) = rw (e, l, without-none (waiting (c .line))) (still-line a (waiting (c .line)) q)
-  line-changed (places t p q w v l f e) = rw (e, q, l, without-none (waiting (c .line)))
-  line-changed (shifts t p b q w l f e) = rw (e, q, l, without-none (waiting (c .line))) (if-yes _ _ _ w)
-  line-changed (strikes t b q y l f e) = rw (e, q, l)
-  line-changed (passes t x es q w l f e) = rw (e, q, l, without-none (waiting (c .line)), w)
-  line-changed (frees t q w l f e) = rw (e, q, l, without-none (waiting (c .line)), w)
-  line-changed (halts t q y b l f e) = rw (e, q, l) (all-struck (waiting (c .line)) b)
-  line-changed (closes q y b n l f e) = rw (e, q, l) (all-struck (waiting (c .line)) b)
+  pub goes-to-head : Did d x new m → (t u : ℕ) → isEnded t m ≡ true → isIn u before ≡ true → isStopped (new .phase) ≡ false →
+      (e : Entry) × (es : List Entry) × (before ≡ e ∷ es) × (m .given ≡ OutOfLine (e .seat))
+  goes-to-head (rests v l f e) t u z i n = clash z (ap (isEnded t) e)
+  goes-to-head (gives s p a j l f e) t u z i n = clash z (ap (isEnded t) e)
+  goes-to-head (places s p a w r l f e) t u z i n = clash z (ap (isEnded t) e)
+  goes-to-head (shifts s p b a w o l f e) t u z i n = clash z (ap (isEnded t) e)
+  goes-to-head (strikes s b a g w l f e) t u z i n = clash z (ap (isEnded t) e)
+  goes-to-head (passes s y es a h b w l f e) t u z i n = (y, es, w, ap (λ (o : Marks). o .given) e)
+  goes-to-head (frees s a h w l f e) t u z i n = clash i (ap (isIn u) w ∙ in-nil u)
+  goes-to-head (halts s y h l f e) t u z i n = clash (ap isStopped f) n
+  goes-to-head (closes y j l f e) t u z i n = clash (ap isStopped f) n
 
   -- 5: the holder afterwards
-  pub holder-changed : Did a why h c d m → (b : Mark) → ((s : ℕ) → holds (c .phase) s ≡ isSeat b s) → (s : ℕ) → holds (d .phase) s ≡ isSeat (heldAfter (m .given) (m .ended) b) s
-  holder-changed (rests q l f e) b g s = rw e (f s ∙ g s)
-  holder-changed (gives t q l f e) b g s = rw e (f s)
-  holder-changed (places t p q w v l f e) b g s = rw e (f s ∙ g s)
-  holder-changed (shifts t p x q w l f e) b g s = rw e (f s ∙ g s)
-  holder-changed (strikes t x q y l f e) b g s = rw e (f s ∙ g s)
-  holder-changed (passes t x es q w l f e) b g s = rw e (f s)
-  holder-changed (frees t q w l f e) b g s = rw e (f s)
-  holder-changed (halts t q y x l f e) b g s = rw (e, f)
-  holder-changed (closes q y x n l f e) b g s = rw (e, f) (sym (sym (g s) ∙ n s))
+  pub holder-changed : Did d x new m → (b : Mark) → ((s : ℕ) → holds (d .core .phase) s ≡ isSeat b s) → (s : ℕ) → holds (new .phase) s ≡ isSeat (heldAfter (m .given) (m .ended) b) s
+  holder-changed (rests u l f e) b g s = rw e (f s ∙ g s)
+  holder-changed (gives t p a i l f e) b g s = rw e (f s)
+  holder-changed (places t p a w r l f e) b g s = rw e (f s ∙ g s)
+  holder-changed (shifts t p y a w n l f e) b g s = rw e (f s ∙ g s)
+  holder-changed (strikes t y a o w l f e) b g s = rw e (f s ∙ g s)
+  holder-changed (passes t y es a h o w l f e) b g s = rw e (f s)
+  holder-changed (frees t a h w l f e) b g s = rw e (f s)
+  holder-changed (halts t y h l f e) b g s = rw (e, f)
+  holder-changed (closes y i l f e) b g s = rw (e, f) (sym (sym (g s) ∙ idle-none (d .core .phase) s i))
+
+  module _ (k : Sound d) (deaf : Deaf d) where
+    still : ((t p : ℕ) → what ≡ asks t p → Unmoved (d .core) (d .hall) t p) → (t p : ℕ) → what ≡ asks t p → moves t p before ≡ false
+    still u t p q = unmoved d k deaf t p (u t p q)
+
+    idle-still : isIdle (d .core .phase) ≡ true → (t p : ℕ) → what ≡ asks t p → moves t p before ≡ false
+    idle-still i t p q = unmoved d k deaf t p (quiet (idle-quiet (d .core .phase) i))
+
+    -- 5: the line afterwards
+    pub line-changed : Did d x new m → comesIn what (m .placed) (goesOut (m .given) (without (m .struck) before)) ≡ waiting (new .line)
+    line-changed (rests u l f e) = rw (e, l, without-none before) (still-line before 0 what (still u))
+    line-changed (gives t p a i l f e) = rw (e, l, without-none before) (still-line before 0 what (idle-still i))
+    line-changed (places t p a w r l f e) = rw (e, a, l, without-none before)
+    line-changed (shifts t p b a w n l f e) = rw (e, a, l, without-none before) (if-yes _ _ _ (moves-so t p before w n))
+    line-changed (strikes t b a g w l f e) = rw (e, a, l)
+    line-changed (passes t y es a h b w l f e) = rw (e, a, l, without-none before, w)
+    line-changed (frees t a h w l f e) = rw (e, a, l, without-none before, w)
+    line-changed (halts t y h l f e) = rw (e, stops-nobody (d .hall) x y, l) (all-struck before (fits d k .seats))
+    line-changed (closes y i l f e) = rw (e, stops-nobody (d .hall) x y, l) (all-struck before (fits d k .seats))
+
+    -- 3: each seat's place afterwards
+    unstruck : (s : ℕ) → m .struck ≡ no-one → isStruck s m ≡ false
+    unstruck s q = ap (λ (b : List Bool). getD b s false) q ∙ getD-fill false 16 s
+
+    struckOf : {z : Marks} → m ≡ z → m .struck ≡ z .struck
+    struckOf e = ap (λ (y : Marks). y .struck) e
+
+    everyone : (s : ℕ) → m .struck ≡ seatsOf before → isStruck s m ≡ isIn s before
+    unfolding seatsOf
+    everyone s q = ap (λ (b : List Bool). getD b s false) q ∙ in-added s no-one before refl (fits d k .seats) ∙ ap (λ (b : Bool). b || isIn s before) (getD-fill false 16 s)
+
+    quiet-place : (s : ℕ) → what ≡ nobody → isStruck s m ≡ false → isGivenOut s m ≡ false → isPlaced s m ≡ false → placeAfter s what m (placeIn s before) ≡ placeIn s before
+    quiet-place s a p q r = place-stays s what m (placeIn s before) p q r ∙ ap (λ (y : Asking). askedAgain s y (placeIn s before)) a
+
+    other-place : (s t p : ℕ) → what ≡ asks t p → eqb t s ≡ false → isStruck s m ≡ false → isGivenOut s m ≡ false → isPlaced s m ≡ false → placeAfter s what m (placeIn s before) ≡ placeIn s before
+    other-place s t p a z i j r =
+        place-stays s what m (placeIn s before) i j r ∙ ap (λ (y : Asking). askedAgain s y (placeIn s before)) a
+        ∙ asked-still s t p before (ap (λ (b : Bool). b && moves t p before) z)
+
+    emptied : (s : ℕ) → what ≡ nobody → m .struck ≡ seatsOf before → isGivenOut s m ≡ false → isPlaced s m ≡ false → waiting (new .line) ≡ [] →
+        placeAfter s what m (placeIn s before) ≡ placeIn s (waiting (new .line))
+    emptied s a q i r l =
+        by-test (isIn s before)
+        (λ w. place-goes s what m (placeIn s before) (or-left _ _ (everyone s q ∙ w)) ∙ sym (ap (placeIn s) l ∙ place-out s [] (in-nil s)))
+        (λ w. quiet-place s a (everyone s q ∙ w) i r ∙ place-out s before w ∙ sym (ap (placeIn s) l ∙ place-out s [] (in-nil s)))
+
+    pub place-changed : Did d x new m → (s : ℕ) → placeAfter s what m (placeIn s before) ≡ placeIn s (waiting (new .line))
+    place-changed (rests u l f e) s =
+        place-stays s what m (placeIn s before) (unstruck s (struckOf e)) (ap (isGivenOut s) e) (ap (isPlaced s) e) ∙ still-place before s what (still u) ∙ ap (placeIn s) (sym l)
+    place-changed (gives t p a i l f e) s =
+        place-stays s what m (placeIn s before) (unstruck s (struckOf e)) (ap (isGivenOut s) e) (ap (isPlaced s) e) ∙ still-place before s what (idle-still i) ∙ ap (placeIn s) (sym l)
+    place-changed (places t p a w r l f e) s =
+        let n = place-enter s (entry t p) before w in
+        by-test (eqb t s)
+        (λ z. place-comes s what m (placeIn s before) (unstruck s (struckOf e)) (ap (isGivenOut s) e) (ap (isPlaced s) e ∙ z) ∙ ap placedAt a ∙ sym (ap (placeIn s) l ∙ n ∙ if-yes _ _ _ z))
+        (λ z. other-place s t p a z (unstruck s (struckOf e)) (ap (isGivenOut s) e) (ap (isPlaced s) e ∙ z) ∙ sym (ap (placeIn s) l ∙ n ∙ if-no _ _ _ z))
+    place-changed (shifts t p b a w o l f e) s =
+        let y = without (only t) before in
+        let n = place-enter s (entry t p) y (in-without t (only t) before ∙ and-no (isIn t before) _ (ap not (only-at t t b ∙ eq-eqb t t refl))) in
+        by-test (eqb t s)
+        (λ z.
+        let i : isIn s before ≡ true = ap (λ (v : ℕ). isIn v before) (sym (eqb-true t s z)) ∙ w in
+        place-stays s what m (placeIn s before) (unstruck s (struckOf e)) (ap (isGivenOut s) e) (ap (isPlaced s) e) ∙ rw (a, place-at s before i) (if-yes _ _ _ z) ∙ sym (ap (placeIn s) l ∙ n ∙ if-yes _ _ _ z))
+        (λ z. other-place s t p a z (unstruck s (struckOf e)) (ap (isGivenOut s) e) (ap (isPlaced s) e)
+        ∙ sym (ap (placeIn s) l ∙ n ∙ if-no _ _ _ z ∙ place-without s (only t) before ∙ if-no _ _ _ (only-at t s b ∙ z)))
+    place-changed (strikes t b a g w l f e) s =
+        let i : isStruck s m ≡ eqb t s = ap (isStruck s) e ∙ only-at t s b in
+        let n = place-without s (only t) before in
+        by-test (eqb t s)
+        (λ z. place-goes s what m (placeIn s before) (or-left _ _ (i ∙ z)) ∙ sym (ap (placeIn s) l ∙ n ∙ if-yes _ _ _ (only-at t s b ∙ z)))
+        (λ z. quiet-place s a (i ∙ z) (ap (isGivenOut s) e) (ap (isPlaced s) e) ∙ sym (ap (placeIn s) l ∙ n ∙ if-no _ _ _ (only-at t s b ∙ z)))
+    place-changed (passes t y es a h b w l f e) s =
+        let n = place-without s (only (y .seat)) (y ∷ es) in
+        by-test (eqb (y .seat) s)
+        (λ z. place-goes s what m (placeIn s before) (or-right (isStruck s m) (isGivenOut s m) (ap (isGivenOut s) e ∙ z)) ∙ sym (ap (placeIn s) l ∙ n ∙ if-yes _ _ _ (only-at (y .seat) s b ∙ z)))
+        (λ z. quiet-place s a (unstruck s (struckOf e)) (ap (isGivenOut s) e ∙ z) (ap (isPlaced s) e) ∙ ap (placeIn s) w
+        ∙ sym (ap (placeIn s) l ∙ n ∙ if-no _ _ _ (only-at (y .seat) s b ∙ z)))
+    place-changed (frees t a h w l f e) s =
+        quiet-place s a (unstruck s (struckOf e)) (ap (isGivenOut s) e) (ap (isPlaced s) e) ∙ ap (placeIn s) (w ∙ sym l)
+    place-changed (halts t y h l f e) s = emptied s (stops-nobody (d .hall) x y) (struckOf e) (ap (isGivenOut s) e) (ap (isPlaced s) e) l
+    place-changed (closes y i l f e) s = emptied s (stops-nobody (d .hall) x y) (struckOf e) (ap (isGivenOut s) e) (ap (isPlaced s) e) l

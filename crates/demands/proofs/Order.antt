@@ -1,6 +1,6 @@
 -- Statement 3: of two who wait at one priority, the one in front was placed or moved before the other. Assumes nothing.
 use Prim.Native.Nat.{ℕ, suc, _≤_, _<_}
-use mathlib.Core.Path.{_≡_, refl, ap, sym, subst, _∙_}
+use mathlib.Core.Path.{_≡_, refl, ap, sym, _∙_}
 use mathlib.Core.Bool.{Bool, true, false, not, _&&_, _||_, or-true}
 use mathlib.Core.List.{List, [], _∷_}
 use native.Mathlib.Omega.{arith}
@@ -8,24 +8,29 @@ use lib.Dec.{eqb, leb}
 use lib.ListN.{length, getD}
 use borrow.Author.Tests.{eqb-true, eq-eqb, ne-eqb, leb-false}
 use Rattle.words.specs.Choice.{if_then_else_, if-yes, if-no, by-test, by-if}
-use Rattle.words.proofs.Tests.{clash, and-no, or-left, or-right, neither}
+use Rattle.words.proofs.Tests.{clash, and-no, or-left, or-right, or-else, neither}
 use Rattle.line.specs.declared.Entry.{Entry}
-use Rattle.line.specs.Line.{waiting, isIn, empty, enter, without, priorityOf}
-use Rattle.line.proofs.Laws.{enter-nil, enter-cons, before-here, before-later}
-use Rattle.hall.specs.declared.Settings.{Settings}
-use Rattle.hall.specs.declared.Hall.{Hall}
-use Rattle.hall.specs.Seats.{inRange, only}
+use Rattle.line.specs.Line.{waiting, isIn, enter, without, priorityOf}
+use Rattle.line.proofs.Laws.{enter-nil, enter-cons}
+use Rattle.hall.specs.Seats.{only}
 use Rattle.rules.specs.declared.Core.{Core}
 use Rattle.rules.specs.declared.Marks.{Marks}
-use Rattle.rules.specs.Request.{entry, waits}
+use Rattle.rules.specs.declared.Given.the-variants.{OutOfLine}
+use Rattle.rules.specs.Request.{entry}
+use Rattle.desk.specs.Timers.{isStopped}
+use Rattle.history.specs.Doing.{Desk, Doing, does, Fresh}
+use Rattle.history.specs.Asking.{Asking, nobody, asks, asking}
+use Rattle.ways.specs.Ways.{Unmoved, quiet}
+use Rattle.ways.proofs.Walk.{idle-quiet}
 use Rattle.marks.proofs.InLine.{in-nil, in-cons, in-without, only-at}
-use Rattle.reach.specs.Sound.{AtMost, Sorted, ListOk}
+use Rattle.marks.proofs.Did.{Did, rests, gives, places, shifts, strikes, passes, frees, halts, closes}
+use Rattle.reach.specs.Sound.{AtMost, Sorted, Sound}
 use Rattle.reach.proofs.InLine.{without-ok}
-use Rattle.demands.specs.Demands.{Asking, nobody, Row, happens, History, deskAfter, log, rowOf, isPlaced, moves, isMoved, lineFrom, latest, ComesFirst, GoesToTheFirst}
-use Rattle.demands.proofs.Counts.{sound-after}
-use Rattle.demands.proofs.Did.{Did, rests, gives, places, shifts, strikes, passes, frees, halts, closes}
-use Rattle.demands.proofs.OfEach.{goes-to-head}
-use Rattle.demands.proofs.Steps.{step-did, line-worked-out}
+use Rattle.demands.specs.Demands.{Heard, unread, doing, heard, outcome, Row, happens, History, deskAfter, asked, log, isPlaced, isEnded, moves, isMoved, inLine, placeOf, latest, ComesFirst, GoesToTheFirst}
+use Rattle.demands.proofs.Places.{priority-cons, priority-most, placeIn, place-at, in-place}
+use Rattle.demands.proofs.Counts.{fresh-line, sound-after}
+use Rattle.demands.proofs.OfEach.{Deaf, unmoved, moved-by, still-moved, moves-so, goes-to-head}
+use Rattle.demands.proofs.Steps.{step-does, deaf-after, place-worked-out}
 
 -- all that stand behind an entry at its priority have a later time
 abbrev pub Later : (ℕ → ℕ) → Entry → List Entry → Type 0
@@ -90,75 +95,78 @@ order-same at to (x ∷ xs) f k =
 
 -- the times after a step
 abbrev stamp : Marks → Asking → List Entry → ℕ → (ℕ → ℕ) → ℕ → ℕ
-stamp m a es n at s = if isPlaced s m || isMoved s a es then suc n else at s
+stamp m a es n at s = if isPlaced s m || isMoved s a (placeIn s es) then suc n else at s
 
 apart : (t s : ℕ) (es : List Entry) → isIn t es ≡ false → isIn s es ≡ true → eqb t s ≡ false
 apart t s es w i = by-test (eqb t s) (λ z. clash i (ap (λ (x : ℕ). isIn x es) (sym (eqb-true t s z)) ∙ w)) (λ z. z)
 
-module _ (a : Asking) (why : ℕ → Bool) (h : Hall) (c d : Core) (m : Marks) (at : ℕ → ℕ) (n : ℕ) (past : (s : ℕ) → at s ≤ n) (ok : ListOk h (waiting (c .line))) (k : InOrder at (waiting (c .line))) where
+module _ (d : Desk) (x : Doing) (new : Core) (m : Marks) (at : ℕ → ℕ) (n : ℕ) (past : (s : ℕ) → at s ≤ n) (ok : Sound d) (deaf : Deaf d) (k : InOrder at (waiting (d .core .line))) where
   abbrev line : List Entry
-  line = waiting (c .line)
+  line = waiting (d .core .line)
+
+  abbrev a : Asking
+  a = asking (d .hall) x
 
   abbrev to : ℕ → ℕ
   to = stamp m a line n at
 
-  kept : (s : ℕ) → isPlaced s m ≡ false → isMoved s a line ≡ false → to s ≡ at s
+  kept : (s : ℕ) → isPlaced s m ≡ false → isMoved s a (placeIn s line) ≡ false → to s ≡ at s
   kept s p q = if-no _ _ _ (neither _ _ p q)
 
   comes : (t p : ℕ) (es : List Entry) → isIn t es ≡ false → to t ≡ suc n → ((s : ℕ) → eqb t s ≡ false → to s ≡ at s) → Sorted es → InOrder at es → InOrder to (enter (entry t p) es)
   comes t p es w z f o i =
       order-enter to (entry t p) es o (λ s j. rw (f s (apart t s es w j), z) (let b = past s in omega arith)) (order-same at to es (λ s j. f s (apart t s es w j)) i)
 
-  quiet : (es : List Entry) → a ≡ nobody → ((s : ℕ) → isPlaced s m ≡ false) → InOrder at es → InOrder to es
-  quiet es q p i = order-same at to es (λ s _. kept s (p s) (ap (λ (x : Asking). isMoved s x line) q)) i
+  quiet-order : (es : List Entry) → a ≡ nobody → ((s : ℕ) → isPlaced s m ≡ false) → InOrder at es → InOrder to es
+  quiet-order es q p i = order-same at to es (λ s _. kept s (p s) (ap (λ (y : Asking). isMoved s y (placeIn s line)) q)) i
 
-  order-kept : Did a why h c d m → InOrder to (waiting (d .line))
-  order-kept (rests q l f e) = rw l (order-same at to line (λ s _. kept s (ap (isPlaced s) e) (q s)) k)
-  order-kept (gives t q l f e) = rw l (order-same at to line (λ s _. kept s (ap (isPlaced s) e) (q s)) k)
-  order-kept (places t p q w v l f e) =
+  still-order : ((t p : ℕ) → a ≡ asks t p → Unmoved (d .core) (d .hall) t p) → ((s : ℕ) → isPlaced s m ≡ false) → InOrder to line
+  still-order u p = order-same at to line (λ s _. kept s (p s) (still-moved line s a (λ t v q. unmoved d ok deaf t v (u t v q)))) k
+
+  other : (t p s : ℕ) → a ≡ asks t p → eqb t s ≡ false → isMoved s a (placeIn s line) ≡ false
+  other t p s q z = ap (λ (y : Asking). isMoved s y (placeIn s line)) q ∙ moved-by s t p line ∙ ap (λ (b : Bool). b && moves t p line) z
+
+  order-kept : Did d x new m → InOrder to (waiting (new .line))
+  order-kept (rests u l f e) = rw l (still-order u (λ s. ap (isPlaced s) e))
+  order-kept (gives t p q i l f e) = rw l (still-order (λ u v _. quiet (idle-quiet (d .core .phase) i)) (λ s. ap (isPlaced s) e))
+  order-kept (places t p q w r l f e) =
       rw l (comes t p line w (if-yes _ _ _ (or-left _ _ (ap (isPlaced t) e ∙ eq-eqb t t refl)))
-      (λ s z. kept s (ap (isPlaced s) e ∙ z) (ap (λ (x : Asking). isMoved s x line) q ∙ ap (λ (b : Bool). b && moves t p line) z)) (ok .sorted) k)
-  order-kept (shifts t p b q w l f e) =
+      (λ s z. kept s (ap (isPlaced s) e ∙ z) (other t p s q z)) (ok .core .line .list .sorted) k)
+  order-kept (shifts t p b q w o l f e) =
       rw l (comes t p (without (only t) line)
       (in-without t (only t) line ∙ and-no (isIn t line) _ (ap not (only-at t t b ∙ eq-eqb t t refl)))
-      (if-yes (isPlaced t m || isMoved t a line) (suc n) (at t) (or-right (isPlaced t m) (isMoved t a line) (ap (λ (x : Asking). isMoved t x line) q ∙ rw (eq-eqb t t refl, w))))
-      (λ s z. kept s (ap (isPlaced s) e) (ap (λ (x : Asking). isMoved s x line) q ∙ ap (λ (x : Bool). x && moves t p line) z))
-      (without-ok h (only t) line ok .sorted) (order-without at (only t) line k))
-  order-kept (strikes t b q y l f e) = rw l (quiet (without (only t) line) q (λ s. ap (isPlaced s) e) (order-without at (only t) line k))
-  order-kept (passes t x es q w l f e) =
-      rw l (quiet (without (only (x .seat)) (x ∷ es)) q (λ s. ap (isPlaced s) e) (rw w at (order-without at (only (x .seat)) line k)))
-  order-kept (frees t q w l f e) = rw l tt
-  order-kept (halts t q y b l f e) = rw l tt
-  order-kept (closes q y b x l f e) = rw l tt
+      (if-yes (isPlaced t m || isMoved t a (placeIn t line)) (suc n) (at t)
+      (or-right (isPlaced t m) (isMoved t a (placeIn t line)) (ap (λ (y : Asking). isMoved t y (placeIn t line)) q ∙ moved-by t t p line ∙ rw (eq-eqb t t refl, moves-so t p line w o))))
+      (λ s z. kept s (ap (isPlaced s) e) (other t p s q z))
+      (without-ok (d .hall) (only t) line (ok .core .line .list) .sorted) (order-without at (only t) line k))
+  order-kept (strikes t b q g w l f e) = rw l (quiet-order (without (only t) line) q (λ s. ap (isPlaced s) e) (order-without at (only t) line k))
+  order-kept (passes t y es q h b w l f e) =
+      rw l (quiet-order (without (only (y .seat)) (y ∷ es)) q (λ s. ap (isPlaced s) e) (rw w at (order-without at (only (y .seat)) line k)))
+  order-kept (frees t q h w l f e) = rw l tt
+  order-kept (halts t y h l f e) = rw l tt
+  order-kept (closes y i l f e) = rw l tt
 
 latest-past : (s : ℕ) (rows : List Row) → latest s rows ≤ length rows
 latest-past s [] = omega arith
 latest-past s (r ∷ past) =
     let z = latest-past s past in
-    by-if (λ (n : ℕ). n ≤ suc (length past)) (isPlaced s (r .report .marks) || isMoved s (r .asked) (lineFrom past)) (λ _. omega arith) (λ _. omega arith)
+    by-if (λ (n : ℕ). n ≤ suc (length past)) (isPlaced s (r .report .marks) || isMoved s (r .asked) (placeOf s past)) (λ _. omega arith) (λ _. omega arith)
 
-in-order : (g : Settings) → inRange g ≡ true → (past : History) → InOrder (λ s. latest s (log happens g past)) (lineFrom (log happens g past))
-in-order g r [] = tt
-in-order g r (x ∷ past) =
-    let rows = log happens g past in
-    let w : waiting (deskAfter happens g past .core .line) ≡ lineFrom rows = line-worked-out g r past in
-    subst (λ (es : List Entry). InOrder (λ s. latest s (log happens g (x ∷ past))) es) (line-worked-out g r (x ∷ past))
-    (subst (λ (es : List Entry). InOrder (stamp (rowOf happens (deskAfter happens g past) x .report .marks) (rowOf happens (deskAfter happens g past) x .asked) es (length rows) (λ s. latest s rows)) (waiting (deskAfter happens g (x ∷ past) .core .line))) w
-    (order-kept _ _ _ _ _ _ (λ s. latest s rows) (length rows) (λ s. latest-past s rows) (sound-after g r past .core .line .list) (rw (sym w) at (in-order g r past)) (step-did g r past x)))
-
--- the priority at which a seat waits, place by place
-priority-cons : (s : ℕ) (x : Entry) (xs : List Entry) → priorityOf s (x ∷ xs) ≡ (if eqb (x .seat) s then x .priority else priorityOf s xs)
-unfolding priorityOf
-priority-cons s x xs =
-    by-test (eqb (x .seat) s)
-    (λ q. ap (λ (n : ℕ). getD (x ∷ xs) n empty .priority) (before-here x xs s q) ∙ sym (if-yes _ _ _ q))
-    (λ q. ap (λ (n : ℕ). getD (x ∷ xs) n empty .priority) (before-later x xs s q) ∙ sym (if-no _ _ _ q))
-
-priority-most : (p s : ℕ) (es : List Entry) → AtMost p es → isIn s es ≡ true → priorityOf s es ≤ p
-priority-most p s [] k i = clash i (in-nil s)
-priority-most p s (x ∷ xs) k i =
-    rw (priority-cons s x xs)
-    (by-if (λ (n : ℕ). n ≤ p) (eqb (x .seat) s) (λ _. k .0) (λ q. priority-most p s xs (k .1) (sym (ap (λ (b : Bool). b || isIn s xs) q) ∙ sym (in-cons s x xs) ∙ i)))
+in-order : (start : Desk) → Fresh start → (past : History) → InOrder (λ s. latest s (log happens start past)) (waiting (deskAfter happens start past .core .line))
+unfolding happens
+in-order start f [] = rw (fresh-line start f) tt
+in-order start f (x ∷ past) =
+    let rows = log happens start past in
+    let d = deskAfter happens start past in
+    order-same (λ s. stamp (happens d x .report .marks) (asked (d .hall) (heard x)) (waiting (d .core .line)) (length rows) (λ t. latest t rows) s) (λ s. latest s (log happens start (x ∷ past)))
+    (waiting (happens d x .desk .core .line))
+    (λ s _. rw (place-worked-out start f past s))
+    (go d (heard x) (sound-after start f past) (deaf-after start f past) (λ s. latest s rows) (length rows) (λ s. latest-past s rows) (in-order start f past))
+  where
+    go : (d : Desk) (x : Heard) → Sound d → Deaf d → (at : ℕ → ℕ) (n : ℕ) → ((s : ℕ) → at s ≤ n) → InOrder at (waiting (d .core .line)) →
+        InOrder (stamp (outcome d x .report .marks) (asked (d .hall) x) (waiting (d .core .line)) n at) (waiting (outcome d x .desk .core .line))
+    go d (unread m) k v at n p o = order-same at _ (waiting (d .core .line)) (λ s _. if-no _ _ _ refl) o
+    go d (doing x) k v at n p o = order-kept d x (does d x .core) (does d x .report .marks) at n p k v o (step-does d x k)
 
 later-at : (at : ℕ → ℕ) (e : Entry) (s : ℕ) (es : List Entry) → Later at e es → isIn s es ≡ true → priorityOf s es ≡ e .priority → at (e .seat) < at s
 later-at at e s [] k i q = clash i (in-nil s)
@@ -168,21 +176,35 @@ later-at at e s (x ∷ xs) k i q =
     (λ z. later-at at e s xs (k .1) (sym (ap (λ (b : Bool). b || isIn s xs) z) ∙ sym (in-cons s x xs) ∙ i) (sym (if-no _ _ _ z) ∙ sym (priority-cons s x xs) ∙ q))
 
 -- 3
-head-first : (rows : List Row) (e : Entry) (es : List Entry) → Sorted (e ∷ es) → InOrder (λ s. latest s rows) (e ∷ es) → ComesFirst (e ∷ es) rows (e .seat)
-head-first rows e es s k =
-    let p : priorityOf (e .seat) (e ∷ es) ≡ e .priority = priority-cons (e .seat) e es ∙ if-yes _ _ _ (eq-eqb (e .seat) (e .seat) refl) in
-    record {
-      waits = first-in e es;
-      highest = λ t i. rw p (priority-most (e .priority) t (e ∷ es) (omega arith, s .0) i);
-      earliest = λ t i q n.
-          let z : eqb (e .seat) t ≡ false = ne-eqb (e .seat) t (λ x. n (sym x)) in
-          later-at (λ x. latest x rows) e t es (k .0) (sym (ap (λ (b : Bool). b || isIn t es) z) ∙ sym (in-cons t e es) ∙ i) (sym (if-no _ _ _ z) ∙ sym (priority-cons t e es) ∙ q ∙ p);
-    }
+module _ (rows : List Row) (e : Entry) (es : List Entry) (s : Sorted (e ∷ es)) (k : InOrder (λ s. latest s rows) (e ∷ es)) (f : (t : ℕ) → placeOf t rows ≡ placeIn t (e ∷ es)) where
+  head-priority : priorityOf (e .seat) (e ∷ es) ≡ e .priority
+  head-priority = priority-cons (e .seat) e es ∙ if-yes _ _ _ (eq-eqb (e .seat) (e .seat) refl)
+
+  head-first : ComesFirst rows (e .seat)
+  head-first =
+      record {
+        priority = e .priority;
+        waits = f (e .seat) ∙ place-at (e .seat) (e ∷ es) (first-in e es) ∙ ap inLine head-priority;
+        highest = λ t p q. let z = in-place t p (e ∷ es) (sym (f t) ∙ q) in rw (sym (z .1)) (priority-most (e .priority) t (e ∷ es) (omega arith, s .0) (z .0));
+        earliest = λ t q n.
+            let z = in-place t (e .priority) (e ∷ es) (sym (f t) ∙ q) in
+            let y : eqb (e .seat) t ≡ false = ne-eqb (e .seat) t (λ x. n (sym x)) in
+            later-at (λ x. latest x rows) e t es (k .0) (or-else _ _ y (sym (in-cons t e es) ∙ z .0)) (sym (if-no _ _ _ y) ∙ sym (priority-cons t e es) ∙ z .1);
+      }
 
 pub goes-to-the-first : GoesToTheFirst happens
-unfolding waits
-goes-to-the-first g r past now t u z i n =
-    let x = goes-to-head (step-did g r past now) t u z i n in
-    let o : InOrder (λ s. latest s (log happens g past)) (waiting (deskAfter happens g past .core .line)) = rw (sym (line-worked-out g r past)) at (in-order g r past) in
-    let f = head-first (log happens g past) (x .0) (x .1) (rw (x .2) at (sound-after g r past .core .line .list .sorted)) (rw (x .2) at o) in
-    (x .0 .seat, x .3, rw (x .2) f)
+unfolding happens
+goes-to-the-first start f past now t u p z i n =
+    let d = deskAfter happens start past in
+    let rows = log happens start past in
+    let y = in-place u p (waiting (d .core .line)) (sym (place-worked-out start f past u) ∙ i) in
+    let x = go d (heard now) (sound-after start f past) z (y .0) n in (
+      x .0 .seat,
+      x .3,
+      head-first rows (x .0) (x .1) (rw (x .2) at (sound-after start f past .core .line .list .sorted)) (rw (x .2) at (in-order start f past)) (λ s. place-worked-out start f past s ∙ ap (placeIn s) (x .2)),
+    )
+  where
+    go : (d : Desk) (x : Heard) → Sound d → isEnded t (outcome d x .report .marks) ≡ true → isIn u (waiting (d .core .line)) ≡ true → isStopped (outcome d x .desk .core .phase) ≡ false →
+        (e : Entry) × (es : List Entry) × (waiting (d .core .line) ≡ e ∷ es) × (outcome d x .report .marks .given ≡ OutOfLine (e .seat))
+    go d (unread m) k z i n = clash z refl
+    go d (doing x) k z i n = goes-to-head d x (does d x .core) (does d x .report .marks) (step-does d x k) t u z i n

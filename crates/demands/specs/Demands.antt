@@ -1,5 +1,5 @@
--- The mission's third demand: over any sequence of events from a fresh desk, nobody drops out unseen. First what a history is, then how it is
--- counted, then the five statements. Nothing is assumed but a fresh desk.
+-- The mission's third demand: over any sequence of events from any fresh desk, made or loaded, nobody drops out unseen. First what a history
+-- is, then how it is counted, then the five statements. Nothing is assumed but a fresh desk.
 --
 -- Where the demands are proved:
 --   1, 2  of each call and each step: the promises above the functions, each proved in its crate. Packets: reading, writing, and again for what
@@ -19,13 +19,9 @@ use Rattle.reading.specs.Reading.{reading}
 use Rattle.call.specs.Call.{eventOf}
 use Rattle.line.specs.declared.Entry.{Entry}
 use Rattle.line.specs.Line.{waiting, isIn, enter, without, priorityOf}
-use Rattle.hall.specs.declared.Settings.{Settings}
 use Rattle.hall.specs.declared.Hall.{Hall}
-use Rattle.hall.specs.declared.Asked.{Asked}
-use Rattle.hall.specs.declared.Found.{Found}
-use Rattle.hall.specs.declared.Found.the-variants.{At, Nowhere}
 use Rattle.hall.specs.Answers.{number}
-use Rattle.hall.specs.Seats.{inRange, only, effective, seatOf, finds}
+use Rattle.hall.specs.Seats.{only}
 use Rattle.rules.specs.declared.Core.{Core}
 use Rattle.rules.specs.declared.Message.{Message}
 use Rattle.rules.specs.declared.Mark.{Mark}
@@ -36,13 +32,10 @@ use Rattle.rules.specs.declared.Marks.{Marks}
 use Rattle.rules.specs.Words.{silence, noMarks}
 use Rattle.rules.specs.Floor.{holds}
 use Rattle.rules.specs.Request.{entry, waits}
-use Rattle.desk.specs.declared.Event.{Event}
-use Rattle.desk.specs.declared.Event.the-variants.{Start, Stop, Expiry, Request, Release, Position, Media, Other}
-use Rattle.desk.specs.declared.Timer.{Timer}
-use Rattle.desk.specs.declared.Timer.the-variants as timer
 use Rattle.desk.specs.declared.Left.{Left}
 use Rattle.desk.specs.Timers.{isStopped}
-use Rattle.history.specs.Doing.{Desk, Doing, event, leaves, joins, made, does, deskOf}
+use Rattle.history.specs.Doing.{Desk, Doing, event, does, deskOf, Fresh}
+use Rattle.history.specs.Asking.{Asking, nobody, asks, asking, givesUp, stopsCall}
 use Rattle.marks.specs.Marks.{isSeat, isGiven, isOut}
 
 -- WHAT HAPPENS
@@ -98,36 +91,12 @@ Server = Desk → Happening → Outcome
 abbrev pub History : Type 0
 History = List Happening
 
-abbrev pub deskAfter : Server → Settings → History → Desk
-deskAfter server g [] = made g
-deskAfter server g (x ∷ past) = server (deskAfter server g past) x .desk
+abbrev pub deskAfter : Server → Desk → History → Desk
+deskAfter server start [] = start
+deskAfter server start (x ∷ past) = server (deskAfter server start past) x .desk
 
 -- THE LOG OF AN EVENING
 -- A row for each step, the latest first: what was asked, and what was reported. The rest of the desk is not on it.
-
--- A request names its seat by SSRC; its priority is the lower of the one asked and the seat's highest.
-pub data Asking : Type 0 where
-  nobody : Asking
-  asks : ℕ → ℕ → Asking
-
-abbrev pub fromSeat : Hall → Asked → Found → Asking
-fromSeat h a (At s) = asks s (effective h s a)
-fromSeat h a Nowhere = nobody
-
-abbrev pub askedBy : Hall → Event → Asking
-askedBy h (Request x a) = fromSeat h a (seatOf h x)
-askedBy h (Release x) = nobody
-askedBy h (Position x) = nobody
-askedBy h (Media x) = nobody
-askedBy h (Other x) = nobody
-askedBy h Start = nobody
-askedBy h Stop = nobody
-askedBy h (Expiry t) = nobody
-
-abbrev pub asking : Hall → Doing → Asking
-asking h (event e) = askedBy h e
-asking h (leaves s) = nobody
-asking h (joins o n) = nobody
 
 abbrev pub asked : Hall → Heard → Asking
 asked h (unread n) = nobody
@@ -140,9 +109,9 @@ pub record Row : Type 0 where
 abbrev pub rowOf : Server → Desk → Happening → Row
 rowOf server d x = record { asked = asked (d .hall) (heard x); report = server d x .report }
 
-abbrev pub log : Server → Settings → History → List Row
-log server g [] = []
-log server g (x ∷ past) = rowOf server (deskAfter server g past) x ∷ log server g past
+abbrev pub log : Server → Desk → History → List Row
+log server start [] = []
+log server start (x ∷ past) = rowOf server (deskAfter server start past) x ∷ log server start past
 
 -- COUNTING, by the marks alone
 
@@ -205,86 +174,92 @@ abbrev pub holderFrom : List Row → Mark
 holderFrom [] = NoSeat
 holderFrom (r ∷ past) = heldAfter (r .report .marks .given) (r .report .marks .ended) (holderFrom past)
 
--- THE LATEST PLACING OR MOVE of a seat: the number of the step, the first step being 1. Of the line it asks only who waits and at which
--- priority, and nothing of the order.
-abbrev pub isMoved : ℕ → Asking → List Entry → Bool
-isMoved s nobody es = false
-isMoved s (asks t p) es = eqb t s && moves t p es
+-- WHO WAITS AND AT WHICH PRIORITY, by the marks and the requests alone; nothing is asked of an order
+pub data Place : Type 0 where
+  away : Place
+  inLine : ℕ → Place
+
+-- who is placed waits at the priority of its request
+abbrev pub placedAt : Asking → Place
+placedAt nobody = away
+placedAt (asks t p) = inLine p
+
+-- who waits and asks again waits at what it asks for now
+abbrev pub askedAgain : ℕ → Asking → Place → Place
+askedAgain s nobody w = w
+askedAgain s (asks t p) away = away
+askedAgain s (asks t p) (inLine q) = if eqb t s then inLine p else inLine q
+
+unfoldable pub placeAfter : ℕ → Asking → Marks → Place → Place
+placeAfter s a m w =
+    if isStruck s m || isGivenOut s m then away
+    else if isPlaced s m then placedAt a
+    else askedAgain s a w
+
+abbrev pub placeOf : ℕ → List Row → Place
+placeOf s [] = away
+placeOf s (r ∷ past) = placeAfter s (r .asked) (r .report .marks) (placeOf s past)
+
+-- THE LATEST PLACING OR MOVE of a seat: the number of the step, the first step being 1. "a changed priority moves it"
+abbrev pub isMoved : ℕ → Asking → Place → Bool
+isMoved s nobody w = false
+isMoved s (asks t p) away = false
+isMoved s (asks t p) (inLine q) = eqb t s && not (eqb q p)
 
 abbrev pub latest : ℕ → List Row → ℕ
 latest s [] = 0
 latest s (r ∷ past) =
-    if isPlaced s (r .report .marks) || isMoved s (r .asked) (lineFrom past) then suc (length past) else latest s past
+    if isPlaced s (r .report .marks) || isMoved s (r .asked) (placeOf s past) then suc (length past) else latest s past
 
 -- WHY A SEAT MAY BE STRUCK OFF: its own release, its own leave, or the call stops
 
-abbrev pub isT4 : Timer → Bool
-isT4 timer.T4 = true
-isT4 timer.T1 = false
-isT4 timer.T2 = false
-isT4 timer.T3 = false
-isT4 timer.T7 = false
-isT4 timer.T8 = false
-isT4 timer.T20 = false
-
-abbrev pub reasonIn : Hall → Event → ℕ → Bool
-reasonIn h (Release x) s = finds (seatOf h x) s
-reasonIn h Stop s = true
-reasonIn h (Expiry t) s = isT4 t
-reasonIn h Start s = false
-reasonIn h (Request x a) s = false
-reasonIn h (Position x) s = false
-reasonIn h (Media x) s = false
-reasonIn h (Other x) s = false
-
 abbrev pub reasonOf : Hall → Doing → ℕ → Bool
-reasonOf h (event e) s = reasonIn h e s
-reasonOf h (leaves t) s = eqb t s
-reasonOf h (joins o n) s = false
+reasonOf h x s = givesUp h x s || stopsCall x
 
 abbrev pub reason : Hall → Heard → ℕ → Bool
 reason h (unread n) s = false
 reason h (doing x) s = reasonOf h x s
 
 -- THE FIVE STATEMENTS
--- Each is of a server, any settings in range, any history and any seat number: proved of the rules' server `happens`, and refuted of faulty
--- ones (crate `faults`). `desk` and `rows` are the desk and the log after the history; in 2, 3 and the first half of 5, `now` is what happens
--- next and `new` what comes of it.
+-- Each is of a server, any fresh desk, any history and any seat number: proved of the rules' server `happens`, and refuted of faulty ones
+-- (crate `faults`). `desk` and `rows` are the desk and the log after the history; in 2, 3 and the first half of 5, `now` is what happens next
+-- and `new` what comes of it.
 
 -- 1. "times placed in line = times given the floor out of the line + times struck off + 1 if it waits now"; and it waits at most once
 abbrev pub NobodyDropsOut : Server → Type 0
-NobodyDropsOut server = (g : Settings) → inRange g ≡ true → (past : History) (s : ℕ) →
-    let desk = deskAfter server g past in
-    let rows = log server g past in
+NobodyDropsOut server = (start : Desk) → Fresh start → (past : History) (s : ℕ) →
+    let desk = deskAfter server start past in
+    let rows = log server start past in
     (times (isPlaced s) rows ≡ times (isGivenOut s) rows + times (isStruck s) rows + one (waits (desk .core) s))
     × (standing s (waiting (desk .core .line)) ≡ one (waits (desk .core) s))
 
 -- 2. "Struck off only in a step where it releases, leaves, or the call stops."
 abbrev pub StruckForAReason : Server → Type 0
-StruckForAReason server = (g : Settings) → inRange g ≡ true → (past : History) (now : Happening) (s : ℕ) →
-    let desk = deskAfter server g past in
+StruckForAReason server = (start : Desk) → Fresh start → (past : History) (now : Happening) (s : ℕ) →
+    let desk = deskAfter server start past in
     let new = server desk now in
     isStruck s (new .report .marks) ≡ true → reason (desk .hall) (heard now) s ≡ true
 
 -- 3. "A floor that ends with a line waiting, the call going on, goes to the highest priority, and among equals to the one whose latest placing
--- or move came first."
-pub record ComesFirst (line : List Entry) (rows : List Row) (s : ℕ) : Type 0 where
-  pub waits : isIn s line ≡ true
-  pub highest : (t : ℕ) → isIn t line ≡ true → priorityOf t line ≤ priorityOf s line
-  pub earliest : (t : ℕ) → isIn t line ≡ true → priorityOf t line ≡ priorityOf s line → (t ≡ s → ⊥) → latest s rows < latest t rows
+-- or move came first." Who waits, and at which priority, is read off the log.
+pub record ComesFirst (rows : List Row) (s : ℕ) : Type 0 where
+  pub priority : ℕ
+  pub waits : placeOf s rows ≡ inLine priority
+  pub highest : (t p : ℕ) → placeOf t rows ≡ inLine p → p ≤ priority
+  pub earliest : (t : ℕ) → placeOf t rows ≡ inLine priority → (t ≡ s → ⊥) → latest s rows < latest t rows
 
 abbrev pub GoesToTheFirst : Server → Type 0
-GoesToTheFirst server = (g : Settings) → inRange g ≡ true → (past : History) (now : Happening) (t u : ℕ) →
-    let desk = deskAfter server g past in
-    let new = server desk now in
-    isEnded t (new .report .marks) ≡ true → waits (desk .core) u ≡ true → isStopped (new .desk .core .phase) ≡ false →
-    (s : ℕ) × (new .report .marks .given ≡ OutOfLine s) × ComesFirst (waiting (desk .core .line)) (log server g past) s
+GoesToTheFirst server = (start : Desk) → Fresh start → (past : History) (now : Happening) (t u p : ℕ) →
+    let rows = log server start past in
+    let new = server (deskAfter server start past) now in
+    isEnded t (new .report .marks) ≡ true → placeOf u rows ≡ inLine p → isStopped (new .desk .core .phase) ≡ false →
+    (s : ℕ) × (new .report .marks .given ≡ OutOfLine s) × ComesFirst rows s
 
 -- 4. "Times given = times ended + 1 for the seat that holds it."; and at most one seat holds it
 abbrev pub GivenAndEnded : Server → Type 0
-GivenAndEnded server = (g : Settings) → inRange g ≡ true → (past : History) (s : ℕ) →
-    let desk = deskAfter server g past in
-    let rows = log server g past in
+GivenAndEnded server = (start : Desk) → Fresh start → (past : History) (s : ℕ) →
+    let desk = deskAfter server start past in
+    let rows = log server start past in
     (times (isGivenAny s) rows ≡ times (isEnded s) rows + one (holds (desk .core .phase) s))
     × ((t : ℕ) → holds (desk .core .phase) s ≡ true → holds (desk .core .phase) t ≡ true → s ≡ t)
 
@@ -297,14 +272,14 @@ pub record Marked (old new : Core) (m : Marks) (s : ℕ) : Type 0 where
   pub loses : holds (old .phase) s ≡ true → holds (new .phase) s ≡ false → isEnded s m ≡ true
 
 abbrev pub NothingUnseen : Server → Type 0
-NothingUnseen server = (g : Settings) → inRange g ≡ true → (past : History) (now : Happening) (s : ℕ) →
-    let desk = deskAfter server g past in
+NothingUnseen server = (start : Desk) → Fresh start → (past : History) (now : Happening) (s : ℕ) →
+    let desk = deskAfter server start past in
     let new = server desk now in
     Marked (desk .core) (new .desk .core) (new .report .marks) s
 
 abbrev pub WorkedOut : Server → Type 0
-WorkedOut server = (g : Settings) → inRange g ≡ true → (past : History) →
-    let desk = deskAfter server g past in
-    let rows = log server g past in
+WorkedOut server = (start : Desk) → Fresh start → (past : History) →
+    let desk = deskAfter server start past in
+    let rows = log server start past in
     (waiting (desk .core .line) ≡ lineFrom rows)
     × ((s : ℕ) → holds (desk .core .phase) s ≡ isSeat (holderFrom rows) s)

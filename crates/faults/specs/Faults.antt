@@ -1,12 +1,13 @@
 -- Servers of students, and where the demands stop them (document 01, "Faults seen in student servers"; 3 below is "one whose marks are invented"
 -- of document 01, "How strictly it is stated"): each is the rules' server with one fault, and a short history at which a statement of Demands is
--- not so. The fault in reading packets is stopped in crate reading. Assumes nothing.
+-- not so. Every statement is refuted of one: NobodyDropsOut in 1, 2 and 3, StruckForAReason in 3, GoesToTheFirst in 4, NothingUnseen in 5,
+-- GivenAndEnded in 6, the line and the holder of WorkedOut in 5 and 6. The fault in reading packets is stopped in crate reading. Assumes nothing.
 use Prim.Native.Nat.{ℕ, _+_}
-use mathlib.Core.Path.{_≡_, refl, sym, _∙_}
-use mathlib.Core.Bool.{Bool, true, false, _&&_}
+use mathlib.Core.Path.{_≡_, refl, ap, sym, _∙_}
+use mathlib.Core.Bool.{Bool, true, false, _&&_, _||_}
 use mathlib.Core.List.{List, [], _∷_}
 use native.Mathlib.Omega.{arith}
-use lib.ListN.{take}
+use lib.ListN.{length, take}
 use Rattle.words.proofs.Tests.{clash}
 use Rattle.words.specs.Choice.{if_then_else_}
 use Rattle.line.specs.declared.Entry.{Entry}
@@ -16,17 +17,20 @@ use Rattle.hall.specs.declared.Asked.the-variants.{Priority}
 use Rattle.hall.specs.Seats.{inRange, only, emptyHall, alone, effective, seatOf, freeSeat, withSeat}
 use Rattle.hall.specs.Identity.{octetsOf, nameOf, noNames, withName, nameAt, same, seatNamed, lengthAllowed}
 use Rattle.hall.specs.Join.{ssrcTaken, seated, join}
+use Rattle.rules.specs.declared.Mark.the-variants.{NoSeat}
 use Rattle.rules.specs.declared.Given.{Given}
 use Rattle.rules.specs.declared.Given.the-variants.{NotGiven, AtOnce, OutOfLine}
 use Rattle.rules.specs.declared.Marks.{Marks}
 use Rattle.rules.specs.Words.{_withLine_, next}
-use Rattle.rules.specs.Floor.{given, givenAtOnce, givenOutOfLine, entersIdle, passesOn, floorEnds, revokes}
+use Rattle.rules.specs.Floor.{holds, given, givenAtOnce, givenOutOfLine, entersIdle, passesOn, floorEnds, revokes}
 use Rattle.rules.specs.Request.{entry, waits, priorityIn, full, presses, denied, infoOf, holderAsks, informed, pressed, rule6, asksAgain, placed, request}
 use Rattle.desk.specs.declared.Event.the-variants.{Start, Request, Release}
 use Rattle.desk.specs.Timers.{isStopped}
 use Rattle.desk.specs.Events.{fresh, starts, callerOf, struckOff, releases, step}
-use Rattle.history.specs.Doing.{Desk, event, joins, does}
-use Rattle.demands.specs.Demands.{Happening, other, heard, Outcome, happens, Server, History, deskAfter, Asking, nobody, asks, asked, log, times, isPlaced, isStruck, isGivenOut, isEnded, moves, changed, latest, reason, NobodyDropsOut, StruckForAReason, GoesToTheFirst}
+use Rattle.history.specs.Doing.{Desk, event, joins, made, does, Fresh, justMade}
+use Rattle.history.specs.Asking.{Asking, nobody, asks}
+use Rattle.marks.specs.Marks.{isSeat}
+use Rattle.demands.specs.Demands.{Happening, other, heard, Outcome, happens, Server, History, deskAfter, asked, log, times, isPlaced, isStruck, isGivenOut, isGivenAny, isEnded, moves, changed, lineFrom, holderFrom, inLine, placeAfter, placeOf, latest, reason, NobodyDropsOut, StruckForAReason, GoesToTheFirst, GivenAndEnded, NothingUnseen, WorkedOut}
 
 -- THE EVENING ON WHICH THEY ARE TRIED
 -- Three sit down: test1, test10 and anna, with SSRCs 10, 11 and 12; the line has room for all.
@@ -64,9 +68,12 @@ one-waits = asksFor 0 5 ∷ asksFor 2 5 ∷ opened
 abbrev two-wait : History
 two-wait = asksFor 1 5 ∷ one-waits
 
-in-range : inRange settings ≡ true
+abbrev at-first : Desk
+at-first = made settings
+
+began : Fresh at-first
 unfolding inRange
-in-range = refl
+began = justMade settings refl
 
 -- an outcome with another line, or with other marks
 abbrev relined : Outcome → List Entry → Outcome
@@ -96,15 +103,15 @@ unfoldable pub student : Server
 student d x = byLetters d (asked (d .hall) (heard x)) (happens d x)
 
 -- test1 was placed, was never given the floor or struck off, and does not wait
-student-counts : (times (isPlaced 0) (log student settings two-wait) ≡ 1) × (times (isGivenOut 0) (log student settings two-wait) ≡ 0)
-    × (times (isStruck 0) (log student settings two-wait) ≡ 0) × (waits (deskAfter student settings two-wait .core) 0 ≡ false)
+student-counts : (times (isPlaced 0) (log student at-first two-wait) ≡ 1) × (times (isGivenOut 0) (log student at-first two-wait) ≡ 0)
+    × (times (isStruck 0) (log student at-first two-wait) ≡ 0) × (waits (deskAfter student at-first two-wait .core) 0 ≡ false)
 unfolding student happens heard if_then_else_ waiting lineOf before ahead enter anotherAtLeast without emptyHall alone effective seatOf freeSeat withSeat octetsOf nameOf noNames withName same seatNamed lengthAllowed ssrcTaken seated join next given givenAtOnce entersIdle revokes waits priorityIn priorityOf full presses denied infoOf holderAsks informed pressed rule6 asksAgain placed request fresh starts callerOf step does
 student-counts = (refl, refl, refl, refl)
 
 pub student-drops-one : NobodyDropsOut student → ⊥
 student-drops-one k =
     let c = student-counts in
-    let z = rw (c .0, c .1, c .2, c .3) at (k settings in-range two-wait 0 .0) in
+    let z = rw (c .0, c .1, c .2, c .3) at (k at-first began two-wait 0 .0) in
     omega arith
 
 -- 2. A SEAT GIVEN THE FLOOR STAYS IN LINE
@@ -119,15 +126,15 @@ stays d x = stillThere d (happens d x .report .marks .given) (happens d x)
 abbrev handed-over : History
 handed-over = lets-go 2 ∷ one-waits
 
-stays-counts : (times (isPlaced 0) (log stays settings handed-over) ≡ 1) × (times (isGivenOut 0) (log stays settings handed-over) ≡ 1)
-    × (times (isStruck 0) (log stays settings handed-over) ≡ 0) × (waits (deskAfter stays settings handed-over .core) 0 ≡ true)
+stays-counts : (times (isPlaced 0) (log stays at-first handed-over) ≡ 1) × (times (isGivenOut 0) (log stays at-first handed-over) ≡ 1)
+    × (times (isStruck 0) (log stays at-first handed-over) ≡ 0) × (waits (deskAfter stays at-first handed-over .core) 0 ≡ true)
 unfolding stays happens heard if_then_else_ waiting lineOf before ahead enter anotherAtLeast without emptyHall alone effective seatOf freeSeat withSeat octetsOf nameOf noNames withName same seatNamed lengthAllowed ssrcTaken seated join next given givenAtOnce givenOutOfLine entersIdle passesOn floorEnds revokes waits priorityIn priorityOf full presses denied infoOf holderAsks informed pressed rule6 asksAgain placed request fresh starts callerOf struckOff releases step does
 stays-counts = (refl, refl, refl, refl)
 
 pub stays-in-line : NobodyDropsOut stays → ⊥
 stays-in-line k =
     let c = stays-counts in
-    let z = rw (c .0, c .1, c .2, c .3) at (k settings in-range handed-over 0 .0) in
+    let z = rw (c .0, c .1, c .2, c .3) at (k at-first began handed-over 0 .0) in
     omega arith
 
 -- 3. A MARK INVENTED: whatever happens, test10 is reported as struck off
@@ -136,21 +143,21 @@ invents d x =
     remarked (happens d x)
     (record { placed = happens d x .report .marks .placed; struck = only 1; ended = happens d x .report .marks .ended; given = happens d x .report .marks .given })
 
-invented : (isStruck 1 (invents (deskAfter invents settings []) begins .report .marks) ≡ true) × (reason (deskAfter invents settings [] .hall) (heard begins) 1 ≡ false)
+invented : (isStruck 1 (invents (deskAfter invents at-first []) begins .report .marks) ≡ true) × (reason (deskAfter invents at-first [] .hall) (heard begins) 1 ≡ false)
 unfolding invents happens heard
 invented = (refl, refl)
 
 pub invents-a-mark : StruckForAReason invents → ⊥
-invents-a-mark k = clash (k settings in-range [] begins 1 (invented .0)) (invented .1)
+invents-a-mark k = clash (k at-first began [] begins 1 (invented .0)) (invented .1)
 
-invented-counts : (times (isPlaced 1) (log invents settings (begins ∷ [])) ≡ 0) × (times (isStruck 1) (log invents settings (begins ∷ [])) ≡ 1)
+invented-counts : (times (isPlaced 1) (log invents at-first (begins ∷ [])) ≡ 0) × (times (isStruck 1) (log invents at-first (begins ∷ [])) ≡ 1)
 unfolding invents happens heard does step starts entersIdle fresh next
 invented-counts = (refl, refl)
 
 pub invents-and-miscounts : NobodyDropsOut invents → ⊥
 invents-and-miscounts k =
     let c = invented-counts in
-    let z = rw (c .0, c .1) at (k settings in-range (begins ∷ []) 1 .0) in
+    let z = rw (c .0, c .1) at (k at-first began (begins ∷ []) 1 .0) in
     omega arith
 
 -- 4. ASKING AGAIN AT THE SAME PRIORITY SENDS A STUDENT TO THE BACK
@@ -166,15 +173,13 @@ abbrev asked-again : History
 asked-again = asksFor 0 5 ∷ two-wait
 
 sent-back :
-    (isEnded 2 (sends-back (deskAfter sends-back settings asked-again) (lets-go 2) .report .marks) ≡ true)
-    × (waits (deskAfter sends-back settings asked-again .core) 0 ≡ true)
-    × (isStopped (sends-back (deskAfter sends-back settings asked-again) (lets-go 2) .desk .core .phase) ≡ false)
-    × (sends-back (deskAfter sends-back settings asked-again) (lets-go 2) .report .marks .given ≡ OutOfLine 1)
-    × (isIn 0 (waiting (deskAfter sends-back settings asked-again .core .line)) ≡ true)
-    × (priorityOf 0 (waiting (deskAfter sends-back settings asked-again .core .line)) ≡ 5) × (priorityOf 1 (waiting (deskAfter sends-back settings asked-again .core .line)) ≡ 5)
-    × (latest 0 (log sends-back settings asked-again) ≡ 6) × (latest 1 (log sends-back settings asked-again) ≡ 7)
-unfolding sends-back happens heard changed moves priorityOf if_then_else_ waiting lineOf before ahead enter anotherAtLeast without emptyHall alone effective seatOf freeSeat withSeat octetsOf nameOf noNames withName same seatNamed lengthAllowed ssrcTaken seated join next given givenAtOnce givenOutOfLine entersIdle passesOn floorEnds revokes waits priorityIn full presses denied infoOf holderAsks informed pressed rule6 asksAgain placed request fresh starts callerOf struckOff releases step does
-sent-back = (refl, refl, refl, refl, refl, refl, refl, refl, refl)
+    (isEnded 2 (sends-back (deskAfter sends-back at-first asked-again) (lets-go 2) .report .marks) ≡ true)
+    × (isStopped (sends-back (deskAfter sends-back at-first asked-again) (lets-go 2) .desk .core .phase) ≡ false)
+    × (sends-back (deskAfter sends-back at-first asked-again) (lets-go 2) .report .marks .given ≡ OutOfLine 1)
+    × (placeOf 0 (log sends-back at-first asked-again) ≡ inLine 5) × (placeOf 1 (log sends-back at-first asked-again) ≡ inLine 5)
+    × (latest 0 (log sends-back at-first asked-again) ≡ 6) × (latest 1 (log sends-back at-first asked-again) ≡ 7)
+unfolding sends-back happens heard placeAfter priorityOf if_then_else_ waiting lineOf before ahead enter anotherAtLeast without emptyHall alone effective seatOf freeSeat withSeat octetsOf nameOf noNames withName same seatNamed lengthAllowed ssrcTaken seated join next given givenAtOnce givenOutOfLine entersIdle passesOn floorEnds revokes waits priorityIn full presses denied infoOf holderAsks informed pressed rule6 asksAgain placed request fresh starts callerOf struckOff releases step does
+sent-back = (refl, refl, refl, refl, refl, refl, refl)
 
 same-seat : {s t : ℕ} → OutOfLine s ≡ OutOfLine t → s ≡ t
 same-seat q = cc
@@ -182,8 +187,52 @@ same-seat q = cc
 pub sends-to-the-back : GoesToTheFirst sends-back → ⊥
 sends-to-the-back k =
     let c = sent-back in
-    let x = k settings in-range asked-again (lets-go 2) 2 0 (c .0) (c .1) (c .2) in
-    let s : x .0 ≡ 1 = same-seat (sym (x .1) ∙ c .3) in
+    let x = k at-first began asked-again (lets-go 2) 2 0 5 (c .0) (c .3) (c .1) in
+    let s : x .0 ≡ 1 = same-seat (sym (x .1) ∙ c .2) in
     let f = rw s at (x .2) in
-    let z = f .earliest 0 (c .4) (c .5 ∙ sym (c .6)) (λ q. omega arith) in
-    omega (arith, c .7, c .8)
+    let z = f .earliest 0 (c .3 ∙ sym (c .4) ∙ f .waits) (λ q. omega arith) in
+    omega (arith, c .5, c .6)
+
+-- 5. test1 goes out of the student's line without a mark, and the line can no longer be worked out from the marks
+student-unmarked :
+    (waits (deskAfter student at-first one-waits .core) 0 ≡ true)
+    × (waits (student (deskAfter student at-first one-waits) (asksFor 1 5) .desk .core) 0 ≡ false)
+    × ((isStruck 0 (student (deskAfter student at-first one-waits) (asksFor 1 5) .report .marks) || isGivenOut 0 (student (deskAfter student at-first one-waits) (asksFor 1 5) .report .marks)) ≡ false)
+unfolding student happens heard if_then_else_ waiting lineOf before ahead enter anotherAtLeast without emptyHall alone effective seatOf freeSeat withSeat octetsOf nameOf noNames withName same seatNamed lengthAllowed ssrcTaken seated join next given givenAtOnce entersIdle revokes waits priorityIn priorityOf full presses denied infoOf holderAsks informed pressed rule6 asksAgain placed request fresh starts callerOf step does
+student-unmarked = (refl, refl, refl)
+
+pub student-unseen : NothingUnseen student → ⊥
+student-unseen k = let c = student-unmarked in clash (k at-first began one-waits (asksFor 1 5) 0 .goes (c .0) (c .1)) (c .2)
+
+student-lines : (length (waiting (deskAfter student at-first two-wait .core .line)) ≡ 1) × (length (lineFrom (log student at-first two-wait)) ≡ 2)
+unfolding student happens heard changed moves if_then_else_ waiting lineOf before ahead enter anotherAtLeast without emptyHall alone effective seatOf freeSeat withSeat octetsOf nameOf noNames withName same seatNamed lengthAllowed ssrcTaken seated join next given givenAtOnce entersIdle revokes waits priorityIn priorityOf full presses denied infoOf holderAsks informed pressed rule6 asksAgain placed request fresh starts callerOf step does
+student-lines = (refl, refl)
+
+pub student-line-not-worked-out : WorkedOut student → ⊥
+student-line-not-worked-out k =
+    let c = student-lines in
+    omega (arith, ap length (k at-first began two-wait .0), c .0, c .1)
+
+-- 6. THE END OF A FLOOR IS NOT REPORTED: nobody has the ended mark
+unfoldable pub forgets : Server
+forgets d x =
+    remarked (happens d x)
+    (record { placed = happens d x .report .marks .placed; struck = happens d x .report .marks .struck; ended = NoSeat; given = happens d x .report .marks .given })
+
+-- anna had the floor and has let it go
+abbrev let-go : History
+let-go = lets-go 2 ∷ asksFor 2 5 ∷ opened
+
+forgotten : (times (isGivenAny 2) (log forgets at-first let-go) ≡ 1) × (times (isEnded 2) (log forgets at-first let-go) ≡ 0)
+    × (holds (deskAfter forgets at-first let-go .core .phase) 2 ≡ false) × (isSeat (holderFrom (log forgets at-first let-go)) 2 ≡ true)
+unfolding forgets happens heard if_then_else_ waiting lineOf before ahead enter anotherAtLeast without emptyHall alone effective seatOf freeSeat withSeat octetsOf nameOf noNames withName same seatNamed lengthAllowed ssrcTaken seated join next given givenAtOnce givenOutOfLine entersIdle passesOn floorEnds revokes waits priorityIn priorityOf full presses denied infoOf holderAsks informed pressed rule6 asksAgain placed request fresh starts callerOf struckOff releases step does
+forgotten = (refl, refl, refl, refl)
+
+pub forgets-an-end : GivenAndEnded forgets → ⊥
+forgets-an-end k =
+    let c = forgotten in
+    let z = rw (c .0, c .1, c .2) at (k at-first began let-go 2 .0) in
+    omega arith
+
+pub holder-not-worked-out : WorkedOut forgets → ⊥
+holder-not-worked-out k = let c = forgotten in clash (c .3) (sym (k at-first began let-go .1 2) ∙ c .2)

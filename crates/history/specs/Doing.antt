@@ -1,12 +1,14 @@
 -- A desk and anything that happens to it (document 01, "The desk"): the events of a running call, leave and join. Assumes nothing.
 use Prim.Native.Nat.{ℕ}
+use mathlib.Core.Path.{_≡_}
+use mathlib.Core.Bool.{true}
 use mathlib.Core.List.{List, [], _∷_}
 use Rattle.hall.specs.declared.Hall.{Hall}
 use Rattle.hall.specs.declared.Names.{Names}
 use Rattle.hall.specs.declared.Newcomer.{Newcomer}
 use Rattle.hall.specs.declared.Joined.{Joined}
 use Rattle.hall.specs.declared.Settings.{Settings}
-use Rattle.hall.specs.Seats.{emptyHall}
+use Rattle.hall.specs.Seats.{inRange, emptyHall}
 use Rattle.hall.specs.Identity.{noNames}
 use Rattle.hall.specs.Join.{join}
 use Rattle.rules.specs.declared.Core.{Core}
@@ -53,3 +55,9 @@ afterAll d (x ∷ xs) = afterAll (after d x) xs
 abbrev pub stepsOf : Desk → List Doing → List Left
 stepsOf d [] = []
 stepsOf d (x ∷ xs) = does d x ∷ stepsOf (after d x) xs
+
+-- "A fresh desk is Stopped, with sequence number 0"; "A loaded desk is fresh, with its seats numbered from 0 in sheet order": nothing has
+-- happened to its core, and its seats are as joining makes them, from the empty hall of a desk just made.
+pub data Fresh : Desk → Type 0 where
+  justMade : (g : Settings) → inRange g ≡ true → Fresh (made g)
+  andJoined : (d : Desk) (o : List ℕ) (n : Newcomer) → Fresh d → Fresh (after d (joins o n))

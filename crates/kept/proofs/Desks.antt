@@ -9,9 +9,9 @@ use Rattle.words.specs.Below.{and-left, and-right}
 use Rattle.hall.specs.declared.Settings.{Settings}
 use Rattle.hall.specs.Seats.{inRange}
 use Rattle.hall.specs.Identity.{nameAt, noName}
-use Rattle.history.specs.Doing.{Desk, Doing, made, after, afterAll}
+use Rattle.history.specs.Doing.{Desk, Doing, made, after, afterAll, justMade}
 use Rattle.reach.specs.Sound.{Sound}
-use Rattle.reach.proofs.Reach.{sound-made, sound-kept}
+use Rattle.reach.proofs.Reach.{sound-fresh, sound-kept}
 use Rattle.form.specs.Form.{octetAt, coreAt, entriesAt, flagsAt, octetsAt, wordsAt, hallAt, nameIn, namesAt, canonical}
 use Rattle.form.specs.Columns.{column}
 use Rattle.form.proofs.Columns.{length-column, getD-column}
@@ -66,7 +66,7 @@ unfolding settable
 in-range g k = and-right (inOctets (g .level) (g .limit) (g .c7) (g .c20) (g .duration)) (inRange g) (k .0)
 
 pub right-made : (g : Settings) → Settable g → Right (made g)
-right-made g k = record { sound = sound-made g (in-range g k); narrow = narrow-made g (narrow-settings g k) }
+right-made g k = record { sound = sound-fresh (made g) (justMade g (in-range g k)); narrow = narrow-made g (narrow-settings g k) }
 
 pub right-kept : (d : Desk) (x : Doing) → DoingFits x → Right d → Right (after d x)
 right-kept d x w k = record { sound = sound-kept d x (k .sound); narrow = narrow-kept d x w (k .narrow) }

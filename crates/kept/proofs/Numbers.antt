@@ -2,7 +2,7 @@
 -- Assumes nothing.
 use Prim.Native.Nat.{ℕ, _+_, _*_, _/_, _%_, _≤_, _<_}
 use mathlib.Core.Path.{_≡_}
-use mathlib.Core.Bool.{Bool, true, false, not}
+use mathlib.Core.Bool.{Bool, true, false}
 use mathlib.Core.List.{List, [], _∷_, _++_}
 use native.Mathlib.Omega.{arith}
 use lib.Dec.{eqb}
@@ -20,19 +20,20 @@ use Rattle.hall.specs.declared.Name.{Name}
 use Rattle.hall.specs.declared.Names.{Names}
 use Rattle.hall.specs.declared.Newcomer.{Newcomer}
 use Rattle.hall.specs.declared.Joined.{Joined}
-use Rattle.hall.specs.declared.Found.{Found}
-use Rattle.hall.specs.declared.Found.the-variants.{At, Nowhere}
-use Rattle.hall.specs.Seats.{isPresent, emptyHall, freeSeat, withSeat, noOne}
-use Rattle.hall.specs.Identity.{nameOf, noName, noNames, nameAt, withName, seatNamed, lengthAllowed}
+use Rattle.hall.specs.Seats.{isPresent, emptyHall, withSeat, noOne}
+use Rattle.hall.specs.Identity.{nameOf, noName, noNames, nameAt, withName}
 use Rattle.hall.specs.Identity as identity
-use Rattle.hall.specs.Join.{isAt, ssrcTaken, seated, join}
+use Rattle.hall.specs.Join.{join}
+use Rattle.hall.specs.Joins.{Joins, turnedAway, sitsDown}
+use Rattle.hall.proofs.Joins.{every-join}
 use Rattle.rules.specs.declared.Beside.{Beside}
 use Rattle.rules.specs.declared.Beside.the-variants.{NoMore, T2, T20}
 use Rattle.rules.specs.declared.Phase.{Phase}
 use Rattle.rules.specs.declared.Phase.the-variants.{Stopped, Idle, Taken, Revoking}
 use Rattle.desk.specs.declared.Left.{Left}
 use Rattle.desk.specs.Events.{fresh, leave}
-use Rattle.history.specs.Doing.{Desk, Doing, event, leaves as leaving, joins as joining, made, does, deskOf, after}
+use Rattle.history.specs.Doing.{Desk, Doing, event, leaves as leaving, joins as joining, made, does, after}
+use Rattle.ways.proofs.Walk.{every-way}
 use Rattle.reach.specs.Sound.{Sound, causeOk}
 use Rattle.reach.proofs.Hall.{hall-ok}
 use Rattle.form.specs.Form.{letters, kindOctet, besideOctet, timersOctet, holderIn, causeIn, phaseOctets, seatIn, priorityIn, lineOctets, coreOctets, flagOctets, seatOctets, wordOctets, settingsOctets, hallOctets, lengthOctets, nameOctets, namesOctets, octetsOf, octetAt, phaseOf, phaseAt, entryAt, entriesAt, coreAt, octetsAt, wordsAt, settingsAt, hallAt, nameIn, namesAt}
@@ -41,7 +42,7 @@ use Rattle.forms.proofs.Back.{name-short}
 use Rattle.words.proofs.Tests.{or-else}
 use Rattle.kept.specs.Kept.{deskAt, octetsFor, Fits, DoingFits}
 use Rattle.kept.proofs.All.{All, all-both, all-same, all-padded, all-set, all-at, at-all, all-column, all-rows}
-use Rattle.kept.proofs.Narrow.{Small, none-small, NarrowCore, Narrow, line-small, steps, leaves-on}
+use Rattle.kept.proofs.Narrow.{Small, none-small, NarrowCore, line-small, keeps-narrow}
 
 abbrev pub Octet : ℕ → Type 0
 Octet n = n < 256
@@ -101,39 +102,29 @@ module _ (h : Hall) (ns : Names) (k : NarrowSeats h ns) where
         names = all-set OctetsOf (ns .«of») s m e (k .names);
       }
 
-  abbrev Kept : Joined → Type 0
-  Kept j = NarrowSeats (j .hall) (j .names)
-
   name-narrow : (o : List ℕ) → Octets o → OctetsOf (nameOf o)
   unfolding nameOf
   name-narrow o k = all-padded Octet 0 62 o (omega arith) (at-all Octet 0 o k)
 
-  sits-down : (o : List ℕ) (n : Newcomer) → Fits o n → (f : Found) → Kept (seated h ns o n f)
-  unfolding seated
-  sits-down o n w Nowhere = k
-  sits-down o n w (At s) = one-set s true n (nameOf o) (w .1) (w .2) (name-narrow o (w .0))
-
-  join-kept : (o : List ℕ) (n : Newcomer) → Fits o n → Kept (join h ns o n)
-  unfolding join
-  join-kept o n w =
-      by-if Kept (not (lengthAllowed o)) (λ _. k)
-      (λ _. by-if Kept (isAt (seatNamed h ns o)) (λ _. k) (λ _. by-if Kept (ssrcTaken h (n .ssrc)) (λ _. k) (λ _. sits-down o n w (freeSeat h))))
+  join-kept : (o : List ℕ) (n : Newcomer) → Fits o n → (j : Joined) → Joins h ns o n j → NarrowSeats (j .hall) (j .names)
+  join-kept o n w j (turnedAway a f q) = rw q k
+  join-kept o n w j (sitsDown s p f z b q) = rw q (one-set s true n (nameOf o) (w .1) (w .2) (name-narrow o (w .0)))
 
   top : (s : ℕ) → getD (h .highest) s 0 < 256
   top s = all-at Octet 0 (omega arith) (h .highest) (k .highest) s
 
+hall-kept : (d : Desk) (x : Doing) → DoingFits x → NarrowSeats (d .hall) (d .names) → NarrowSeats (does d x .hall) (does d x .names)
+unfolding does leave
+hall-kept d (event e) w k = k
+hall-kept d (leaving t) w k =
+    by-if (λ (l : Left). NarrowSeats (l .hall) (l .names)) (isPresent (d .hall) t)
+    (λ _. one-set (d .hall) (d .names) k t false noOne noName (omega arith) (omega arith) (all-same Octet 62 0 (omega arith)))
+    (λ _. k)
+hall-kept d (joining o n) w k = join-kept (d .hall) (d .names) k o n w (join (d .hall) (d .names) o n) (every-join (d .hall) (d .names) o n)
+
 pub narrow-kept : (d : Desk) (x : Doing) → DoingFits x → NarrowDesk d → NarrowDesk (after d x)
-unfolding does leave Narrow
-narrow-kept d (event e) w k =
-    record { seats = k .seats; core = steps (d .hall) (top (d .hall) (d .names) (k .seats)) (d .core) (k .core) e }
-narrow-kept d (leaving t) w k =
-    by-if (λ (l : Left). NarrowDesk (deskOf l)) (isPresent (d .hall) t)
-    (λ _. record {
-      seats = one-set (d .hall) (d .names) (k .seats) t false noOne noName (omega arith) (omega arith) (all-same Octet 62 0 (omega arith));
-      core = leaves-on (d .hall) (top (d .hall) (d .names) (k .seats)) (d .core) (k .core) t;
-    })
-    (λ _. record { seats = k .seats; core = k .core })
-narrow-kept d (joining o n) w k = record { seats = join-kept (d .hall) (d .names) (k .seats) o n w; core = k .core }
+narrow-kept d x w k =
+    record { seats = hall-kept d x w (k .seats); core = keeps-narrow d x (does d x) (top (d .hall) (d .names) (k .seats)) (k .core) (every-way d x) }
 
 -- THE OCTETS OF SUCH A DESK
 

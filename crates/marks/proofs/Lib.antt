@@ -1,3 +1,3 @@
 pub mod InLine
-pub mod Floor
-pub mod Line
+pub mod Did
+pub mod Counts

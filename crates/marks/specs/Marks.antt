@@ -1,6 +1,6 @@
 -- "Each step reports .. four marks: placed (a seat), struck off (a set), ended (a seat), given (a seat, at once or out of the line)"
 -- (document 01, "The desk"). What a report's marks say of a seat and what the step did to it are two accounts, and they agree: in every step, of
--- every desk, for every seat. Each statement here is proved in proofs/, in the file named beside it. Assumes nothing.
+-- every desk whose line fits, for every seat. The statement here is proved in proofs/, in the file named beside it. Assumes nothing.
 use Prim.Native.Nat.{ℕ, _+_, _≤_, _<_}
 use mathlib.Core.Path.{_≡_}
 use mathlib.Core.Bool.{Bool, true, false}
@@ -48,10 +48,7 @@ pub record Fit (c : Core) (h : Hall) : Type 0 where
   pub limit : h .settings .limit ≤ 15
   pub seats : (t : ℕ) → isIn t (waiting (c .line)) ≡ true → t < 16
 
--- The line's account (proofs/Line): whatever happens to a desk whose line fits, for every seat.
-abbrev pub EveryLineCounts : Type 0
-EveryLineCounts = (d : Desk) (x : Doing) (s : ℕ) → Fit (d .core) (d .hall) → LineCounts (d .core) (does d x .core) (does d x .report .marks) s
-
--- The floor's account (proofs/Floor): whatever happens to whatever desk, for every seat.
-abbrev pub EveryFloorCounts : Type 0
-EveryFloorCounts = (d : Desk) (x : Doing) (s : ℕ) → FloorCounts (d .core) (does d x .core) (does d x .report .marks) s
+-- Both accounts (proofs/Counts): whatever happens to a desk whose line fits, for every seat.
+abbrev pub EveryStepCounts : Type 0
+EveryStepCounts = (d : Desk) (x : Doing) (s : ℕ) → Fit (d .core) (d .hall) →
+    LineCounts (d .core) (does d x .core) (does d x .report .marks) s × FloorCounts (d .core) (does d x .core) (does d x .report .marks) s

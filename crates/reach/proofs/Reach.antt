@@ -1,44 +1,42 @@
 -- A fresh desk is sound, and whatever happens keeps it so. Assumes nothing.
 use Prim.Native.Nat.{ℕ, _<_}
 use mathlib.Core.Path.{_≡_, refl, ap, sym, _∙_}
-use mathlib.Core.Bool.{true, false, not, and-false}
+use mathlib.Core.Bool.{true, false}
 use mathlib.Core.List.{List, [], _∷_}
 use native.Mathlib.Omega.{arith}
 use lib.Dec.{eqb}
 use lib.ListN.{length, getD}
-use borrow.Author.Tests.{eqb-true, eq-eqb, ne-eqb, not-false}
+use borrow.Author.Tests.{eqb-true, eq-eqb, ne-eqb}
 use Rattle.words.specs.Choice.{if-yes, if-no, by-test, by-if}
 use Rattle.words.specs.Table.{getD-fill}
 use Rattle.words.proofs.Tests.{clash}
-use Rattle.line.specs.Line.{waiting, lineOf, isIn, without}
+use Rattle.line.specs.Line.{waiting, lineOf, isIn}
 use Rattle.line.proofs.Laws.{waiting-lineOf}
 use Rattle.hall.specs.declared.Settings.{Settings}
 use Rattle.hall.specs.declared.Hall.{Hall}
 use Rattle.hall.specs.declared.Names.{Names}
 use Rattle.hall.specs.declared.Newcomer.{Newcomer}
 use Rattle.hall.specs.declared.Joined.{Joined}
-use Rattle.hall.specs.declared.Found.{Found}
-use Rattle.hall.specs.declared.Found.the-variants.{At, Nowhere}
-use Rattle.hall.specs.Seats.{inRange, emptyHall, isPresent, only, hasSsrc, seatOf, freeSeat, withSeat, vacated, noOne}
-use Rattle.hall.specs.Identity.{octetsOf, nameOf, noName, noNames, nameAt, withName, same, hasName, seatNamed, lengthAllowed}
-use Rattle.hall.specs.Join.{isAt, ssrcTaken, seated, join}
-use Rattle.hall.proofs.Laws.{not-at, found-holds, none-holds, allowed-short, name-octets, no-name-whole, same-sym}
-use Rattle.rules.specs.declared.Phase.{Phase}
+use Rattle.hall.specs.declared.Found.the-variants.{Nowhere}
+use Rattle.hall.specs.Seats.{inRange, emptyHall, isPresent, hasSsrc, seatOf, withSeat, vacated, noOne}
+use Rattle.hall.specs.Identity.{octetsOf, nameOf, noName, noNames, nameAt, withName, same, hasName, seatNamed}
+use Rattle.hall.specs.Join.{isAt, ssrcTaken, join}
+use Rattle.hall.specs.Joins.{Passes, Joins, turnedAway, sitsDown}
+use Rattle.hall.proofs.Joins.{every-join}
+use Rattle.hall.proofs.Laws.{not-at, none-holds, allowed-short, name-octets, no-name-whole, same-sym}
 use Rattle.rules.specs.declared.Core.{Core}
-use Rattle.rules.specs.declared.Step.{Step}
 use Rattle.rules.specs.Floor.{holds}
-use Rattle.rules.specs.Request.{waits}
 use Rattle.desk.specs.declared.Left.{Left}
-use Rattle.desk.specs.Events.{fresh, struckOff, leaves, leave}
+use Rattle.desk.specs.Events.{fresh, leave}
 use Rattle.marks.specs.Marks.{Fit}
-use Rattle.marks.proofs.Floor.{floor-counts}
-use Rattle.marks.proofs.Line.{line-counts}
-use Rattle.marks.proofs.InLine.{in-without, only-at}
-use Rattle.history.specs.Doing.{Desk, Doing, event, leaves as leaves-now, joins, made, does, deskOf, after, afterAll}
-use Rattle.reach.specs.Sound.{ListOk, LineOk, NumbersOk, HallOk, CoreOk, SeatsOk, Sound}
-use Rattle.reach.specs.Reach.{SoundMade, SoundKept, SoundReached, MarksCounted}
-use Rattle.reach.proofs.InLine.{none-ok, line-ok, without-ok, present-below}
-use Rattle.reach.proofs.Steps.{Ok, ends, strikes, steps}
+use Rattle.marks.proofs.Counts.{every-step-counts}
+use Rattle.history.specs.Doing.{Desk, Doing, event, leaves, joins, does, deskOf, after, afterAll, justMade, andJoined}
+use Rattle.ways.specs.Ways.{Way}
+use Rattle.ways.proofs.Walk.{every-way}
+use Rattle.reach.specs.Sound.{CoreOk, SeatsOk, Sound}
+use Rattle.reach.specs.Reach.{SoundFresh, SoundKept, SoundReached, MarksCounted}
+use Rattle.reach.proofs.InLine.{none-ok, line-ok, present-below}
+use Rattle.reach.proofs.Steps.{keeps, leaver-gone}
 use Rattle.reach.proofs.Hall.{hall-ok, seats-kept, present-there, present-else}
 
 module _ (g : Settings) (r : inRange g ≡ true) where
@@ -75,10 +73,6 @@ module _ (g : Settings) (r : inRange g ≡ true) where
         numbers = record { sequence = omega arith; c7 = omega arith; c20 = omega arith };
       }
 
--- a desk that was just made
-pub sound-made : SoundMade
-sound-made g r = record { seats = fresh-seats g r; core = fresh-core g r }
-
 -- leave
 module _ (h : Hall) (ns : Names) (k : SeatsOk h ns) (t : ℕ) (p : isPresent h t ≡ true) where
   below : t < 16
@@ -87,9 +81,6 @@ module _ (h : Hall) (ns : Names) (k : SeatsOk h ns) (t : ℕ) (p : isPresent h t
   left-seats : SeatsOk (vacated h t) (withName ns t noName)
   left-seats = seats-kept h ns k t below false noOne noName (λ q. clash q refl) (λ _. (refl, refl)) no-name-whole
 
-  left-hall : HallOk (vacated h t)
-  left-hall = hall-ok (vacated h t) (withName ns t noName) left-seats
-
   stays-there : (s : ℕ) → (s ≡ t → ⊥) → isPresent h s ≡ true → isPresent (vacated h t) s ≡ true
   stays-there s n q = present-else h ns k t below false noOne noName s (ne-eqb t s (λ e. n (sym e))) ∙ q
 
@@ -97,60 +88,29 @@ module _ (h : Hall) (ns : Names) (k : SeatsOk h ns) (t : ℕ) (p : isPresent h t
   unfolding withSeat
   same-settings = refl
 
-  line-left : (l : _) → LineOk h l → isIn t (waiting l) ≡ false → LineOk (vacated h t) l
-  line-left l o n =
-      record {
-        list = record {
-          sorted = o .list .sorted;
-          once = o .list .once;
-          within = rw same-settings (o .list .within);
-          here = λ s q. stays-there s (λ e. clash q (ap (λ (x : ℕ). isIn x (waiting l)) e ∙ n)) (o .list .here s q);
-        };
-        behind = o .behind;
-      }
-
-  numbers-left : (c : Core) → NumbersOk h c → NumbersOk (vacated h t) c
-  numbers-left c o = record { sequence = o .sequence; c7 = rw same-settings (o .c7); c20 = rw same-settings (o .c20) }
-
   core-left : (c : Core) → CoreOk h c → isIn t (waiting (c .line)) ≡ false → holds (c .phase) t ≡ false → CoreOk (vacated h t) c
   core-left c o n f =
       record {
-        line = line-left (c .line) (o .line) n;
+        line = record {
+          list = record {
+            sorted = o .line .list .sorted;
+            once = o .line .list .once;
+            within = rw same-settings (o .line .list .within);
+            here = λ s q. stays-there s (λ e. clash q (ap (λ (x : ℕ). isIn x (waiting (c .line))) e ∙ n)) (o .line .list .here s q);
+          };
+          behind = o .line .behind;
+        };
         floor = record {
           out = o .floor .out;
           still = o .floor .still;
           holder = λ s q. stays-there s (λ e. clash q (ap (λ (x : ℕ). holds (c .phase) x) e ∙ f)) (o .floor .holder s q);
           cause = o .floor .cause;
         };
-        numbers = numbers-left c (o .numbers);
+        numbers = record { sequence = o .numbers .sequence; c7 = rw same-settings (o .numbers .c7); c20 = rw same-settings (o .numbers .c20) };
       }
-
-  leaver-out : (c : Core) → CoreOk h c → isIn t (waiting (struckOff c t .core .line)) ≡ false
-  unfolding struckOff
-  leaver-out c o =
-      let x = without (only t) (waiting (c .line)) in
-      let y : ListOk h x = without-ok h (only t) (waiting (c .line)) (o .line .list) in
-      let w : waiting (lineOf x) ≡ x = waiting-lineOf x (omega (arith, y .within, hall-ok h ns k .limit)) in
-      ap (isIn t) w ∙ in-without t (only t) (waiting (c .line)) ∙ rw (only-at t t below, eq-eqb t t refl) (and-false (isIn t (waiting (c .line))))
-
-  struck-phase : (c : Core) → struckOff c t .core .phase ≡ c .phase
-  unfolding struckOff
-  struck-phase c = refl
-
-  leaves-ok : (c : Core) → CoreOk h c → Ok (vacated h t) (leaves c h t)
-  unfolding leaves Ok waits
-  leaves-ok c o =
-      by-if (λ (r : Step). CoreOk (vacated h t) (r .core)) (holds (c .phase) t)
-      (λ q. ends (vacated h t) left-hall c (line-left (c .line) (o .line) (o .floor .out t q)) (numbers-left c (o .numbers)) (vacated h t) t)
-      (λ f. by-if (λ (r : Step). CoreOk (vacated h t) (r .core)) (isIn t (waiting (c .line)))
-      (λ _. core-left (struckOff c t .core) (strikes h (hall-ok h ns k) c o t) (leaver-out c o) (ap (λ (x : Phase). holds x t) (struck-phase c) ∙ f))
-      (λ n. core-left c o n f))
 
 -- join
 module _ (h : Hall) (ns : Names) (k : SeatsOk h ns) (c : Core) (v : CoreOk h c) (o : List ℕ) (n : Newcomer) where
-  abbrev Kept : Joined → Type 0
-  Kept j = SeatsOk (j .hall) (j .names) × CoreOk (j .hall) c
-
   sixteen : (s : ℕ) → isPresent h s ≡ true → s < 16
   sixteen s q = present-below h (hall-ok h ns k) s q
 
@@ -200,58 +160,57 @@ module _ (h : Hall) (ns : Names) (k : SeatsOk h ns) (c : Core) (v : CoreOk h c) 
           (λ x. ap (isPresent (withSeat h t true n)) (sym (eqb-true t s x)) ∙ present-there h ns k t b true n noName)
           (λ x. present-else h ns k t b true n noName s x ∙ p)
 
-  takes : lengthAllowed o ≡ true → isAt (seatNamed h ns o) ≡ false → ssrcTaken h (n .ssrc) ≡ false → (t : ℕ) → t < 16 → Kept (seated h ns o n (At t))
-  unfolding seated
-  takes a q r t b =
-      let w : octetsOf (nameOf o) ≡ o = name-octets o (allowed-short o a) in (
-        seats-kept h ns k t b true n (nameOf o)
-            (λ _. record {
-              ssrc = new-ssrc r;
-              desk = new-desk r;
-              length = rw w a;
-              before = λ s p e. new-name q s p (rw w at e);
-              after = λ s p e. new-name q s p (same-sym (octetsOf (nameAt ns s)) o ∙ (rw w at e));
-            })
-            (λ z. clash refl z) (ap nameOf (sym w)),
-        core-joined t b,
-      )
+  takes : Passes h ns o n → (t : ℕ) → t < 16 → SeatsOk (withSeat h t true n) (withName ns t (nameOf o))
+  takes a t b =
+      let w : octetsOf (nameOf o) ≡ o = name-octets o (allowed-short o (a .long)) in
+      seats-kept h ns k t b true n (nameOf o)
+      (λ _. record {
+        ssrc = new-ssrc (a .unheard);
+        desk = new-desk (a .unheard);
+        length = rw w (a .long);
+        before = λ s p e. new-name (a .unnamed) s p (rw w at e);
+        after = λ s p e. new-name (a .unnamed) s p (same-sym (octetsOf (nameAt ns s)) o ∙ (rw w at e));
+      })
+      (λ z. clash refl z) (ap nameOf (sym w))
 
-  sits-down : lengthAllowed o ≡ true → isAt (seatNamed h ns o) ≡ false → ssrcTaken h (n .ssrc) ≡ false → (f : Found) → freeSeat h ≡ f → Kept (seated h ns o n f)
-  unfolding seated freeSeat
-  sits-down a q r Nowhere z = (k, v)
-  sits-down a q r (At t) z = takes a q r t (found-holds (λ (s : ℕ). not (isPresent h s)) 16 0 t z .1)
-
-  pub join-kept : Kept (join h ns o n)
-  unfolding join
-  join-kept =
-      by-if Kept (not (lengthAllowed o)) (λ _. (k, v))
-      (λ a. by-if Kept (isAt (seatNamed h ns o)) (λ _. (k, v))
-      (λ q. by-if Kept (ssrcTaken h (n .ssrc)) (λ _. (k, v))
-      (λ r. sits-down (not-false (lengthAllowed o) a) q r (freeSeat h) refl)))
+  join-kept : (j : Joined) → Joins h ns o n j → SeatsOk (j .hall) (j .names) × CoreOk (j .hall) c
+  join-kept j (turnedAway a f q) = rw q (k, v)
+  join-kept j (sitsDown t a f p b q) = rw q (takes a t b, core-joined t b)
 
 -- whatever happens to a sound desk leaves it sound
 pub sound-kept : SoundKept
-unfolding does leave Ok
+unfolding does leave
 sound-kept d (event e) k =
-    record { seats = k .seats; core = steps (d .hall) (hall-ok (d .hall) (d .names) (k .seats)) (d .core) (k .core) e }
-sound-kept d (leaves-now t) k =
-    by-if (λ (l : Left). Sound (deskOf l)) (isPresent (d .hall) t)
-    (λ p. record { seats = left-seats (d .hall) (d .names) (k .seats) t p; core = leaves-ok (d .hall) (d .names) (k .seats) t p (d .core) (k .core) })
-    (λ _. record { seats = k .seats; core = k .core })
+    record { seats = k .seats; core = keeps d (event e) (does d (event e)) (hall-ok (d .hall) (d .names) (k .seats)) (k .core) (every-way d (event e)) }
+sound-kept d (leaves t) k =
+    let o = hall-ok (d .hall) (d .names) (k .seats) in
+    by-if (λ (l : Left). Way d (leaves t) l → Sound (deskOf l)) (isPresent (d .hall) t)
+    (λ p w.
+    let z = leaver-gone d t _ o (k .core) p w in
+    record {
+      seats = left-seats (d .hall) (d .names) (k .seats) t p;
+      core = core-left (d .hall) (d .names) (k .seats) t p _ (keeps d (leaves t) _ o (k .core) w) (z .0) (z .1);
+    })
+    (λ _ _. record { seats = k .seats; core = k .core })
+    (every-way d (leaves t))
 sound-kept d (joins o n) k =
-    let j = join-kept (d .hall) (d .names) (k .seats) (d .core) (k .core) o n in
+    let j = join-kept (d .hall) (d .names) (k .seats) (d .core) (k .core) o n (join (d .hall) (d .names) o n) (every-join (d .hall) (d .names) o n) in
     record { seats = j .0; core = j .1 }
 
--- so every desk that can be reached is sound
+-- a fresh desk is sound, and so is every desk that can be reached from it
+pub sound-fresh : SoundFresh
+sound-fresh d (justMade g r) = record { seats = fresh-seats g r; core = fresh-core g r }
+sound-fresh d (andJoined e o n k) = sound-kept e (joins o n) (sound-fresh e k)
+
 pub sound-reached : SoundReached
-sound-reached g r xs = go (made g) xs (sound-made g r)
+sound-reached d f xs = go d xs (sound-fresh d f)
   where
     go : (d : Desk) (xs : List Doing) → Sound d → Sound (afterAll d xs)
     go d [] k = k
     go d (x ∷ xs) k = go (after d x) xs (sound-kept d x k)
 
 -- and at every such desk, whatever happens, the marks are what the line and the holder did
-fits : (d : Desk) → Sound d → Fit (d .core) (d .hall)
+pub fits : (d : Desk) → Sound d → Fit (d .core) (d .hall)
 fits d k =
     let h = hall-ok (d .hall) (d .names) (k .seats) in
     record {
@@ -261,4 +220,4 @@ fits d k =
     }
 
 pub marks-counted : MarksCounted
-marks-counted d x s k = (line-counts d x s (fits d k), floor-counts d x s)
+marks-counted d x s k = every-step-counts d x s (fits d k)

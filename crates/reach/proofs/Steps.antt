@@ -1,48 +1,38 @@
--- Every step keeps a core right. Assumes nothing.
+-- Whatever way a step goes, it keeps a core right; and who leaves neither holds the floor nor waits any more. Assumes nothing.
 use Prim.Native.Nat.{ℕ, _+_, _<_}
 use mathlib.Core.Path.{_≡_, refl, ap, sym, _∙_}
 use mathlib.Core.Bool.{Bool, true, false, not, _&&_, _||_}
 use mathlib.Core.List.{List, [], _∷_}
 use native.Mathlib.Omega.{arith}
-use lib.Dec.{eqb, ltb}
+use lib.Dec.{eqb}
 use lib.ListN.{length, getD}
-use borrow.Author.Tests.{eqb-true, eq-eqb, leb-false, ltb-true}
-use Rattle.words.specs.Choice.{if-yes, if-no, by-test, by-if}
-use Rattle.words.specs.Below.{and-left}
-use Rattle.words.proofs.Tests.{clash, and-no}
+use borrow.Author.Tests.{eqb-true, eq-eqb, leb-false}
+use Rattle.words.specs.Choice.{by-test}
+use Rattle.words.proofs.Tests.{clash, and-no, neither-left}
 use Rattle.line.specs.declared.Entry.{Entry}
 use Rattle.line.specs.Line.{waiting, lineOf, isIn, enter, without}
-use Rattle.line.proofs.Laws.{waiting-lineOf}
+use Rattle.line.proofs.Laws.{waiting-lineOf, without-le}
 use Rattle.hall.specs.declared.Hall.{Hall}
-use Rattle.hall.specs.declared.Answer.{Answer}
-use Rattle.hall.specs.declared.Answer.the-variants.{Done, CallStopped}
-use Rattle.hall.specs.declared.Found.{Found}
-use Rattle.hall.specs.declared.Found.the-variants.{At, Nowhere}
-use Rattle.hall.specs.Seats.{only, alone, queues, receivesOnly, effective, isPresent, hasSsrc, seatOf}
-use Rattle.hall.proofs.Laws.{found-holds}
+use Rattle.hall.specs.Seats.{only, isPresent}
 use Rattle.rules.specs.declared.Beside.{Beside}
 use Rattle.rules.specs.declared.Beside.the-variants.{NoMore, T2, T20}
 use Rattle.rules.specs.declared.Phase.{Phase}
 use Rattle.rules.specs.declared.Phase.the-variants.{Stopped, Idle, Taken, Revoking}
 use Rattle.rules.specs.declared.Core.{Core}
-use Rattle.rules.specs.declared.Step.{Step}
-use Rattle.rules.specs.Words.{next, answered, _inPhase_, _withLine_, _countingC20_}
-use Rattle.rules.specs.Floor.{holds, given, givenAtOnce, givenOutOfLine, entersIdle, passesOn, floorEnds, revokes}
-use Rattle.rules.specs.Request.{isIdle, entry, waits, full, presses, denied, holderAsks, informed, pressed, rule6, asksAgain, placed, grantedAgain, request}
+use Rattle.rules.specs.declared.Message.{Message}
+use Rattle.rules.specs.Words.{next, numbered, _inPhase_, _withLine_, _countingC7_}
+use Rattle.rules.specs.Floor.{holds}
+use Rattle.rules.specs.Request.{entry, waits, full}
 use Rattle.desk.specs.declared.Event.{Event}
-use Rattle.desk.specs.declared.Event.the-variants.{Start, Stop, Expiry, Request, Release, Position, Media, Other}
-use Rattle.desk.specs.declared.Caller.{Caller}
-use Rattle.desk.specs.declared.Caller.the-variants.{Sits, Refused}
-use Rattle.desk.specs.declared.Timer.{Timer}
-use Rattle.desk.specs.declared.Timer.the-variants as timer
-use Rattle.desk.specs.Timers.{halted, stops, endsIn, revokesIn, idleAgain, revokesAgain, grantsOrEnds, grantsAgain, fires, isStopped, runs, running, expires}
-use Rattle.desk.specs.Events.{starts, sitting, callerOf, heard, struckOff, releases, asksPlace, talks, step}
+use Rattle.desk.specs.declared.Left.{Left}
+use Rattle.history.specs.Doing.{Desk, Doing, event, leaves}
+use Rattle.history.specs.Asking.{nobody, asks}
 use Rattle.marks.proofs.InLine.{in-nil, in-cons, in-enter, in-without, only-at, without-less}
-use Rattle.reach.specs.Sound.{ListOk, LineOk, FloorOk, NumbersOk, HallOk, CoreOk, isBusy, causeOk}
+use Rattle.ways.specs.Ways.{isBusy, Six, informs, presses, informsAndPresses}
+use Rattle.ways.specs.Ways as way
+use Rattle.ways.proofs.Walk.{idle-quiet}
+use Rattle.reach.specs.Sound.{ListOk, LineOk, FloorOk, NumbersOk, HallOk, CoreOk, causeOk}
 use Rattle.reach.proofs.InLine.{none-ok, without-ok, enter-ok, line-ok, present-below}
-
-unfoldable pub Ok : Hall → Step → Type 0
-Ok h r = CoreOk h (r .core)
 
 next-below : (n : ℕ) → next n < 65536
 unfolding next
@@ -55,25 +45,12 @@ without-nil : (seats : List Bool) → without seats [] ≡ []
 unfolding without
 without-nil seats = refl
 
-pub idle-quiet : (p : Phase) → isIdle p ≡ true → isBusy p ≡ false
-idle-quiet Stopped q = refl
-idle-quiet (Idle t7) q = refl
-idle-quiet (Taken e b) q = clash q refl
-idle-quiet (Revoking e n) q = clash q refl
+-- who was struck off, or was not in line, is not in line
+gone-out : (t : ℕ) (es : List Entry) → t < 16 → isIn t (without (only t) es) ≡ false
+gone-out t es b = in-without t (only t) es ∙ and-no (isIn t es) _ (ap not (only-at t t b ∙ eq-eqb t t refl))
 
-busy-else : (p : Phase) → isStopped p ≡ false → isIdle p ≡ false → isBusy p ≡ true
-busy-else Stopped q i = clash refl q
-busy-else (Idle t7) q i = clash refl i
-busy-else (Taken e b) q i = refl
-busy-else (Revoking e n) q i = refl
-
-t7-quiet : (p : Phase) → running p .t7 ≡ true → isBusy p ≡ false
-t7-quiet Stopped q = refl
-t7-quiet (Idle t7) q = refl
-t7-quiet (Taken e NoMore) q = clash q refl
-t7-quiet (Taken e T2) q = clash q refl
-t7-quiet (Taken e T20) q = clash q refl
-t7-quiet (Revoking e n) q = clash q refl
+still-out : (s : ℕ) (seats : List Bool) (es : List Entry) → isIn s es ≡ false → isIn s (without seats es) ≡ false
+still-out s seats es q = in-without s seats es ∙ ap (λ (b : Bool). b && not (getD seats s false)) q
 
 module _ (h : Hall) (k : HallOk h) where
   -- nobody holds the floor, and nobody waits
@@ -93,39 +70,8 @@ module _ (h : Hall) (k : HallOk h) where
         cause = u;
       }
 
-  module _ (c : Core) (l : LineOk h (c .line)) (m : NumbersOk h c) where
-    quiet : (g : Hall) → waiting (c .line) ≡ [] → Ok h (entersIdle c g)
-    unfolding entersIdle Ok
-    quiet g w =
-        record { line = l; floor = empty-floor (Idle true) (waiting (c .line)) refl w; numbers = record { sequence = next-below (c .sequence); c7 = k .c7; c20 = m .c20 } }
-
-    gives : (g : Hall) (e : Entry) (es : List Entry) → waiting (c .line) ≡ e ∷ es → Ok h (givenOutOfLine (c withLine lineOf (without (only (e .seat)) (e ∷ es))) g e)
-    unfolding givenOutOfLine given Ok
-    gives g e es q =
-        let x = without (only (e .seat)) (e ∷ es) in
-        let o : ListOk h (e ∷ es) = rw q at (l .list) in
-        let y : ListOk h x = without-ok h (only (e .seat)) (e ∷ es) o in
-        let i : isPresent h (e .seat) ≡ true = o .here (e .seat) (in-cons (e .seat) e es ∙ rw (eq-eqb (e .seat) (e .seat) refl)) in
-        let b : e .seat < 16 = present-below h k (e .seat) i in
-        let w : waiting (lineOf x) ≡ x = waiting-lineOf x (omega (arith, y .within, k .limit)) in
-        let n : isIn (e .seat) x ≡ false = in-without (e .seat) (only (e .seat)) (e ∷ es) ∙ and-no (isIn (e .seat) (e ∷ es)) _ (ap not (only-at (e .seat) (e .seat) b ∙ eq-eqb (e .seat) (e .seat) refl)) in
-        record {
-          line = line-ok h k x y;
-          floor = held-floor (Taken e T20) (e .seat) (waiting (lineOf x)) (λ s. refl) refl refl (ap (isIn (e .seat)) w ∙ n) i;
-          numbers = record { sequence = next-below (c .sequence); c7 = m .c7; c20 = k .c20 };
-        }
-
-    passes : (g : Hall) (es : List Entry) → waiting (c .line) ≡ es → Ok h (passesOn c g es)
-    unfolding passesOn
-    passes g [] q = quiet g q
-    passes g (e ∷ es) q = gives g e es q
-
-    pub ends : (g : Hall) (t : ℕ) → Ok h (floorEnds c g t)
-    unfolding floorEnds Ok
-    ends g t = passes g (waiting (c .line)) refl
-
   -- another line on the same floor
-  pub relined : (c : Core) → CoreOk h c → (x : List Entry) → ListOk h x → ((s : ℕ) → holds (c .phase) s ≡ true → isIn s x ≡ false) → (isBusy (c .phase) ≡ false → x ≡ []) → CoreOk h (c withLine lineOf x)
+  relined : (c : Core) → CoreOk h c → (x : List Entry) → ListOk h x → ((s : ℕ) → holds (c .phase) s ≡ true → isIn s x ≡ false) → (isBusy (c .phase) ≡ false → x ≡ []) → CoreOk h (c withLine lineOf x)
   relined c o x y f g =
       let w : waiting (lineOf x) ≡ x = waiting-lineOf x (omega (arith, y .within, k .limit)) in
       record {
@@ -143,232 +89,147 @@ module _ (h : Hall) (k : HallOk h) where
         numbers = record { sequence = o .numbers .sequence; c7 = o .numbers .c7; c20 = o .numbers .c20 };
       }
 
-  revoke-ok : (r : Step) (e : Entry) (b : Beside) (n : ℕ) → CoreOk h (r .core) → r .core .phase ≡ Taken e b → (eqb n 2 || eqb n 4) ≡ true → Ok h (revokes r e n)
-  unfolding revokes Ok
-  revoke-ok r e b n o q u = turned (r .core) o e (Revoking e n) (λ s. ap (λ (p : Phase). holds p s) q) (λ s. refl) refl u
+  revoked : (c : Core) → CoreOk h c → (e : Entry) (b : Beside) (n : ℕ) → c .phase ≡ Taken e b → (eqb n 2 || eqb n 4) ≡ true → CoreOk h (c inPhase Revoking e n)
+  revoked c o e b n q u = turned c o e (Revoking e n) (λ s. ap (λ (p : Phase). holds p s) q) (λ s. refl) refl u
 
-  -- Request
-  informed-core : (d : Core) (t : ℕ) → informed d h t .core ≡ d
-  unfolding informed
-  informed-core d t = by-if (λ (r : Step). r .core ≡ d) (queues h t) (λ _. refl) (λ _. refl)
+  six : {c : Core} {t : ℕ} {new : Core} {first second : Message} → CoreOk h c → Six c h t new first second → CoreOk h new
+  six {c} o (informs q f s) = rw q o
+  six {c} o (presses e b k q f s) = rw q (revoked c o e b 4 k refl)
+  six {c} o (informsAndPresses e b k q f s) = rw q (revoked c o e b 4 k refl)
 
-  informs : (d : Core) (t : ℕ) → CoreOk h d → Ok h (informed d h t)
-  unfolding Ok
-  informs d t o = rw (informed-core d t) o
+  -- the call is idle
+  quiet : (c : Core) → CoreOk h c → waiting (c .line) ≡ [] → CoreOk h (numbered (c inPhase Idle true countingC7 1))
+  quiet c o w =
+      record {
+        line = o .line;
+        floor = empty-floor (Idle true) (waiting (c .line)) refl w;
+        numbers = record { sequence = next-below (c .sequence); c7 = k .c7; c20 = o .numbers .c20 };
+      }
 
-  presses-on : (d : Core) (t : ℕ) (press : Bool) (p : Phase) → CoreOk h d → d .phase ≡ p → Ok h (pressed (informed d h t) p press)
-  unfolding pressed
-  presses-on d t press Stopped o q = informs d t o
-  presses-on d t press (Idle t7) o q = informs d t o
-  presses-on d t press (Revoking e n) o q = informs d t o
-  presses-on d t press (Taken e b) o q =
-      by-if (Ok h) press
-      (λ _. revoke-ok (informed d h t) e b 4 (rw (informed-core d t) o) (ap (λ (x : Core). x .phase) (informed-core d t) ∙ q) refl)
-      (λ _. informs d t o)
+  halted : (c : Core) → CoreOk h c → CoreOk h (c inPhase Stopped withLine lineOf [])
+  halted c o =
+      record {
+        line = line-ok h k [] (none-ok h);
+        floor = empty-floor Stopped (waiting (lineOf [])) refl (waiting-lineOf [] (omega arith));
+        numbers = record { sequence = o .numbers .sequence; c7 = o .numbers .c7; c20 = o .numbers .c20 };
+      }
 
-  six : (d : Core) (t : ℕ) (press : Bool) → CoreOk h d → Ok h (rule6 d h t press)
-  unfolding rule6
-  six d t press o = presses-on d t press (d .phase) o refl
+module _ (d : Desk) (x : Doing) (l : Left) (k : HallOk (d .hall)) (o : CoreOk (d .hall) (d .core)) where
+  abbrev h : Hall
+  h = d .hall
 
-  module _ (c : Core) (o : CoreOk h c) where
-    refuses : (a : Answer) → Ok h (answered c a)
-    unfolding Ok
-    refuses a = o
+  abbrev c : Core
+  c = d .core
 
-    asks-holder : (p : Phase) → Ok h (holderAsks c p)
-    unfolding holderAsks Ok
-    asks-holder Stopped = o
-    asks-holder (Idle t7) = o
-    asks-holder (Taken e b) = o
-    asks-holder (Revoking e n) = o
+  abbrev line : List Entry
+  line = waiting (d .core .line)
 
-    denies : (t n : ℕ) → Ok h (denied c t n)
-    unfolding denied Ok
-    denies t n = o
+  -- who goes in is not the holder
+  not-holder : (t : ℕ) (es : List Entry) → holds (c .phase) t ≡ false → ((s : ℕ) → holds (c .phase) s ≡ true → isIn s es ≡ false) → (p s : ℕ) → holds (c .phase) s ≡ true → isIn s (enter (entry t p) es) ≡ false
+  not-holder t es n f p s q =
+      in-enter s (entry t p) es
+      ∙ by-test (eqb t s) (λ z. clash q (ap (λ (y : ℕ). holds (c .phase) y) (sym (eqb-true t s z)) ∙ n)) (λ z. rw z (f s q))
 
-    at-once : (t p : ℕ) → isIdle (c .phase) ≡ true → isPresent h t ≡ true → Ok h (givenAtOnce c h (entry t p))
-    unfolding givenAtOnce given Ok
-    at-once t p i j =
-        record {
-          line = o .line;
-          floor = held-floor (Taken (entry t p) NoMore) t (waiting (c .line)) (λ s. refl) refl refl (nothing (waiting (c .line)) t (o .floor .still (idle-quiet (c .phase) i))) j;
-          numbers = record { sequence = next-below (c .sequence); c7 = o .numbers .c7; c20 = o .numbers .c20 };
-        }
+  head-here : (e : Entry) (es : List Entry) → line ≡ e ∷ es → isPresent h (e .seat) ≡ true
+  head-here e es w = o .line .list .here (e .seat) (ap (isIn (e .seat)) w ∙ in-cons (e .seat) e es ∙ rw (eq-eqb (e .seat) (e .seat) refl))
 
-    -- who goes in is not the holder
-    not-holder : (t : ℕ) (x : List Entry) → holds (c .phase) t ≡ false → ((s : ℕ) → holds (c .phase) s ≡ true → isIn s x ≡ false) → (p : ℕ) (s : ℕ) → holds (c .phase) s ≡ true → isIn s (enter (entry t p) x) ≡ false
-    not-holder t x n f p s q =
-        in-enter s (entry t p) x
-        ∙ by-test (eqb t s) (λ z. clash q (ap (λ (y : ℕ). holds (c .phase) y) (sym (eqb-true t s z)) ∙ n)) (λ z. rw z (f s q))
+  pub keeps : way.Way d x l → CoreOk h (l .core)
+  unfolding waits full
+  keeps (way.refuses a n u v q m) = rw (ap (λ (y : Desk). y .core) q) o
+  keeps (way.grantsHolder t p e b a w n q m) = rw q o
+  keeps (way.denies t p n a s u b q m) = rw (ap (λ (y : Desk). y .core) q) o
+  keeps (way.gives t p a s i q m) =
+      rw q (record {
+        line = o .line;
+        floor = held-floor h k (Taken (entry t p) NoMore) t line (λ s. refl) refl refl (nothing line t (o .floor .still (idle-quiet (c .phase) i))) (s .present);
+        numbers = record { sequence = next-below (c .sequence); c7 = o .numbers .c7; c20 = o .numbers .c20 };
+      })
+  keeps (way.asksAgain t p f g a s w z m) = six h k o z
+  keeps (way.moves t p f g a s b n w r z m) =
+      let y = without (only t) line in
+      let u : length y < length line = without-less t (only t) line (only-at t t (s .below) ∙ eq-eqb t t refl) w in
+      let v : ListOk h (enter (entry t p) y) = enter-ok h (entry t p) y (gone-out t line (s .below)) (omega (arith, o .line .list .within)) (s .present) (without-ok h (only t) line (o .line .list)) in
+      six h k (relined h k c o (enter (entry t p) y) v (not-holder t y n (λ i q. still-out i (only t) line (o .floor .out i q)) p) (λ q. clash b q)) z
+  keeps (way.places t p f g a s b n r w u z m) =
+      six h k (relined h k c o (enter (entry t p) line) (enter-ok h (entry t p) line w (leb-false _ _ u) (s .present) (o .line .list)) (not-holder t line n (o .floor .out) p) (λ q. clash b q)) z
+  keeps (way.passes t e es a f n w q m) =
+      let y = without (only (e .seat)) (e ∷ es) in
+      let u : ListOk h y = without-ok h (only (e .seat)) (e ∷ es) (rw w at (o .line .list)) in
+      let i = head-here e es w in
+      let v : waiting (lineOf y) ≡ y = waiting-lineOf y (omega (arith, u .within, k .limit)) in
+      rw q (record {
+        line = line-ok h k y u;
+        floor = held-floor h k (Taken e T20) (e .seat) (waiting (lineOf y)) (λ s. refl) refl refl (ap (isIn (e .seat)) v ∙ gone-out (e .seat) (e ∷ es) (present-below h k (e .seat) i)) i;
+        numbers = record { sequence = next-below (c .sequence); c7 = o .numbers .c7; c20 = k .c20 };
+      })
+  keeps (way.frees t a f n w q m) = rw q (quiet h k c o w)
+  keeps (way.strikes t a g n w q m) =
+      rw q (relined h k c o (without (only t) line) (without-ok h (only t) line (o .line .list)) (λ s i. still-out s (only t) line (o .floor .out s i)) (λ b. ap (without (only t)) (o .floor .still b) ∙ without-nil (only t)))
+  keeps (way.tells s t y i q m) = rw q o
+  keeps (way.talks s e b y w q m) = rw q (turned h k c o e (Taken e T2) (λ s. ap (λ (p : Phase). holds p s) w) (λ s. refl) refl refl)
+  keeps (way.rests a f q m) = rw q o
+  keeps (way.starts y w q m) = rw q (quiet h k c o (o .floor .still (ap isBusy w)))
+  keeps (way.halts t y n q m) = rw q (halted h k c o)
+  keeps (way.closes y i q m) = rw q (halted h k c o)
+  keeps (way.revokes e b y w q m) = rw q (revoked h k c o e b 2 w refl)
+  keeps (way.revokesAgain e n y w q m) = rw q o
+  keeps (way.grantsAgain e b y w z q m) =
+      rw q (record { line = o .line; floor = o .floor; numbers = record { sequence = o .numbers .sequence; c7 = o .numbers .c7; c20 = omega arith } })
+  keeps (way.idlesAgain y i z q m) =
+      rw q (record { line = o .line; floor = o .floor; numbers = record { sequence = next-below (c .sequence); c7 = omega arith; c20 = o .numbers .c20 } })
+  keeps (way.idlesOn y i q m) =
+      rw q (record {
+        line = o .line;
+        floor = empty-floor h k (Idle false) line refl (o .floor .still (idle-quiet (c .phase) i));
+        numbers = record { sequence = o .numbers .sequence; c7 = o .numbers .c7; c20 = o .numbers .c20 };
+      })
 
-    asks-again : (t p : ℕ) (press : Bool) → waits c t ≡ true → holds (c .phase) t ≡ false → isBusy (c .phase) ≡ true → isPresent h t ≡ true → Ok h (asksAgain c h t p press)
-    unfolding asksAgain waits
-    asks-again t p press w n b i =
-        let v = waiting (c .line) in
-        let u : t < 16 = present-below h k t i in
-        let x = without (only t) v in
-        let y : ListOk h x = without-ok h (only t) v (o .line .list) in
-        let l : length x < length v = without-less t (only t) v (only-at t t u ∙ eq-eqb t t refl) w in
-        let a : isIn t x ≡ false = in-without t (only t) v ∙ and-no (isIn t v) _ (ap not (only-at t t u ∙ eq-eqb t t refl)) in
-        let z : ListOk h (enter (entry t p) x) = enter-ok h (entry t p) x a (omega (arith, o .line .list .within)) i y in
-        by-if (Ok h) _ (λ _. six c t press o)
-        (λ _. six _ t press (relined c o (enter (entry t p) x) z
-        (not-holder t x n (λ s q. in-without s (only t) v ∙ ap (λ (e : Bool). e && not (getD (only t) s false)) (o .floor .out s q)) p) (λ e. clash b e)))
+-- who leaves
+no-event : {e : Event} {u : ℕ} {A : Type 0} → leaves u ≡ event e → A
+no-event q = let z : _≡_ {A = ℕ} 0 1 = cc in absurd (omega arith)
 
-    places : (t p : ℕ) (press : Bool) → waits c t ≡ false → holds (c .phase) t ≡ false → isBusy (c .phase) ≡ true → isPresent h t ≡ true → full c h ≡ false → Ok h (placed c h t p press)
-    unfolding placed full waits Ok
-    places t p press w n b i f =
-        let v = waiting (c .line) in
-        let l : length v < h .settings .limit = leb-false _ _ f in
-        six _ t press (relined c o (enter (entry t p) v) (enter-ok h (entry t p) v w l i (o .line .list)) (not-holder t v n (λ s q. o .floor .out s q) p) (λ e. clash b e))
+no-request : {t p : ℕ} {A : Type 0} → nobody ≡ asks t p → A
+no-request q = let z : _≡_ {A = ℕ} 0 1 = cc in absurd (omega arith)
 
-    requests : (t p : ℕ) → isStopped (c .phase) ≡ false → isPresent h t ≡ true → Ok h (request c h t p)
-    unfolding request
-    requests t p r i =
-        by-if (Ok h) (holds (c .phase) t) (λ _. asks-holder (c .phase))
-        (λ n. by-if (Ok h) (receivesOnly h t) (λ _. denies t 5)
-        (λ _. by-if (Ok h) (isIdle (c .phase))
-        (λ j. by-if (Ok h) (alone h t) (λ _. denies t 3) (λ _. at-once t p j i))
-        (λ j. by-if (Ok h) (waits c t) (λ w. asks-again t p (presses c h t p) w n (busy-else (c .phase) r j) i)
-        (λ w. by-if (Ok h) (not (presses c h t p) && not (queues h t)) (λ _. denies t 1)
-        (λ _. by-if (Ok h) (full c h) (λ _. denies t 7) (λ f. places t p (presses c h t p) w n (busy-else (c .phase) r j) i f))))))
+module _ (d : Desk) (t : ℕ) (l : Left) (k : HallOk (d .hall)) (o : CoreOk (d .hall) (d .core)) (p : isPresent (d .hall) t ≡ true) where
+  abbrev Gone : Core → Type 0
+  Gone c = (isIn t (waiting (c .line)) ≡ false) × (holds (c .phase) t ≡ false)
 
-    -- the timers
-    halt-ok : CoreOk h (c inPhase Stopped withLine lineOf [])
-    halt-ok =
-        record {
-          line = line-ok h k [] (none-ok h);
-          floor = empty-floor Stopped (waiting (lineOf [])) refl (waiting-lineOf [] (omega arith));
-          numbers = record { sequence = o .numbers .sequence; c7 = o .numbers .c7; c20 = o .numbers .c20 };
-        }
+  line-left : (es : List Entry) → length es < 16 → isIn t es ≡ false → isIn t (waiting (lineOf es)) ≡ false
+  line-left es n q = ap (isIn t) (waiting-lineOf es (omega arith)) ∙ q
 
-    halts : (p : Phase) → Ok h (stops c p)
-    unfolding stops halted Ok
-    halts Stopped = o
-    halts (Idle t7) = halt-ok
-    halts (Taken e b) = halt-ok
-    halts (Revoking e n) = halt-ok
-
-    ends-here : (t : ℕ) → Ok h (floorEnds c h t)
-    ends-here t = ends c (o .line) (o .numbers) h t
-
-    ends-in : (p : Phase) → Ok h (endsIn c h p)
-    unfolding endsIn
-    ends-in Stopped = refuses _
-    ends-in (Idle t7) = refuses _
-    ends-in (Taken e b) = ends-here (e .seat)
-    ends-in (Revoking e n) = ends-here (e .seat)
-
-    revokes-in : (p : Phase) → c .phase ≡ p → Ok h (revokesIn c p)
-    unfolding revokesIn
-    revokes-in Stopped q = refuses _
-    revokes-in (Idle t7) q = refuses _
-    revokes-in (Taken e b) q = revoke-ok (answered c _) e b 2 o q refl
-    revokes-in (Revoking e n) q = refuses _
-
-    idles-again : running (c .phase) .t7 ≡ true → Ok h (idleAgain c h)
-    unfolding idleAgain Ok
-    idles-again t =
-        by-if (λ (r : Step). CoreOk h (r .core)) (ltb (c .c7) (h .settings .c7))
-        (λ q. record { line = o .line; floor = o .floor; numbers = record { sequence = next-below (c .sequence); c7 = (let z : c .c7 < h .settings .c7 = ltb-true _ _ q in omega arith); c20 = o .numbers .c20 } })
-        (λ q. record { line = o .line; floor = empty-floor (Idle false) (waiting (c .line)) refl (o .floor .still (t7-quiet (c .phase) t)); numbers = record { sequence = o .numbers .sequence; c7 = o .numbers .c7; c20 = o .numbers .c20 } })
-
-    revokes-again : (p : Phase) → Ok h (revokesAgain c p)
-    unfolding revokesAgain Ok
-    revokes-again Stopped = o
-    revokes-again (Idle t7) = o
-    revokes-again (Taken e b) = o
-    revokes-again (Revoking e n) = o
-
-    counts : (e : Entry) → c .c20 < h .settings .c20 → Ok h (grantedAgain (c countingC20 (c .c20 + 1)) e)
-    unfolding Ok
-    counts e z = record { line = o .line; floor = o .floor; numbers = record { sequence = o .numbers .sequence; c7 = o .numbers .c7; c20 = omega arith } }
-
-    grants-or-ends : (e : Entry) → Ok h (grantsOrEnds c h e)
-    unfolding grantsOrEnds
-    grants-or-ends e = by-if (Ok h) (ltb (c .c20) (h .settings .c20)) (λ q. counts e (ltb-true _ _ q)) (λ _. ends-here (e .seat))
-
-    grants-again : (p : Phase) → Ok h (grantsAgain c h p)
-    unfolding grantsAgain
-    grants-again Stopped = refuses _
-    grants-again (Idle t7) = refuses _
-    grants-again (Taken e b) = grants-or-ends e
-    grants-again (Revoking e n) = refuses _
-
-    fires-on : (t : Timer) → runs (running (c .phase)) t ≡ true → Ok h (fires c h t)
-    unfolding fires
-    fires-on timer.T1 q = ends-in (c .phase)
-    fires-on timer.T2 q = revokes-in (c .phase) refl
-    fires-on timer.T3 q = ends-in (c .phase)
-    fires-on timer.T4 q = halts (c .phase)
-    fires-on timer.T7 q = idles-again q
-    fires-on timer.T8 q = revokes-again (c .phase)
-    fires-on timer.T20 q = grants-again (c .phase)
-
-    expires-on : (t : Timer) → Ok h (expires c h t)
-    unfolding expires
-    expires-on t =
-        by-if (Ok h) (isStopped (c .phase)) (λ _. refuses _)
-        (λ _. by-if (Ok h) (runs (running (c .phase)) t) (λ q. fires-on t q) (λ _. refuses _))
-
-    -- the other events
-    starts-on : (p : Phase) → c .phase ≡ p → Ok h (starts c h p)
-    unfolding starts
-    starts-on Stopped q = quiet c (o .line) (o .numbers) h (o .floor .still (ap isBusy q))
-    starts-on (Idle t7) q = refuses _
-    starts-on (Taken e b) q = refuses _
-    starts-on (Revoking e n) q = refuses _
-
-    pub strikes : (t : ℕ) → Ok h (struckOff c t)
-    unfolding struckOff Ok
-    strikes t =
-        relined c o (without (only t) (waiting (c .line))) (without-ok h (only t) (waiting (c .line)) (o .line .list))
-        (λ s q. in-without s (only t) (waiting (c .line)) ∙ ap (λ (e : Bool). e && not (getD (only t) s false)) (o .floor .out s q))
-        (λ b. ap (without (only t)) (o .floor .still b) ∙ without-nil (only t))
-
-    releases-on : (t : ℕ) → Ok h (releases c h t)
-    unfolding releases
-    releases-on t =
-        by-if (Ok h) (holds (c .phase) t) (λ _. ends-here t) (λ _. by-if (Ok h) (waits c t) (λ _. strikes t) (λ _. refuses _))
-
-    asks-place : (t : ℕ) → Ok h (asksPlace c t)
-    unfolding asksPlace Ok
-    asks-place t = o
-
-    talks-in : (e : Entry) (b : Beside) → c .phase ≡ Taken e b → Ok h (answered (c inPhase Taken e T2) Done)
-    unfolding Ok
-    talks-in e b q = turned c o e (Taken e T2) (λ s. ap (λ (p : Phase). holds p s) q) (λ s. refl) refl refl
-
-    talks-on : (t : ℕ) (p : Phase) → c .phase ≡ p → Ok h (talks c t p)
-    unfolding talks
-    talks-on t Stopped q = refuses _
-    talks-on t (Idle t7) q = refuses _
-    talks-on t (Taken e b) q = by-if (Ok h) _ (λ _. talks-in e b q) (λ _. refuses _)
-    talks-on t (Revoking e n) q = by-if (Ok h) _ (λ _. refuses _) (λ _. refuses _)
-
-    -- a seat that is heard is present, in a call that runs
-    sits : (x t : ℕ) → callerOf c h x ≡ Sits t → (isStopped (c .phase) ≡ false) × (isPresent h t ≡ true)
-    unfolding callerOf seatOf
-    sits x t q =
-        by-test (isStopped (c .phase))
-        (λ e. let z : _≡_ {A = ℕ} 0 1 = cc (if-yes (isStopped (c .phase)) (Refused CallStopped) (sitting (seatOf h x)) e) in absurd (omega arith))
-        (λ e. (e, seat-of (seatOf h x) refl (sym (if-no (isStopped (c .phase)) (Refused CallStopped) (sitting (seatOf h x)) e) ∙ q)))
-      where
-        seat-of : (f : Found) → seatOf h x ≡ f → sitting f ≡ Sits t → isPresent h t ≡ true
-        seat-of (At u) p r = let m : u ≡ t = cc in and-left (isPresent h t) _ (found-holds (hasSsrc h x) 16 0 t (p ∙ ap At m) .0)
-        seat-of Nowhere p r = let z : _≡_ {A = ℕ} 0 1 = cc in absurd (omega arith)
-
-    heard-on : (who : Caller) (rule : ℕ → Step) → ((t : ℕ) → who ≡ Sits t → Ok h (rule t)) → Ok h (heard c who rule)
-    heard-on (Sits t) rule g = g t refl
-    heard-on (Refused a) rule g = refuses a
-
-    pub steps : (e : Event) → Ok h (step c h e)
-    unfolding step
-    steps Start = starts-on (c .phase) refl
-    steps Stop = halts (c .phase)
-    steps (Expiry t) = expires-on t
-    steps (Request x a) = heard-on (callerOf c h x) _ (λ t q. requests t (effective h t a) (sits x t q .0) (sits x t q .1))
-    steps (Release x) = heard-on (callerOf c h x) _ (λ t _. releases-on t)
-    steps (Position x) = heard-on (callerOf c h x) _ (λ t _. asks-place t)
-    steps (Media x) = heard-on (callerOf c h x) _ (λ t _. talks-on t (c .phase) refl)
-    steps (Other x) = heard-on (callerOf c h x) _ (λ t _. refuses _)
+  pub leaver-gone : way.Way d (leaves t) l → Gone (l .core)
+  unfolding waits
+  leaver-gone (way.refuses a n u v q m) = clash p (v t refl)
+  leaver-gone (way.grantsHolder s v e b a w n q m) = no-request a
+  leaver-gone (way.denies s v n a w u b q m) = no-request a
+  leaver-gone (way.gives s v a w i q m) = no-request a
+  leaver-gone (way.asksAgain s v f g a w n z m) = no-request a
+  leaver-gone (way.moves s v f g a w b n u r z m) = no-request a
+  leaver-gone (way.places s v f g a w b n r u y z m) = no-request a
+  leaver-gone (way.passes s e es a f n w q m) =
+      let i : isIn t (e ∷ es) ≡ false = rw w at (o .floor .out t (rw (f t refl) n)) in
+      let b : length (e ∷ es) < 16 = rw w at (let z : length (waiting (d .core .line)) < 16 = omega (arith, o .line .list .within, k .limit) in z) in
+      rw q (
+        line-left (without (only (e .seat)) (e ∷ es)) (omega (arith, without-le (only (e .seat)) (e ∷ es))) (still-out t (only (e .seat)) (e ∷ es) i),
+        neither-left (eqb (e .seat) t) (isIn t es) (sym (in-cons t e es) ∙ i),
+      )
+  leaver-gone (way.frees s a f n w q m) = rw q (nothing (waiting (d .core .line)) t w, refl)
+  leaver-gone (way.strikes s a g n w q m) =
+      let i : t ≡ s = eqb-true t s g in
+      let b = present-below (d .hall) k t p in
+      rw (q, sym i) (
+        line-left (without (only t) (waiting (d .core .line))) (omega (arith, without-le (only t) (waiting (d .core .line)), o .line .list .within, k .limit)) (gone-out t (waiting (d .core .line)) b),
+        (rw (sym i) at n),
+      )
+  leaver-gone (way.tells s u y w q m) = no-event y
+  leaver-gone (way.talks s e b y w q m) = no-event y
+  leaver-gone (way.rests a f q m) = let z = f t refl in rw q (z .1, z .0)
+  leaver-gone (way.starts y w q m) = no-event y
+  leaver-gone (way.halts s y n q m) = clash y refl
+  leaver-gone (way.closes y i q m) = clash y refl
+  leaver-gone (way.revokes e b y w q m) = no-event y
+  leaver-gone (way.revokesAgain e n y w q m) = no-event y
+  leaver-gone (way.grantsAgain e b y w z q m) = no-event y
+  leaver-gone (way.idlesAgain y i z q m) = no-event y
+  leaver-gone (way.idlesOn y i q m) = no-event y

@@ -17,6 +17,7 @@ use Rattle.rules.specs.declared.Phase.the-variants.{Stopped, Idle, Taken, Revok
 use Rattle.rules.specs.declared.Core.{Core}
 use Rattle.rules.specs.Floor.{holds}
 use Rattle.history.specs.Doing.{Desk}
+use Rattle.ways.specs.Ways.{isBusy}
 
 -- highest first
 abbrev pub AtMost : ℕ → List Entry → Type 0
@@ -43,12 +44,6 @@ pub record ListOk (h : Hall) (es : List Entry) : Type 0 where
 pub record LineOk (h : Hall) (l : Line) : Type 0 where
   pub list : ListOk h (waiting l)
   pub behind : l ≡ lineOf (waiting l)
-
-abbrev pub isBusy : Phase → Bool
-isBusy Stopped = false
-isBusy (Idle t7) = false
-isBusy (Taken e b) = true
-isBusy (Revoking e n) = true
 
 abbrev pub causeOk : Phase → Bool
 causeOk Stopped = true

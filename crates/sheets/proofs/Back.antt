@@ -75,4 +75,4 @@ saved-loads h ns r =
     (all-seated st zs few (length zs) 0 (emptyHall st) noNames (omega arith) (row-starts st zs) (empty-settings st) (fine h ns k)))
 
 pub saved-from-any : SavedFromAny
-saved-from-any g r xs = saved-loads _ _ (sound-reached g r xs .seats)
+saved-from-any start f xs = saved-loads _ _ (sound-reached start f xs .seats)

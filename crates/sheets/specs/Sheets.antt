@@ -10,9 +10,9 @@ use Rattle.octets.specs.Octets.{Octets}
 use Rattle.hall.specs.declared.Settings.{Settings}
 use Rattle.hall.specs.declared.Hall.{Hall}
 use Rattle.hall.specs.declared.Names.{Names}
-use Rattle.hall.specs.Seats.{isPresent, inRange}
+use Rattle.hall.specs.Seats.{isPresent}
 use Rattle.desk.specs.Events.{fresh}
-use Rattle.history.specs.Doing.{Doing, made, afterAll}
+use Rattle.history.specs.Doing.{Desk, Doing, Fresh, afterAll}
 use Rattle.reach.specs.Sound.{SeatsOk}
 use Rattle.sheet.specs.declared.Loading.{Loading}
 use Rattle.sheet.specs.declared.Saving.{Saving}
@@ -34,8 +34,8 @@ abbrev pub SavedLoads : Type 0
 SavedLoads = (h : Hall) (ns : Names) → SeatsOk h ns → IsDesk (loading (sheetOf h ns)) (seatsOf h ns) (h .settings)
 
 abbrev pub SavedFromAny : Type 0
-SavedFromAny = (g : Settings) → inRange g ≡ true → (xs : List Doing) →
-    let d = afterAll (made g) xs in
+SavedFromAny = (start : Desk) → Fresh start → (xs : List Doing) →
+    let d = afterAll start xs in
     IsDesk (loading (sheetOf (d .hall) (d .names))) (seatsOf (d .hall) (d .names)) (d .hall .settings)
 
 -- "an accepted sheet is written back octet for octet" (proofs/Again); each is an octet, so below 256

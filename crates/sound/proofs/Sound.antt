@@ -1,7 +1,7 @@
 -- A desk passes the test exactly if it is sound: the seats' half and the core's half together. Assumes nothing.
 use Rattle.words.proofs.Tests.{and-both, both}
 use Rattle.hall.specs.Identity.{nameAt}
-use Rattle.history.specs.Doing.{made, after, afterAll}
+use Rattle.history.specs.Doing.{after, afterAll}
 use Rattle.reach.proofs.Hall.{hall-ok}
 use Rattle.reach.proofs.Reach.{sound-kept, sound-reached}
 use Rattle.sound.specs.Test.{seatsSound, coreSound, isSound}
@@ -33,7 +33,7 @@ sound-shaped d k =
     }
 
 pub reached-passes : ReachedPasses
-reached-passes g r xs = test-sound (afterAll (made g) xs) (sound-reached g r xs)
+reached-passes start f xs = test-sound (afterAll start xs) (sound-reached start f xs)
 
 pub passes-kept : PassesKept
 passes-kept d x k q = test-sound (after d x) (sound-kept d x (sound-test d k q))

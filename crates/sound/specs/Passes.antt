@@ -3,9 +3,7 @@
 use mathlib.Core.Path.{_≡_}
 use mathlib.Core.Bool.{true}
 use mathlib.Core.List.{List}
-use Rattle.hall.specs.declared.Settings.{Settings}
-use Rattle.hall.specs.Seats.{inRange}
-use Rattle.history.specs.Doing.{Desk, Doing, made, after, afterAll}
+use Rattle.history.specs.Doing.{Desk, Doing, Fresh, after, afterAll}
 use Rattle.reach.specs.Sound.{Sound}
 use Rattle.sound.specs.Test.{isSound}
 use Rattle.sound.specs.Shaped.{Shaped}
@@ -25,7 +23,7 @@ SoundShaped = (d : Desk) → Sound d → Shaped d
 
 -- every desk that can be reached passes
 abbrev pub ReachedPasses : Type 0
-ReachedPasses = (g : Settings) → inRange g ≡ true → (xs : List Doing) → Passes (afterAll (made g) xs)
+ReachedPasses = (start : Desk) → Fresh start → (xs : List Doing) → Passes (afterAll start xs)
 
 -- and what passes goes on passing, whatever happens
 abbrev pub PassesKept : Type 0

@@ -1,0 +1,76 @@
+-- What the ways say in common: what rule 6 leaves as it was, at which priority a seat asks, and who holds the floor. Assumes nothing.
+use Prim.Native.Nat.{ℕ}
+use mathlib.Core.Path.{_≡_, refl, ap, sym, _∙_}
+use mathlib.Core.Bool.{Bool, true, false}
+use native.Mathlib.Omega.{arith}
+use lib.Dec.{eqb}
+use borrow.Author.Tests.{eqb-true}
+use Rattle.words.proofs.Tests.{clash}
+use Rattle.hall.specs.declared.Hall.{Hall}
+use Rattle.hall.specs.declared.Asked.{Asked}
+use Rattle.hall.specs.declared.Found.{Found}
+use Rattle.hall.specs.declared.Found.the-variants.{At, Nowhere}
+use Rattle.hall.specs.Seats.{effective, seatOf}
+use Rattle.rules.specs.declared.Phase.{Phase}
+use Rattle.rules.specs.declared.Phase.the-variants.{Stopped, Idle, Taken, Revoking}
+use Rattle.rules.specs.declared.Core.{Core}
+use Rattle.rules.specs.declared.Message.{Message}
+use Rattle.rules.specs.Floor.{holds}
+use Rattle.rules.specs.Request.{isIdle}
+use Rattle.desk.specs.declared.Event.{Event}
+use Rattle.desk.specs.declared.Event.the-variants.{Start, Stop, Expiry, Request, Release, Position, Media, Other}
+use Rattle.history.specs.Doing.{Doing, event, leaves, joins}
+use Rattle.history.specs.Asking.{nobody, asks, fromSeat, askedBy, asking}
+use Rattle.ways.specs.Ways.{Six, informs, presses, informsAndPresses}
+
+module _ {c : Core} {h : Hall} {t : ℕ} {new : Core} {first second : Message} where
+  pub six-line : Six c h t new first second → new .line ≡ c .line
+  six-line (informs q f s) = ap (λ (x : Core). x .line) q
+  six-line (presses e b k q f s) = ap (λ (x : Core). x .line) q
+  six-line (informsAndPresses e b k q f s) = ap (λ (x : Core). x .line) q
+
+  pub six-holds : Six c h t new first second → (u : ℕ) → holds (new .phase) u ≡ holds (c .phase) u
+  six-holds (informs q f s) u = ap (λ (x : Core). holds (x .phase) u) q
+  six-holds (presses e b k q f s) u = ap (λ (x : Core). holds (x .phase) u) q ∙ sym (ap (λ (p : Phase). holds p u) k)
+  six-holds (informsAndPresses e b k q f s) u = ap (λ (x : Core). holds (x .phase) u) q ∙ sym (ap (λ (p : Phase). holds p u) k)
+
+-- the priority that a seat asks for is its effective one
+module _ (h : Hall) (t p : ℕ) where
+  pub record Effective : Type 0 where
+    pub field : Asked
+    pub is : p ≡ effective h t field
+
+  from-seat : (a : Asked) (f : Found) → fromSeat h a f ≡ asks t p → Effective
+  from-seat a (At s) q = let i : s ≡ t = cc in record { field = a; is = (let j : effective h s a ≡ p = cc in sym j ∙ ap (λ (u : ℕ). effective h u a) i) }
+  from-seat a Nowhere q = let z : _≡_ {A = ℕ} 0 1 = cc in absurd (omega arith)
+
+  no-one : nobody ≡ asks t p → Effective
+  no-one q = let z : _≡_ {A = ℕ} 0 1 = cc in absurd (omega arith)
+
+  by-event : (e : Event) → askedBy h e ≡ asks t p → Effective
+  by-event (Request x a) q = from-seat a (seatOf h x) q
+  by-event (Release x) q = no-one q
+  by-event (Position x) q = no-one q
+  by-event (Media x) q = no-one q
+  by-event (Other x) q = no-one q
+  by-event Start q = no-one q
+  by-event Stop q = no-one q
+  by-event (Expiry k) q = no-one q
+
+  pub asked-effective : (x : Doing) → asking h x ≡ asks t p → Effective
+  asked-effective (event e) q = by-event e q
+  asked-effective (leaves s) q = no-one q
+  asked-effective (joins o n) q = no-one q
+
+-- who holds the floor is the only one that does, and in Idle nobody does
+pub holds-one : (p : Phase) (t s : ℕ) → holds p t ≡ true → holds p s ≡ eqb t s
+holds-one Stopped t s h = clash h refl
+holds-one (Idle t7) t s h = clash h refl
+holds-one (Taken e b) t s h = ap (λ (x : ℕ). eqb x s) (eqb-true (e .seat) t h)
+holds-one (Revoking e n) t s h = ap (λ (x : ℕ). eqb x s) (eqb-true (e .seat) t h)
+
+pub idle-none : (p : Phase) (s : ℕ) → isIdle p ≡ true → holds p s ≡ false
+idle-none Stopped s h = refl
+idle-none (Idle t7) s h = refl
+idle-none (Taken e b) s h = clash h refl
+idle-none (Revoking e n) s h = clash h refl
