@@ -26,7 +26,7 @@ pub fn desk(wishes: Wishes) -> Desk {
 
 /// The SSRC that the tests give to a seat.
 pub fn ssrc(seat: usize) -> u32 {
-    101 + seat as u32
+    10 + seat as u32
 }
 
 pub fn person(identity: &str, ssrc: u32) -> Seat {
