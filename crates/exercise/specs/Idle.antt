@@ -1,46 +1,81 @@
--- The idle versions of document 01, "How strictly it is stated": desks that do nothing, or nothing right, and where each is stopped. A version
--- is any function from a desk and an event to a step; it keeps row b of Thursday's exercise if what is seen of its step there is the table's.
+-- The idle versions of document 01, "How strictly it is stated": desks that do nothing, or nothing right, and the row of Thursday's table where
+-- each is stopped. A version is any function from a desk and what happens to it to the desk afterwards and its report. It plays the table by
+-- itself: each row on the desk that it left after the rows before. It keeps a row if what is seen of its step there is the table's.
 -- Assumes nothing.
-use mathlib.Core.Path.{_≡_, refl, ap, _∙_}
+use Prim.Native.Nat.{ℕ, zero, suc}
+use mathlib.Core.Path.{_≡_, refl, ap, sym, _∙_}
 use mathlib.Core.Bool.{Bool, true, false}
+use mathlib.Core.List.{List, [], _∷_}
 use native.Mathlib.Omega.{arith}
 use Rattle.words.proofs.Tests.{clash}
-use Rattle.hall.specs.declared.Hall.{Hall}
+use Rattle.hall.specs.declared.Asked.{Asked}
 use Rattle.hall.specs.declared.Asked.the-variants.{Priority}
 use Rattle.hall.specs.declared.Answer.the-variants.{Done}
 use Rattle.rules.specs.declared.Core.{Core}
+use Rattle.rules.specs.declared.Phase.{Phase}
 use Rattle.rules.specs.declared.Kind.{Kind}
 use Rattle.rules.specs.declared.Kind.the-variants as say
-use Rattle.rules.specs.declared.Step.{Step}
-use Rattle.rules.specs.Words.{next, done, isNothing}
-use Rattle.rules.specs.Floor.{entersIdle}
-use Rattle.desk.specs.declared.Event.{Event}
+use Rattle.rules.specs.declared.Mark.{Mark}
+use Rattle.rules.specs.declared.Mark.the-variants.{NoSeat, Seat}
+use Rattle.rules.specs.declared.Marks.{Marks}
+use Rattle.rules.specs.Words.{done, noMarks, isNothing}
 use Rattle.desk.specs.declared.Event.the-variants.{Start, Request}
-use Rattle.desk.specs.Events.{fresh, starts, step, left}
-use Rattle.history.specs.Doing.{Desk, event, after, does}
-use Rattle.exercise.specs.Thursday.{start, row-b, Seen, seen}
+use Rattle.desk.specs.declared.Left.{Left}
+use Rattle.desk.specs.Events.{fresh, left}
+use Rattle.history.specs.Doing.{Desk, Doing, event, deskOf, after, does}
+use Rattle.exercise.specs.Thursday.{start, Seen, seen, Row, row-b, table, thursday}
 
 abbrev pub Version : Type 0
-Version = Core → Hall → Event → Step
+Version = Desk → Doing → Left
 
--- the desk as row b finds it, and its event
-abbrev pub desk-a : Desk
-desk-a = after start (event Start)
+-- row n of some rows, counted from 0, is kept
+abbrev pub keepsIn : Version → Desk → List Row → ℕ → Type 0
+keepsIn v d [] n = ⊥
+keepsIn v d (r ∷ rs) zero = seen (v d (r .happens)) ≡ r .comes
+keepsIn v d (r ∷ rs) (suc n) = keepsIn v (deskOf (v d (r .happens))) rs n
 
-abbrev pub ask-b : Event
-ask-b = Request 10 (Priority 5)
+abbrev pub Keeps : Version → ℕ → Type 0
+Keeps v n = keepsIn v start table n
 
-abbrev pub step-b : Version → Step
-step-b v = v (desk-a .core) (desk-a .hall) ask-b
+-- the rows that stop them: a, b, f, g, h, i
+abbrev pub KeepsA : Version → Type 0
+KeepsA v = Keeps v 0
 
 abbrev pub KeepsB : Version → Type 0
-KeepsB v = seen (left (step-b v) (desk-a .hall) (desk-a .names)) ≡ row-b .comes
+KeepsB v = Keeps v 1
+
+abbrev pub KeepsF : Version → Type 0
+KeepsF v = Keeps v 5
+
+abbrev pub KeepsG : Version → Type 0
+KeepsG v = Keeps v 6
+
+abbrev pub KeepsH : Version → Type 0
+KeepsH v = Keeps v 7
+
+abbrev pub KeepsI : Version → Type 0
+KeepsI v = Keeps v 8
+
+-- row b's event, and the desk on which a version meets it
+abbrev ask-b : Doing
+ask-b = event (Request 10 (Priority 5))
+
+abbrev desk-b : Version → Desk
+desk-b v = deskOf (v start (event Start))
+
+-- one whose first step is the rules' keeps row a
+abbrev firstOf : List Seen → Seen
+firstOf [] = row-b .comes
+firstOf (s ∷ ss) = s
+
+keeps-a : (v : Version) → v start (event Start) ≡ does start (event Start) → KeepsA v
+keeps-a v e = ap seen e ∙ ap firstOf thursday
 
 -- a desk that refuses all
-pub refuses-all : (v : Version) → ((c : Core) (h : Hall) (e : Event) → v c h e .report .answer ≡ Done → ⊥) → KeepsB v → ⊥
-refuses-all v f k = f (desk-a .core) (desk-a .hall) ask-b (ap (λ (s : Seen). s .answer) k)
+pub refuses-all : (v : Version) → ((d : Desk) (x : Doing) → v d x .report .answer ≡ Done → ⊥) → KeepsB v → ⊥
+refuses-all v f k = f (desk-b v) ask-b (ap (λ (s : Seen). s .answer) k)
 
--- a desk that always denies
+-- a desk that always denies: it starts as the rules say, so it keeps row a, and whoever asks is told a Deny
 abbrev pub isDeny : Kind → Bool
 isDeny say.Nothing = false
 isDeny (say.Granted p) = false
@@ -50,27 +85,74 @@ isDeny (say.Idle n) = false
 isDeny (say.Revoke n) = false
 isDeny (say.Info k p) = false
 
-pub always-denies : (v : Version) → ((c : Core) (h : Hall) (e : Event) → isDeny (v c h e .report .first .kind) ≡ true) → KeepsB v → ⊥
-always-denies v f k = clash (f (desk-a .core) (desk-a .hall) ask-b) (ap (λ (s : Seen). isDeny (s .first .kind)) k)
+pub always-denies : (v : Version) → ((d : Desk) → v d (event Start) ≡ does d (event Start))
+    → ((d : Desk) (x : ℕ) (p : Asked) → isDeny (v d (event (Request x p)) .report .first .kind) ≡ true) → KeepsA v × (KeepsB v → ⊥)
+always-denies v s f =
+    (keeps-a v (s start), λ k. clash (f (desk-b v) 10 (Priority 5)) (ap (λ (s : Seen). isDeny (s .first .kind)) k))
 
--- a desk that never changes: the sequence number is 1 before b and 2 after it
-number-a : desk-a .core .sequence ≡ 1
-unfolding fresh starts entersIdle next step does
-number-a = refl
+-- a desk that never changes: the sequence number is 0 at the start and 2 after b
+number-0 : start .core .sequence ≡ 0
+unfolding fresh does
+number-0 = refl
 
-pub never-changes : (v : Version) → ((c : Core) (h : Hall) (e : Event) → v c h e .core ≡ c) → KeepsB v → ⊥
+pub never-changes : (v : Version) → ((d : Desk) (x : Doing) → v d x .core ≡ d .core) → KeepsB v → ⊥
 never-changes v f k =
-    let p : step-b v .core .sequence ≡ 1 = ap (λ (c : Core). c .sequence) (f (desk-a .core) (desk-a .hall) ask-b) ∙ number-a in
-    let q : step-b v .core .sequence ≡ 2 = ap (λ (s : Seen). s .sequence) k in
+    let p : v (desk-b v) ask-b .core .sequence ≡ 0 = ap (λ (c : Core). c .sequence) (f (desk-b v) ask-b ∙ f start (event Start)) ∙ number-0 in
+    let q : v (desk-b v) ask-b .core .sequence ≡ 2 = ap (λ (s : Seen). s .sequence) k in
     omega arith
 
 -- one that works for the first event, and then only answers 0
-pub works-once : (v : Version) → ((h : Hall) (e : Event) → v (desk-a .core) h e ≡ done (desk-a .core)) → KeepsB v → ⊥
-works-once v f k =
-    clash
-    (ap (λ (r : Step). isNothing (r .report .first .kind)) (f (desk-a .hall) ask-b))
-    (ap (λ (s : Seen). isNothing (s .first .kind)) k)
+abbrev pub onlyDone : Desk → Left
+onlyDone d = left (done (d .core)) (d .hall) (d .names)
 
--- one whose marks are invented is not the rules', at whatever desk and event it invents them
-pub invents-marks : (v : Version) (c : Core) (h : Hall) (e : Event) → (v c h e .report .marks ≡ step c h e .report .marks → ⊥) → v c h e ≡ step c h e → ⊥
-invents-marks v c h e f k = f (ap (λ (r : Step). r .report .marks) k)
+pub works-once : (v : Version) → v start (event Start) ≡ does start (event Start)
+    → ((x : Doing) → v (after start (event Start)) x ≡ onlyDone (after start (event Start))) → KeepsA v × (KeepsB v → ⊥)
+works-once v e f =
+    let silent : Left → Bool = λ l. isNothing (l .report .first .kind) in
+    (keeps-a v e, λ k. clash (ap (λ (l : Left). silent (v (deskOf l) ask-b)) e ∙ ap silent (f ask-b)) (ap (λ (s : Seen). isNothing (s .first .kind)) k))
+
+-- Marks that are invented. Those of a step that is the table's are the table's, at every row.
+abbrev pub marksBy : Version → Desk → List Row → ℕ → Marks
+marksBy v d [] n = noMarks
+marksBy v d (r ∷ rs) zero = v d (r .happens) .report .marks
+marksBy v d (r ∷ rs) (suc n) = marksBy v (deskOf (v d (r .happens))) rs n
+
+abbrev pub marksIn : List Row → ℕ → Marks
+marksIn [] n = noMarks
+marksIn (r ∷ rs) zero = r .comes .marks
+marksIn (r ∷ rs) (suc n) = marksIn rs n
+
+invents-in : (v : Version) (d : Desk) (rs : List Row) (n : ℕ) → (marksBy v d rs n ≡ marksIn rs n → ⊥) → keepsIn v d rs n → ⊥
+invents-in v d [] n f k = k
+invents-in v d (r ∷ rs) zero f k = f (ap (λ (s : Seen). s .marks) k)
+invents-in v d (r ∷ rs) (suc n) f k = invents-in v (deskOf (v d (r .happens))) rs n f k
+
+pub invents-marks : (v : Version) (n : ℕ) → (marksBy v start table n ≡ marksIn table n → ⊥) → Keeps v n → ⊥
+invents-marks v n f k = invents-in v start table n f k
+
+abbrev isSeat : Mark → Bool
+isSeat NoSeat = false
+isSeat (Seat s) = true
+
+-- Marks made up from what happens alone, one mark for all among them: g and i are the same request, denied at g and placed at i.
+pub marks-of-the-event : (v : Version) (f : Doing → Marks) → ((d : Desk) (x : Doing) → v d x .report .marks ≡ f x) → KeepsG v → KeepsI v → ⊥
+marks-of-the-event v f m g i =
+    let placed : Marks → Bool = λ x. isSeat (x .placed) in
+    let p = sym (m _ _) ∙ ap (λ (s : Seen). s .marks) g in
+    let q = sym (m _ _) ∙ ap (λ (s : Seen). s .marks) i in
+    clash (ap placed q) (ap placed p)
+
+-- Marks made up from all that is seen of a desk but its line: f and h leave the same phase and number, and lines of two and of one.
+alike : (f : Phase → ℕ → Doing → Marks) (p q : Phase) (m n : ℕ) (x : Doing) → p ≡ q → m ≡ n → f p m x ≡ f q n x
+alike f p q m n x e o = rw (e, o)
+
+pub marks-without-the-line : (v : Version) (f : Phase → ℕ → Doing → Marks)
+    → ((d : Desk) (x : Doing) → v d x .report .marks ≡ f (d .core .phase) (d .core .sequence) x) → KeepsF v → KeepsG v → KeepsH v → KeepsI v → ⊥
+marks-without-the-line v f m kf kg kh ki =
+    let placed : Marks → Bool = λ x. isSeat (x .placed) in
+    let phase : Seen → Phase = λ s. s .phase in
+    let number : Seen → ℕ = λ s. s .sequence in
+    let p = sym (m _ _) ∙ ap (λ (s : Seen). s .marks) kg in
+    let q = sym (m _ _) ∙ ap (λ (s : Seen). s .marks) ki in
+    let e = alike f _ _ _ _ _ (ap phase kh ∙ sym (ap phase kf)) (ap number kh ∙ sym (ap number kf)) in
+    clash (ap placed q) (ap placed (e ∙ p))
