@@ -11,6 +11,7 @@ use lib.IntN.{ℤ, pos, negℤ}
 use Rattle.words.specs.Choice.{if_then_else_}
 use Rattle.octets.specs.Octets.{over}
 use Rattle.message.specs.Answers.{Answer, refused, result}
+use Rattle.hall.specs.declared.Answer.the-variants.{OutsideRange}
 use Rattle.hall.specs.Answers.{number}
 use Rattle.line.specs.declared.Entry.{Entry}
 use Rattle.line.specs.Line.{waiting, empty}
@@ -127,7 +128,7 @@ unfoldable pub settable : Settings → Bool
 settable s = inOctets (s .level) (s .limit) (s .c7) (s .c20) (s .duration) && inRange s
 
 abbrev pub makeOn : List ℕ → Settings → ℕ × List ℕ
-makeOn room s = if settable s then written room 0 fresh (emptyHall s) noNames else (28, room)
+makeOn room s = if settable s then written room 0 fresh (emptyHall s) noNames else (number OutsideRange, room)
 
 abbrev pub loadOn : List ℕ → List ℕ → ℕ × List ℕ
 loadOn room sheet = written room (loading sheet .number) (loading sheet .core) (loading sheet .hall) (loading sheet .names)

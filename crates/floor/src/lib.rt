@@ -5,6 +5,7 @@ use desk::Event;
 use desk::Left;
 use desk::Running;
 use desk::Timer;
+use hall::Answer;
 use hall::Found;
 use hall::Hall;
 use hall::Names;
@@ -255,13 +256,14 @@ fn write_desk(desk: &mut [u8], n: u8, core: Core, hall: Hall, names: Names) -> u
     0
 }
 
-fn fresh_desk(desk: &mut [u8], settings: Settings) -> u32
-    ensures { λ r. ⌜ (r, now (desk .exit)) ≡ written (now (desk .entry)) 0 fresh (emptyHall settings) noNames ⌝ }
+// A fresh desk with these settings, unless their answer refuses them.
+fn fresh_desk(desk: &mut [u8], n: u8, settings: Settings) -> u32
+    ensures { λ r. ⌜ (r, now (desk .exit)) ≡ written (now (desk .entry)) n fresh (emptyHall settings) noNames ⌝ }
 {
     let core = desk::fresh_core();
     let hall = hall::empty_hall(settings);
     let names = hall::no_names();
-    write_desk(desk, 0, core, hall, names)
+    write_desk(desk, n, core, hall, names)
 }
 
 fn in_octets(level: u32, limit: u32, c7: u32, c20: u32, duration: u32) -> bool
@@ -284,7 +286,7 @@ pub extern "C" fn floor_make(
     ensures { λ r. ⌜ (r, now (desk .exit)) ≡ makeOn (now (desk .entry)) (settings ssrc level limit c7 c20 duration) ⌝ }
 {
     if !in_octets(level, limit, c7, c20, duration) {
-        return 28;
+        return hall::number_of(Answer::OutsideRange) as u32;
     }
     let settings = Settings {
         ssrc,
@@ -294,11 +296,8 @@ pub extern "C" fn floor_make(
         c20: c20 as u8,
         duration: duration as u16,
     };
-    if hall::in_range(settings) {
-        fresh_desk(desk, settings)
-    } else {
-        28
-    }
+    let answer = hall::check_settings(settings);
+    fresh_desk(desk, hall::number_of(answer), settings)
 }
 
 // Makes a fresh desk from a sheet.
