@@ -1,8 +1,9 @@
 /* floor.h: a floor control desk for one call (3GPP TS 24.380), for practice.
  *
  * This header is the manual of libfloor.a: for each function what it takes, every number it can answer and when, what it leaves untouched,
- * and an example. The library is written in Rattle and proved: every function does what is said here, for all octets and all numbers, and
- * always returns.
+ * and an example. The library is written in Rattle. Each function's source is proved to answer and to leave exactly what its definition says
+ * (crates/floor/specs), for all octets and all numbers, and to return. That this page says the same in words, and the compiled library, are
+ * tested. docs/TRUST.md has what is proved, what is assumed of the compiler and of the caller, and what is only tested.
  *
  * THE DESK rests in octets that you lend, FLOOR_DESK of them; docs/FORMS.md has each place, and a program need not know them. The library
  * keeps no state of its own, allocates nothing, has no clock and calls nothing but C's memory functions. So a desk can be copied, kept in a
