@@ -2,10 +2,11 @@
 -- each is stopped. A version is any function from a desk and what happens to it to the desk afterwards and its report. It plays the table by
 -- itself: each row on the desk that it left after the rows before. It keeps a row if what is seen of its step there is the table's.
 -- Assumes nothing.
-use Prim.Native.Nat.{ℕ, zero, suc}
+use Prim.Native.Nat.{ℕ, zero, suc, _<_}
 use mathlib.Core.Path.{_≡_, refl, ap, sym, _∙_}
 use mathlib.Core.Bool.{Bool, true, false}
 use mathlib.Core.List.{List, [], _∷_}
+use lib.ListN.{length}
 use native.Mathlib.Omega.{arith}
 use Rattle.words.proofs.Tests.{clash}
 use Rattle.hall.specs.declared.Asked.{Asked}
@@ -22,8 +23,8 @@ use Rattle.rules.specs.Words.{done, noMarks, isNothing}
 use Rattle.desk.specs.declared.Event.the-variants.{Start, Request}
 use Rattle.desk.specs.declared.Left.{Left}
 use Rattle.desk.specs.Events.{fresh, left}
-use Rattle.history.specs.Doing.{Desk, Doing, event, deskOf, after, does}
-use Rattle.exercise.specs.Thursday.{start, Seen, seen, Row, row-b, table, thursday}
+use Rattle.history.specs.Doing.{Desk, Doing, event, deskOf, after, does, stepsOf}
+use Rattle.exercise.specs.Thursday.{start, Seen, seen, Row, row-b, table, events, outcomes, seenAll, thursday}
 
 abbrev pub Version : Type 0
 Version = Desk → Doing → Left
@@ -63,11 +64,24 @@ ask-b = event (Request 10 (Priority 5))
 abbrev desk-b : Version → Desk
 desk-b v = deskOf (v start (event Start))
 
--- one whose first step is the rules' keeps row a
+-- the rules keep every row: that is the statement of Thursday's exercise
 abbrev firstOf : List Seen → Seen
 firstOf [] = row-b .comes
 firstOf (s ∷ ss) = s
 
+abbrev restOf : List Seen → List Seen
+restOf [] = []
+restOf (s ∷ ss) = ss
+
+keeps-in : (d : Desk) (rs : List Row) (n : ℕ) → n < length rs → seenAll (stepsOf d (events rs)) ≡ outcomes rs → keepsIn does d rs n
+keeps-in d [] n l e = absurd (omega (arith, l))
+keeps-in d (r ∷ rs) zero l e = ap firstOf e
+keeps-in d (r ∷ rs) (suc n) l e = keeps-in (after d (r .happens)) rs n (omega (arith, l)) (ap restOf e)
+
+pub rules-keep : (n : ℕ) → n < length table → Keeps does n
+rules-keep n l = keeps-in start table n l thursday
+
+-- one whose first step is the rules' keeps row a
 keeps-a : (v : Version) → v start (event Start) ≡ does start (event Start) → KeepsA v
 keeps-a v e = ap seen e ∙ ap firstOf thursday
 
