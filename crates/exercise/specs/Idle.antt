@@ -14,8 +14,6 @@ use Rattle.hall.specs.declared.Asked.the-variants.{Priority}
 use Rattle.hall.specs.declared.Answer.the-variants.{Done}
 use Rattle.rules.specs.declared.Core.{Core}
 use Rattle.rules.specs.declared.Phase.{Phase}
-use Rattle.rules.specs.declared.Kind.{Kind}
-use Rattle.rules.specs.declared.Kind.the-variants as say
 use Rattle.rules.specs.declared.Mark.{Mark}
 use Rattle.rules.specs.declared.Mark.the-variants.{NoSeat, Seat}
 use Rattle.rules.specs.declared.Marks.{Marks}
@@ -24,6 +22,7 @@ use Rattle.desk.specs.declared.Event.the-variants.{Start, Request}
 use Rattle.desk.specs.declared.Left.{Left}
 use Rattle.desk.specs.Events.{fresh, left}
 use Rattle.history.specs.Doing.{Desk, Doing, event, deskOf, after, does, stepsOf}
+use Rattle.ways.specs.Refusals.{isDeny}
 use Rattle.exercise.specs.Thursday.{start, Seen, seen, Row, row-b, table, events, outcomes, seenAll, thursday}
 
 abbrev pub Version : Type 0
@@ -90,15 +89,6 @@ pub refuses-all : (v : Version) → ((d : Desk) (x : Doing) → v d x .report .a
 refuses-all v f k = f (desk-b v) ask-b (ap (λ (s : Seen). s .answer) k)
 
 -- a desk that always denies: it starts as the rules say, so it keeps row a, and whoever asks is told a Deny
-abbrev pub isDeny : Kind → Bool
-isDeny say.Nothing = false
-isDeny (say.Granted p) = false
-isDeny (say.Taken s n) = false
-isDeny (say.Deny n) = true
-isDeny (say.Idle n) = false
-isDeny (say.Revoke n) = false
-isDeny (say.Info k p) = false
-
 pub always-denies : (v : Version) → ((d : Desk) → v d (event Start) ≡ does d (event Start))
     → ((d : Desk) (x : ℕ) (p : Asked) → isDeny (v d (event (Request x p)) .report .first .kind) ≡ true) → KeepsA v × (KeepsB v → ⊥)
 always-denies v s f =
