@@ -1,3 +1,3 @@
--- The laws of a set as a number, and of what a report says.
+-- The laws of a set as a number, and of a report and its octets.
 pub mod Masks
-pub mod Says
+pub mod Reported

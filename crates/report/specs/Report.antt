@@ -1,9 +1,8 @@
 -- A report as 24 octets (docs/FORMS.md, "A report: 24 octets"; document 01, "The desk": "at most two messages with the set of seats they go to,
--- and four marks"). Assumes nothing.
-use Prim.Native.Nat.{ℕ, _+_, _*_, _%_, _<_}
-use mathlib.Core.Bool.{Bool, true, false, not, _&&_}
+-- and four marks"), and the messages that the code reads out of them. What the octets say as a whole: specs/Reported. Assumes nothing.
+use Prim.Native.Nat.{ℕ, _+_, _*_, _%_}
+use mathlib.Core.Bool.{Bool, not, _&&_}
 use mathlib.Core.List.{List, [], _∷_, _++_}
-use mathlib.Core.Path.{_≡_}
 use lib.Dec.{eqb}
 use lib.ListN.{length, getD}
 use Rattle.words.specs.Choice.{if_then_else_, one}
@@ -90,19 +89,3 @@ saidAt r at = saidBy (particularsAt r at) (getD r (at + 5) 0)
 unfoldable pub messageIn : List ℕ → ℕ → Told
 messageIn r which =
     if not (eqb (length r) 24) then NoMessage else if eqb which 0 then saidAt r 8 else if eqb which 1 then saidAt r 16 else Says say.Nothing
-
--- What a report says is what was reported (proofs/Says): a place is an octet, as in every Info that a step sends.
-abbrev pub Narrow : Kind → Type 0
-Narrow say.Nothing = Unit {0}
-Narrow (say.Granted p) = Unit {0}
-Narrow (say.Taken s n) = Unit {0}
-Narrow (say.Deny n) = Unit {0}
-Narrow (say.Idle n) = Unit {0}
-Narrow (say.Revoke n) = Unit {0}
-Narrow (say.Info k p) = k < 256
-
-abbrev pub SaysFirst : Type 0
-SaysFirst = (f s : Message) (m : Marks) → Narrow (f .kind) → messageIn (reportOctets f s m) 0 ≡ Says (f .kind)
-
-abbrev pub SaysSecond : Type 0
-SaysSecond = (f s : Message) (m : Marks) → Narrow (s .kind) → messageIn (reportOctets f s m) 1 ≡ Says (s .kind)
