@@ -1,5 +1,5 @@
 // The C face: the desk rests in lent octets (docs/FORMS.md), and every exported function is its rule between decoding and encoding.
-// specs/Floor.antt says what each answers and leaves; include/floor.h is the manual.
+// specs/Promises.antt says what each answers and leaves, by the words of specs/Floor.antt; include/floor.h is the manual.
 use call::Called;
 use desk::Event;
 use desk::Left;
@@ -20,21 +20,17 @@ use sheet::Saving;
 use writing::Writing;
 ghost use mathlib.Core.Path.{_≡_};
 ghost use mathlib.Core.Bool.{true};
-ghost use mathlib.Core.List.{List};
 ghost use Prim.Native.Nat.{_*_, _<_, _≤_};
 ghost use lib.ListN.{length};
 ghost use lib.IntN.{pos, negℤ};
-ghost use Rattle.message.specs.Answers.{result};
 ghost use Rattle.octets.specs.Octets.{over};
-ghost use Rattle.hall.specs.Seats.{seatOf, emptyHall};
-ghost use Rattle.hall.specs.Identity.{seatNamed, noNames};
+ghost use Rattle.hall.specs.Seats.{emptyHall};
+ghost use Rattle.hall.specs.Identity.{noNames};
 ghost use Rattle.desk.specs.Events.{fresh};
-ghost use Rattle.desk.specs.declared.Event.the-variants as event;
 ghost use Rattle.floor.specs.declared.Named.the-variants as named;
-ghost use Rattle.desk.specs.Timers.{running};
-ghost use Rattle.form.specs.Form.{kindOctet, coreAt, hallAt, namesAt, octetsOf};
-ghost use Rattle.report.specs.Report.{maskOf};
-ghost use Rattle.floor.specs.Floor.{formed, leaves, calledOn, eventOn, packetOn, timerNamed, notRunning, firedOn, leftOn, seatNumbered, leaveOn, written, inOctets, settings, makeOn, loadOn, newcomer, joinOn, signed, looks, holderAnswer, bit, timerSet, seatAnswer, sizeIn, pairs, screened, screenOn, savedAnswer, saveOn, tells, messageOn, readOn, writeOn};
+ghost use Rattle.form.specs.Form.{octetsOf};
+ghost use Rattle.floor.specs.Floor.{formed, leaves, calledOn, eventOn, timerNamed, notRunning, firedOn, leftOn, seatNumbered, written, inOctets, signed, holderAnswer, bit, timerSet, seatAnswer, sizeIn, pairs, screened, savedAnswer, tells};
+ghost use Rattle.floor.specs.Promises.{MakePromise, JoinPromise, LeavePromise, StartPromise, StopPromise, PacketPromise, MediaPromise, TimerPromise, MessagePromise, ReadPromise, WritePromise, SavePromise, LoadPromise, ScreenPromise, PhasePromise, HolderPromise, RunningPromise, SequencePromise, C7Promise, C20Promise, SeatsPromise, SeatBySsrcPromise, SeatByIdentityPromise};
 ghost use Rattle.line.specs.Line.{waiting};
 ghost use Rattle.report.specs.declared.Told.the-variants.{Says};
 ghost use Rattle.sheet.specs.Saving.{told};
@@ -96,7 +92,7 @@ fn event_on(desk: &mut [u8], report: &mut [u8], event: Event) -> u32
 // The call starts.
 #[no_mangle]
 pub extern "C" fn floor_start(desk: &mut [u8], report: &mut [u8]) -> u32
-    ensures { λ r. ⌜ leaves r (now (desk .exit)) (now (report .exit)) ≡ eventOn (now (desk .entry)) (now (report .entry)) event.Start ⌝ }
+    ensures { λ r. ⌜ StartPromise (now (desk .entry)) (now (report .entry)) r (now (desk .exit)) (now (report .exit)) ⌝ }
 {
     event_on(desk, report, Event::Start)
 }
@@ -104,7 +100,7 @@ pub extern "C" fn floor_start(desk: &mut [u8], report: &mut [u8]) -> u32
 // The call stops.
 #[no_mangle]
 pub extern "C" fn floor_stop(desk: &mut [u8], report: &mut [u8]) -> u32
-    ensures { λ r. ⌜ leaves r (now (desk .exit)) (now (report .exit)) ≡ eventOn (now (desk .entry)) (now (report .entry)) event.Stop ⌝ }
+    ensures { λ r. ⌜ StopPromise (now (desk .entry)) (now (report .entry)) r (now (desk .exit)) (now (report .exit)) ⌝ }
 {
     event_on(desk, report, Event::Stop)
 }
@@ -112,7 +108,7 @@ pub extern "C" fn floor_stop(desk: &mut [u8], report: &mut [u8]) -> u32
 // Media came in from this SSRC.
 #[no_mangle]
 pub extern "C" fn floor_media(desk: &mut [u8], ssrc: u32, report: &mut [u8]) -> u32
-    ensures { λ r. ⌜ leaves r (now (desk .exit)) (now (report .exit)) ≡ eventOn (now (desk .entry)) (now (report .entry)) (event.Media ssrc) ⌝ }
+    ensures { λ r. ⌜ MediaPromise (now (desk .entry)) ssrc (now (report .entry)) r (now (desk .exit)) (now (report .exit)) ⌝ }
 {
     event_on(desk, report, Event::Media(ssrc))
 }
@@ -120,7 +116,7 @@ pub extern "C" fn floor_media(desk: &mut [u8], ssrc: u32, report: &mut [u8]) -> 
 // A packet came in.
 #[no_mangle]
 pub extern "C" fn floor_packet(desk: &mut [u8], packet: &[u8], report: &mut [u8]) -> u32
-    ensures { λ r. ⌜ leaves r (now (desk .exit)) (now (report .exit)) ≡ packetOn (now (desk .entry)) (now (report .entry)) (now (packet .entry)) ⌝ }
+    ensures { λ r. ⌜ PacketPromise (now (desk .entry)) (now (packet .entry)) (now (report .entry)) r (now (desk .exit)) (now (report .exit)) ⌝ }
 {
     if is_desk(desk) {
         let core = form::core_at(desk);
@@ -175,7 +171,7 @@ fn unknown_timer(desk: &mut [u8], report: &mut [u8]) -> u32
 // A timer fired.
 #[no_mangle]
 pub extern "C" fn floor_timer(desk: &mut [u8], timer: u32, report: &mut [u8]) -> u32
-    ensures { λ r. ⌜ leaves r (now (desk .exit)) (now (report .exit)) ≡ firedOn (now (desk .entry)) (now (report .entry)) (timerNamed timer) ⌝ }
+    ensures { λ r. ⌜ TimerPromise (now (desk .entry)) timer (now (report .entry)) r (now (desk .exit)) (now (report .exit)) ⌝ }
 {
     match timer_named(timer) {
         Named::Known(t) => event_on(desk, report, Event::Expiry(t)),
@@ -229,7 +225,7 @@ fn seat_numbered(seat: u32) -> u8
 // A seat leaves.
 #[no_mangle]
 pub extern "C" fn floor_leave(desk: &mut [u8], seat: u32, report: &mut [u8]) -> u32
-    ensures { λ r. ⌜ leaves r (now (desk .exit)) (now (report .exit)) ≡ leaveOn (now (desk .entry)) (now (report .entry)) (seatNumbered seat) ⌝ }
+    ensures { λ r. ⌜ LeavePromise (now (desk .entry)) seat (now (report .entry)) r (now (desk .exit)) (now (report .exit)) ⌝ }
 {
     if is_desk(desk) {
         let core = form::core_at(desk);
@@ -283,7 +279,7 @@ pub extern "C" fn floor_make(
     c20: u32,
     duration: u32,
 ) -> u32
-    ensures { λ r. ⌜ (r, now (desk .exit)) ≡ makeOn (now (desk .entry)) (settings ssrc level limit c7 c20 duration) ⌝ }
+    ensures { λ r. ⌜ MakePromise (now (desk .entry)) ssrc level limit c7 c20 duration r (now (desk .exit)) ⌝ }
 {
     if !in_octets(level, limit, c7, c20, duration) {
         return hall::number_of(Answer::OutsideRange) as u32;
@@ -303,7 +299,7 @@ pub extern "C" fn floor_make(
 // Makes a fresh desk from a sheet.
 #[no_mangle]
 pub extern "C" fn floor_load(desk: &mut [u8], sheet: &[u8]) -> u32
-    ensures { λ r. ⌜ (r, now (desk .exit)) ≡ loadOn (now (desk .entry)) (now (sheet .entry)) ⌝ }
+    ensures { λ r. ⌜ LoadPromise (now (desk .entry)) (now (sheet .entry)) r (now (desk .exit)) ⌝ }
 {
     let loading = sheet::load(sheet);
     let verdict = loading.verdict;
@@ -324,7 +320,7 @@ pub extern "C" fn floor_join(
     queueing: u8,
     receive_only: u8,
 ) -> u32
-    ensures { λ r. ⌜ (r, now (desk .exit)) ≡ joinOn (now (desk .entry)) (now (identity .entry)) (newcomer ssrc highest queueing «receive_only») ⌝ }
+    ensures { λ r. ⌜ JoinPromise (now (desk .entry)) (now (identity .entry)) ssrc highest queueing «receive_only» r (now (desk .exit)) ⌝ }
 {
     if is_desk(desk) {
         let who = Newcomer {
@@ -398,7 +394,7 @@ fn seat_number(seat: Found) -> i32
 
 #[no_mangle]
 pub extern "C" fn floor_phase(desk: &[u8]) -> i32
-    ensures { λ r. ⌜ r ≡ looks (now (desk .entry)) (result (kindOctet (coreAt (now (desk .entry)) .phase))) ⌝ }
+    ensures { λ r. ⌜ PhasePromise (now (desk .entry)) r ⌝ }
 {
     if is_desk(desk) {
         let core = form::core_at(desk);
@@ -411,7 +407,7 @@ pub extern "C" fn floor_phase(desk: &[u8]) -> i32
 
 #[no_mangle]
 pub extern "C" fn floor_holder(desk: &[u8]) -> i32
-    ensures { λ r. ⌜ r ≡ looks (now (desk .entry)) (holderAnswer (coreAt (now (desk .entry)) .phase)) ⌝ }
+    ensures { λ r. ⌜ HolderPromise (now (desk .entry)) r ⌝ }
 {
     if is_desk(desk) {
         let core = form::core_at(desk);
@@ -424,7 +420,7 @@ pub extern "C" fn floor_holder(desk: &[u8]) -> i32
 
 #[no_mangle]
 pub extern "C" fn floor_running(desk: &[u8]) -> i32
-    ensures { λ r. ⌜ r ≡ looks (now (desk .entry)) (result (timerSet (running (coreAt (now (desk .entry)) .phase)))) ⌝ }
+    ensures { λ r. ⌜ RunningPromise (now (desk .entry)) r ⌝ }
 {
     if is_desk(desk) {
         let core = form::core_at(desk);
@@ -437,7 +433,7 @@ pub extern "C" fn floor_running(desk: &[u8]) -> i32
 
 #[no_mangle]
 pub extern "C" fn floor_sequence(desk: &[u8]) -> i32
-    ensures { λ r. ⌜ r ≡ looks (now (desk .entry)) (result (coreAt (now (desk .entry)) .sequence)) ⌝ }
+    ensures { λ r. ⌜ SequencePromise (now (desk .entry)) r ⌝ }
 {
     if is_desk(desk) {
         let core = form::core_at(desk);
@@ -449,7 +445,7 @@ pub extern "C" fn floor_sequence(desk: &[u8]) -> i32
 
 #[no_mangle]
 pub extern "C" fn floor_c7(desk: &[u8]) -> i32
-    ensures { λ r. ⌜ r ≡ looks (now (desk .entry)) (result (coreAt (now (desk .entry)) .c7)) ⌝ }
+    ensures { λ r. ⌜ C7Promise (now (desk .entry)) r ⌝ }
 {
     if is_desk(desk) {
         let core = form::core_at(desk);
@@ -461,7 +457,7 @@ pub extern "C" fn floor_c7(desk: &[u8]) -> i32
 
 #[no_mangle]
 pub extern "C" fn floor_c20(desk: &[u8]) -> i32
-    ensures { λ r. ⌜ r ≡ looks (now (desk .entry)) (result (coreAt (now (desk .entry)) .c20)) ⌝ }
+    ensures { λ r. ⌜ C20Promise (now (desk .entry)) r ⌝ }
 {
     if is_desk(desk) {
         let core = form::core_at(desk);
@@ -473,7 +469,7 @@ pub extern "C" fn floor_c20(desk: &[u8]) -> i32
 
 #[no_mangle]
 pub extern "C" fn floor_seats(desk: &[u8]) -> i32
-    ensures { λ r. ⌜ r ≡ looks (now (desk .entry)) (result (maskOf (hallAt (now (desk .entry)) .present))) ⌝ }
+    ensures { λ r. ⌜ SeatsPromise (now (desk .entry)) r ⌝ }
 {
     if is_desk(desk) {
         let hall = form::hall_at(desk);
@@ -486,7 +482,7 @@ pub extern "C" fn floor_seats(desk: &[u8]) -> i32
 
 #[no_mangle]
 pub extern "C" fn floor_seat_by_ssrc(desk: &[u8], ssrc: u32) -> i32
-    ensures { λ r. ⌜ r ≡ looks (now (desk .entry)) (seatAnswer (seatOf (hallAt (now (desk .entry))) ssrc)) ⌝ }
+    ensures { λ r. ⌜ SeatBySsrcPromise (now (desk .entry)) ssrc r ⌝ }
 {
     if is_desk(desk) {
         let hall = form::hall_at(desk);
@@ -498,7 +494,7 @@ pub extern "C" fn floor_seat_by_ssrc(desk: &[u8], ssrc: u32) -> i32
 
 #[no_mangle]
 pub extern "C" fn floor_seat_by_identity(desk: &[u8], identity: &[u8]) -> i32
-    ensures { λ r. ⌜ r ≡ looks (now (desk .entry)) (seatAnswer (seatNamed (hallAt (now (desk .entry))) (namesAt (now (desk .entry))) (now (identity .entry)))) ⌝ }
+    ensures { λ r. ⌜ SeatByIdentityPromise (now (desk .entry)) (now (identity .entry)) r ⌝ }
 {
     if is_desk(desk) {
         let hall = form::hall_at(desk);
@@ -539,7 +535,7 @@ fn show(line: Line, room: &mut [u8]) -> i32
 // The line for the wall screen.
 #[no_mangle]
 pub extern "C" fn floor_screen(desk: &[u8], room: &mut [u8]) -> i32
-    ensures { λ r. ⌜ (r, now (room .exit)) ≡ screenOn (now (desk .entry)) (now (room .entry)) ⌝ }
+    ensures { λ r. ⌜ ScreenPromise (now (desk .entry)) (now (room .entry)) r (now (room .exit)) ⌝ }
 {
     if is_desk(desk) {
         let core = form::core_at(desk);
@@ -563,7 +559,7 @@ fn saved_number(saving: Saving) -> i32
 // Saves seats and settings.
 #[no_mangle]
 pub extern "C" fn floor_save(desk: &[u8], room: &mut [u8]) -> i32
-    ensures { λ r. ⌜ (r, now (room .exit)) ≡ saveOn (now (desk .entry)) (now (room .entry)) ⌝ }
+    ensures { λ r. ⌜ SavePromise (now (desk .entry)) (now (room .entry)) r (now (room .exit)) ⌝ }
 {
     if is_desk(desk) {
         let hall = form::hall_at(desk);
@@ -598,7 +594,7 @@ fn tell(desk: &[u8], kind: Kind, room: &mut [u8]) -> i32
 // A report's message as its packet.
 #[no_mangle]
 pub extern "C" fn floor_message(desk: &[u8], report: &[u8], which: u32, room: &mut [u8]) -> i32
-    ensures { λ r. ⌜ (r, now (room .exit)) ≡ messageOn (now (desk .entry)) (now (report .entry)) which (now (room .entry)) ⌝ }
+    ensures { λ r. ⌜ MessagePromise (now (desk .entry)) (now (report .entry)) which (now (room .entry)) r (now (room .exit)) ⌝ }
 {
     if !is_desk(desk) {
         return refusal(20);
@@ -612,7 +608,7 @@ pub extern "C" fn floor_message(desk: &[u8], report: &[u8], which: u32, room: &m
 // Reads a packet into a message's 40 octets.
 #[no_mangle]
 pub extern "C" fn floor_read(packet: &[u8], message: &mut [u8]) -> u32
-    ensures { λ r. ⌜ (r, now (message .exit)) ≡ readOn (now (packet .entry)) (now (message .entry)) ⌝ }
+    ensures { λ r. ⌜ ReadPromise (now (packet .entry)) (now (message .entry)) r (now (message .exit)) ⌝ }
 {
     held::read_held(packet, message) as u32
 }
@@ -620,7 +616,7 @@ pub extern "C" fn floor_read(packet: &[u8], message: &mut [u8]) -> u32
 // Writes a message as a packet.
 #[no_mangle]
 pub extern "C" fn floor_write(message: &[u8], source: &[u8], room: &mut [u8]) -> i32
-    ensures { λ r. ⌜ (r, now (room .exit)) ≡ writeOn (now (message .entry)) (now (source .entry)) (now (room .entry)) ⌝ }
+    ensures { λ r. ⌜ WritePromise (now (message .entry)) (now (source .entry)) (now (room .entry)) r (now (room .exit)) ⌝ }
 {
     written_number(held_writing::write_held(message, source, room))
 }

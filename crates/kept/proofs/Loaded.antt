@@ -2,7 +2,7 @@
 -- comes of it. Assumes nothing.
 use Prim.Native.Nat.{ℕ, zero, suc, _+_}
 use native.Mathlib.Omega.{arith}
-use mathlib.Core.Path.{_≡_, refl, ap, sym, _∙_}
+use mathlib.Core.Path.{_≡_, refl, ap, sym, subst, _∙_}
 use mathlib.Core.Bool.{Bool, true, false, not, _&&_, _||_}
 use mathlib.Core.List.{List, [], _∷_, _++_}
 use lib.Dec.{eqb, ltb}
@@ -25,12 +25,12 @@ use Rattle.sheets.proofs.Back.{saved-loads}
 use Rattle.form.specs.Form.{hallAt, namesAt}
 use Rattle.words.proofs.Tests.{both, five, neither-left}
 use Rattle.floor.specs.Floor.{inOctets, settable, written, loadOn}
-use Rattle.kept.specs.Kept.{Fits, AllFit, leftByAll, didAll, Settable, deskIn, joinsOf, seatedFrom, settingsOn, joinsOn, LoadedInForm, SavedIsLoaded, FromLoaded}
+use Rattle.kept.specs.Kept.{Fits, AllFit, leftByAll, doneByAll, Settable, deskIn, joinsOf, seatedFrom, settingsOn, joinsOn, LoadedInForm, SavedIsLoaded, FromLoaded}
 use Rattle.kept.proofs.All.{all-take, all-drop, all-at, at-all}
 use Rattle.kept.proofs.Numbers.{Octet, half-small, word-small}
 use Rattle.kept.proofs.Desks.{Right, right-at, right-made, right-run}
 use Rattle.kept.proofs.Steps.{after-both, told-as}
-use Rattle.kept.proofs.Made.{done-only, written-so, from-there}
+use Rattle.kept.proofs.Made.{done-only, Written, written-so, from-there}
 
 -- what loading answers, as a desk
 abbrev deskLoaded : Load → Desk
@@ -112,18 +112,19 @@ module _ (s : List ℕ) (o : Octets s) where
       (both (ltb (g .level) 256 && ltb (g .limit) 256 && ltb (g .c7) 256 && ltb (g .c20) 256 && ltb (g .duration) 65536) (inRange g) b q, word-small s o at)
 
 pub loaded-in-form : LoadedInForm
-loaded-in-form room sheet o q =
+loaded-in-form room sheet room′ p o =
     let d = deskLoaded (loading sheet) in
-    let l = loaded-so sheet (done-only room (loading sheet .number) d q) in
+    let l = loaded-so sheet (done-only room (loading sheet .number) d (sym (ap (λ (w : ℕ × List ℕ). w .0) p))) in
     let g = settingsOn sheet in
     let e = afterAll (made g) (joinsOn sheet) in
     let k : Settable g = settings-fit sheet o (l .0) in
     let w : AllFit (joinsOn sheet) = seats-fit sheet o (seatCount sheet) 0 in
     let r : Right d = rw (l .1) (right-run (made g) (joinsOn sheet) w (right-made g k)) in
+    let h : Written d (loadOn room sheet) = written-so d room (loading sheet .number) (λ _. r) in
     record {
       settings = k;
       joins = w;
-      holds = told-as (deskIn (loadOn room sheet .1)) d e (l .1) (written-so d room (loading sheet .number) (λ _. r) q);
+      holds = told-as (deskIn room′) d e (l .1) (subst (λ (v : ℕ × List ℕ). Written d v) (sym p) h refl);
     }
 
 pub saved-is-loaded : SavedIsLoaded
@@ -133,10 +134,10 @@ saved-is-loaded d room o q b =
     (rw (l .accepted, le-leb 1200 (length room) b), l)
 
 pub from-loaded : FromLoaded
-from-loaded room sheet o q xs w =
-    let l = loaded-in-form room sheet o q in
+from-loaded room sheet room′ p o xs w =
+    let l = loaded-in-form room sheet room′ p o in
     let g = settingsOn sheet in
-    let s = deskIn (loadOn room sheet .1) in
+    let s = deskIn room′ in
     let e = afterAll (made g) (joinsOn sheet) in
-    told-as (leftByAll s xs) (afterAll e (didAll s xs)) (afterAll (made g) (joinsOn sheet ++ didAll s xs)) (after-both (made g) (joinsOn sheet) (didAll s xs))
+    told-as (leftByAll s xs) (afterAll e (doneByAll xs)) (afterAll (made g) (joinsOn sheet ++ doneByAll xs)) (after-both (made g) (joinsOn sheet) (doneByAll xs))
     (from-there s e (l .holds) xs w)

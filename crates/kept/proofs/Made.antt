@@ -1,7 +1,7 @@
 -- A desk that is made is a fresh one, in octets in the form, and so is all that comes of it. Assumes nothing.
 use Prim.Native.Nat.{ℕ, _+_}
 use native.Mathlib.Omega.{arith}
-use mathlib.Core.Path.{_≡_, ap, sym, _∙_}
+use mathlib.Core.Path.{_≡_, refl, ap, sym, subst, _∙_}
 use mathlib.Core.Bool.{true}
 use mathlib.Core.List.{List, _++_}
 use lib.Dec.{eqb, leb}
@@ -14,7 +14,7 @@ use Rattle.hall.specs.declared.Settings.{Settings}
 use Rattle.history.specs.Doing.{Desk, made, afterAll}
 use Rattle.forms.proofs.Fits.{length-octets}
 use Rattle.floor.specs.Floor.{written, settable, makeOn}
-use Rattle.kept.specs.Kept.{deskAt, octetsFor, Holds, Call, leftByAll, didAll, CallsFit, Settable, deskIn, Makes, MadeInForm, FromMade}
+use Rattle.kept.specs.Kept.{deskAt, octetsFor, Holds, Call, AllPromised, leftByAll, doneByAll, Settable, deskIn, Makes, MadeInForm, FromMade}
 use Rattle.kept.proofs.Desks.{Right, right-made, has-octets}
 use Rattle.kept.proofs.Steps.{told-as, calls-in-form}
 
@@ -44,22 +44,25 @@ module _ (d : Desk) where
 
 pub makes : Makes
 unfolding written if_then_else_
-makes room g q l = rw (q, le-leb 1200 (length room) l)
+makes room g n room′ p q l = ap (λ (w : ℕ × List ℕ). w .0) p ∙ rw (q, le-leb 1200 (length room) l)
 
 -- settings that are refused make none
 settable-so : (room : List ℕ) (g : Settings) → makeOn room g .0 ≡ 0 → settable g ≡ true
 settable-so room g = by-if (λ (w : ℕ × List ℕ). w .0 ≡ 0 → settable g ≡ true) (settable g) (λ q _. q) (λ _ z. absurd (omega (arith, z)))
 
 pub made-in-form : MadeInForm
-made-in-form room g b z =
+made-in-form room g room′ p b =
+    let z : makeOn room g .0 ≡ 0 = sym (ap (λ (w : ℕ × List ℕ). w .0) p) in
     let k : Settable g = (settable-so room g z, b) in
-    (k, by-if (Written (made g)) (settable g) (λ _. written-so (made g) room 0 (λ _. right-made g k)) (λ _ y. absurd (omega (arith, y))) z)
+    let h : Written (made g) (makeOn room g) =
+    by-if (Written (made g)) (settable g) (λ _. written-so (made g) room 0 (λ _. right-made g k)) (λ _ y. absurd (omega (arith, y))) in
+    (k, subst (λ (w : ℕ × List ℕ). Written (made g) w) (sym p) h refl)
 
 -- whatever is done to octets that hold a desk
-pub from-there : (s : List ℕ) (d : Desk) → Holds s d → (xs : List Call) → CallsFit xs → Holds (leftByAll s xs) (afterAll d (didAll s xs))
+pub from-there : (s : List ℕ) (d : Desk) → Holds s d → (xs : List Call) → AllPromised s xs → Holds (leftByAll s xs) (afterAll d (doneByAll xs))
 from-there s d h xs w =
-    told-as (leftByAll s xs) (afterAll (deskAt s) (didAll s xs)) (afterAll d (didAll s xs)) (ap (λ (e : Desk). afterAll e (didAll s xs)) (h .stands))
-    (calls-in-form s (h .octets) (h .inForm) xs w)
+    told-as (leftByAll s xs) (afterAll (deskAt s) (doneByAll xs)) (afterAll d (doneByAll xs)) (ap (λ (e : Desk). afterAll e (doneByAll xs)) (h .stands))
+    (calls-in-form s xs w (h .octets) (h .inForm))
 
 pub from-made : FromMade
-from-made room g b z xs w = from-there (deskIn (makeOn room g .1)) (made g) (made-in-form room g b z .1) xs w
+from-made room g room′ p b xs w = from-there (deskIn room′) (made g) (made-in-form room g room′ p b .1) xs w

@@ -1,6 +1,6 @@
 -- What is refused writes nothing; octets that are no desk's are refused by 20; then the rules answer. Assumes nothing.
 use Prim.Native.Nat.{ℕ, _≤_}
-use mathlib.Core.Path.{_≡_, refl, sym}
+use mathlib.Core.Path.{_≡_, refl, ap, sym, subst, _∙_}
 use mathlib.Core.Bool.{true, false}
 use mathlib.Core.List.{List}
 use lib.Dec.{eqb, leb}
@@ -17,18 +17,18 @@ use Rattle.hall.specs.declared.Hall.{Hall}
 use Rattle.hall.specs.declared.Names.{Names}
 use Rattle.rules.specs.declared.Core.{Core}
 use Rattle.desk.specs.declared.Event.{Event}
-use Rattle.desk.specs.declared.Event.the-variants.{Expiry}
+use Rattle.desk.specs.declared.Event.the-variants.{Start, Stop, Media, Expiry}
 use Rattle.desk.specs.Events.{step}
-use Rattle.history.specs.Doing.{event, joins as joining, does}
+use Rattle.history.specs.Doing.{event, leaves as leaving, joins as joining, does}
 use Rattle.words.proofs.Tests.{clash}
 use Rattle.call.specs.declared.Called.{Called}
 use Rattle.call.specs.Call.{eventOf, ofStep, unread, byReading, hears}
 use Rattle.form.specs.Form.{coreAt, hallAt, namesAt}
 use Rattle.floor.specs.declared.Named.{Named}
 use Rattle.floor.specs.declared.Named.the-variants.{Known, Unknown}
-use Rattle.floor.specs.Floor.{formed, Leaves, leaves, settles, calledOn, eventOn, notRunning, firedOn, leftOn, written, joinOn, settable}
+use Rattle.floor.specs.Floor.{formed, Leaves, leaves, settles, calledOn, eventOn, notRunning, firedOn, leftOn, leaveOn, seatNumbered, timerNamed, newcomer, written, joinOn, settable}
 use Rattle.floor.proofs.Desks.{has-room, no-desk-so}
-use Rattle.kept.specs.Kept.{deskAt, onEvent, onPacket, onTimer, onLeave, onJoin, acts, ruledOn, readRuled, timerRuled, ruled, RefusalWritesNothing, NotMade, NotLoaded, NotADesk, RulesAnswer}
+use Rattle.kept.specs.Kept.{deskAt, Act, floorJoin, floorLeave, floorStart, floorStop, floorPacket, floorMedia, floorTimer, PromisedBy, ruledOn, readRuled, timerRuled, ruled, RefusalWritesNothing, NotMade, NotLoaded, NotADesk, RulesAnswer}
 
 module _ (d r : List ℕ) where
   -- a step's own account
@@ -58,43 +58,70 @@ module _ (room : List ℕ) where
   written-untouched n c h ns =
       by-if Unwritten (eqb n 0) (λ _. by-if Unwritten (leb 1200 (length room)) (λ _ z. absurd (z refl)) (λ _ z. refl)) (λ _ z. refl)
 
-timer-untouched : (d r : List ℕ) (t : Named) → Untouched d r (acts d r (onTimer t))
-unfolding acts
+timer-untouched : (d r : List ℕ) (t : Named) → Untouched d r (firedOn d r t)
 timer-untouched d r (Known t) = called-untouched d r _
 timer-untouched d r Unknown = called-untouched d r _
 
+leave-untouched : (d r : List ℕ) (s : ℕ) → Untouched d r (leaveOn d r s)
+unfolding leftOn
+leave-untouched d r s = settles-untouched d r _ _ _
+
+join-untouched : (d o : List ℕ) (w : Newcomer) → Unwritten d (joinOn d o w)
+join-untouched d o w = by-if (Unwritten d) (formed d) (λ _. written-untouched d _ _ _ _) (λ _ y. refl)
+
+-- so of what is promised
+untouched-by : (a : Act) (d r : List ℕ) (n : ℕ) (d′ r′ : List ℕ) → PromisedBy a d r n d′ r′ → Untouched d r (leaves n d′ r′)
+untouched-by (floorJoin o x h q l) d r n d′ r′ p =
+    λ z. (subst (λ (w : ℕ × List ℕ). Unwritten d w) (sym (p .0)) (join-untouched d o (newcomer x h q l)) z, p .1)
+untouched-by (floorLeave s) d r n d′ r′ p = subst (λ (l : Leaves). Untouched d r l) (sym p) (leave-untouched d r (seatNumbered s))
+untouched-by floorStart d r n d′ r′ p = subst (λ (l : Leaves). Untouched d r l) (sym p) (called-untouched d r _)
+untouched-by floorStop d r n d′ r′ p = subst (λ (l : Leaves). Untouched d r l) (sym p) (called-untouched d r _)
+untouched-by (floorPacket o) d r n d′ r′ p = subst (λ (l : Leaves). Untouched d r l) (sym p) (called-untouched d r _)
+untouched-by (floorMedia x) d r n d′ r′ p = subst (λ (l : Leaves). Untouched d r l) (sym p) (called-untouched d r _)
+untouched-by (floorTimer t) d r n d′ r′ p = subst (λ (l : Leaves). Untouched d r l) (sym p) (timer-untouched d r (timerNamed t))
+
 pub refusal-writes-nothing : RefusalWritesNothing
-unfolding acts leftOn
-refusal-writes-nothing d r (onEvent e) = called-untouched d r _
-refusal-writes-nothing d r (onPacket p) = called-untouched d r _
-refusal-writes-nothing d r (onTimer t) = timer-untouched d r t
-refusal-writes-nothing d r (onLeave s) = settles-untouched d r _ _ _
-refusal-writes-nothing d r (onJoin o n) =
-    λ z. (by-if (Unwritten d) (formed d) (λ _. written-untouched d _ _ _ _) (λ _ y. refl) z, refl)
+refusal-writes-nothing d x p = untouched-by (x .act) d (x .room) (x .answer) (x .desk) (x .report) p
 
 pub not-made : NotMade
-not-made room g = by-if (Unwritten room) (settable g) (λ _. written-untouched room 0 _ _ _) (λ _ z. refl)
+not-made room g n room′ p =
+    subst (λ (w : ℕ × List ℕ). Unwritten room w) (sym p) (by-if (Unwritten room) (settable g) (λ _. written-untouched room 0 _ _ _) (λ _ z. refl))
 
 pub not-loaded : NotLoaded
-not-loaded room sheet = written-untouched room _ _ _ _
+not-loaded room sheet n room′ p = subst (λ (w : ℕ × List ℕ). Unwritten room w) (sym p) (written-untouched room _ _ _ _)
 
 -- 20
-called-no-desk : (d r : List ℕ) (s : Called) → formed d ≡ false → calledOn d r s ≡ leaves 20 d r
+called-no-desk : (d r : List ℕ) (s : Called) → formed d ≡ false → calledOn d r s .answer ≡ 20
 unfolding calledOn
-called-no-desk d r s q = no-desk-so d r (s .answer) _ _ q
+called-no-desk d r s q = ap (λ (l : Leaves). l .answer) (no-desk-so d r (s .answer) _ _ q)
 
-timer-no-desk : (d r : List ℕ) (t : Named) → formed d ≡ false → acts d r (onTimer t) ≡ leaves 20 d r
-unfolding acts
+leave-no-desk : (d r : List ℕ) (s : ℕ) → formed d ≡ false → leaveOn d r s .answer ≡ 20
+unfolding leftOn
+leave-no-desk d r s q = ap (λ (l : Leaves). l .answer) (no-desk-so d r _ _ _ q)
+
+timer-no-desk : (d r : List ℕ) (t : Named) → formed d ≡ false → firedOn d r t .answer ≡ 20
 timer-no-desk d r (Known t) q = called-no-desk d r _ q
 timer-no-desk d r Unknown q = called-no-desk d r _ q
 
+join-no-desk : (d o : List ℕ) (w : Newcomer) → formed d ≡ false → joinOn d o w .0 ≡ 20
+unfolding if_then_else_
+join-no-desk d o w q = rw q
+
+-- the answer that is promised
+abbrev answerOf : Leaves → ℕ
+answerOf l = l .answer
+
+no-desk-by : (a : Act) (d r : List ℕ) (n : ℕ) (d′ r′ : List ℕ) → PromisedBy a d r n d′ r′ → formed d ≡ false → n ≡ 20
+no-desk-by (floorJoin o x h q l) d r n d′ r′ p f = ap (λ (w : ℕ × List ℕ). w .0) (p .0) ∙ join-no-desk d o (newcomer x h q l) f
+no-desk-by (floorLeave s) d r n d′ r′ p f = ap answerOf p ∙ leave-no-desk d r (seatNumbered s) f
+no-desk-by floorStart d r n d′ r′ p f = ap answerOf p ∙ called-no-desk d r _ f
+no-desk-by floorStop d r n d′ r′ p f = ap answerOf p ∙ called-no-desk d r _ f
+no-desk-by (floorPacket o) d r n d′ r′ p f = ap answerOf p ∙ called-no-desk d r _ f
+no-desk-by (floorMedia x) d r n d′ r′ p f = ap answerOf p ∙ called-no-desk d r _ f
+no-desk-by (floorTimer t) d r n d′ r′ p f = ap answerOf p ∙ timer-no-desk d r (timerNamed t) f
+
 pub not-a-desk : NotADesk
-unfolding acts leftOn if_then_else_
-not-a-desk d r (onEvent e) q = called-no-desk d r _ q
-not-a-desk d r (onPacket p) q = called-no-desk d r _ q
-not-a-desk d r (onTimer t) q = timer-no-desk d r t q
-not-a-desk d r (onLeave s) q = no-desk-so d r _ _ _ q
-not-a-desk d r (onJoin o n) q = rw q
+not-a-desk d x p f = no-desk-by (x .act) d (x .room) (x .answer) (x .desk) (x .report) p f
 
 -- what the rules answer
 settles-answers : (d r : List ℕ) (n : ℕ) (desk report : List ℕ) → formed d ≡ true → (n ≡ 0 → 24 ≤ length r) → settles d r n desk report .answer ≡ n
@@ -135,10 +162,20 @@ module _ (d r : List ℕ) (q : formed d ≡ true) where
   join-answers i n =
       by-if (λ (w : ℕ × List ℕ). w .0 ≡ number (join (hallAt d) (namesAt d) i n .answer)) (formed d) (λ _. written-answers _ _ _ _) (λ z. clash q z)
 
+  leave-answers : (s : ℕ) → (ruledOn (deskAt d) (leaving s) ≡ 0 → 24 ≤ length r) → leaveOn d r s .answer ≡ ruledOn (deskAt d) (leaving s)
+  unfolding does leftOn
+  leave-answers s b = settles-answers d r _ _ _ q b
+
+answers-by : (a : Act) (d r : List ℕ) (n : ℕ) (d′ r′ : List ℕ) → PromisedBy a d r n d′ r′ → formed d ≡ true → (ruled (deskAt d) a ≡ 0 → 24 ≤ length r) →
+    n ≡ ruled (deskAt d) a
+unfolding ruled hears
+answers-by (floorJoin o x h w l) d r n d′ r′ p q b = ap (λ (z : ℕ × List ℕ). z .0) (p .0) ∙ join-answers d r q o (newcomer x h w l)
+answers-by (floorLeave s) d r n d′ r′ p q b = ap answerOf p ∙ leave-answers d r q (seatNumbered s) b
+answers-by floorStart d r n d′ r′ p q b = ap answerOf p ∙ event-answers d r q Start b
+answers-by floorStop d r n d′ r′ p q b = ap answerOf p ∙ event-answers d r q Stop b
+answers-by (floorPacket o) d r n d′ r′ p q b = ap answerOf p ∙ packet-answers d r q (reading o) b
+answers-by (floorMedia x) d r n d′ r′ p q b = ap answerOf p ∙ event-answers d r q (Media x) b
+answers-by (floorTimer t) d r n d′ r′ p q b = ap answerOf p ∙ timer-answers d r q (timerNamed t) b
+
 pub rules-answer : RulesAnswer
-unfolding acts ruled hears leftOn does
-rules-answer d r (onEvent e) q b = event-answers d r q e b
-rules-answer d r (onPacket p) q b = packet-answers d r q (reading p) b
-rules-answer d r (onTimer t) q b = timer-answers d r q t b
-rules-answer d r (onLeave s) q b = settles-answers d r _ _ _ q b
-rules-answer d r (onJoin i n) q b = join-answers d r q i n
+rules-answer d x p q b = answers-by (x .act) d (x .room) (x .answer) (x .desk) (x .report) p q b

@@ -1,7 +1,7 @@
 -- What a call leaves in a desk's octets is in the form, and stands for the desk that the rules leave: a call, then any sequence of them.
 -- Assumes nothing.
 use Prim.Native.Nat.{ℕ}
-use mathlib.Core.Path.{_≡_, refl, ap, _∙_}
+use mathlib.Core.Path.{_≡_, refl, ap, sym, subst, _∙_}
 use mathlib.Core.Bool.{true, false}
 use mathlib.Core.List.{List, [], _∷_, _++_}
 use lib.Dec.{eqb, leb}
@@ -16,16 +16,16 @@ use Rattle.hall.specs.declared.Newcomer.{Newcomer}
 use Rattle.hall.specs.declared.Joined.{Joined}
 use Rattle.hall.specs.Join.{join}
 use Rattle.desk.specs.declared.Event.{Event}
-use Rattle.desk.specs.declared.Event.the-variants.{Expiry}
+use Rattle.desk.specs.declared.Event.the-variants.{Start, Stop, Media, Expiry}
 use Rattle.history.specs.Doing.{Desk, Doing, event, leaves as leaving, joins as joining, does, after, afterAll}
 use Rattle.call.specs.declared.Called.{Called}
 use Rattle.call.specs.Call.{eventOf, byReading, hears}
 use Rattle.form.specs.Form.{coreAt, hallAt, namesAt}
 use Rattle.floor.specs.declared.Named.{Named}
 use Rattle.floor.specs.declared.Named.the-variants.{Known, Unknown}
-use Rattle.floor.specs.Floor.{formed, Leaves, leaves, settles, calledOn, leftOn, written, eventOn, firedOn}
+use Rattle.floor.specs.Floor.{formed, Leaves, leaves, settles, calledOn, leftOn, leaveOn, written, eventOn, firedOn, joinOn, newcomer, seatNumbered, timerNamed}
 use Rattle.floor.proofs.Desks.{fits, fits-whole, over-desk}
-use Rattle.kept.specs.Kept.{deskAt, octetsFor, Holds, Act, onEvent, onPacket, onTimer, onLeave, onJoin, acts, readAs, timerAs, meant, Fits, ActFits, DoingFits, AllFit, did, Call, leftBy, leftByAll, didAll, CallsFit, StepInForm, CallsInForm}
+use Rattle.kept.specs.Kept.{deskAt, octetsFor, Holds, Act, floorJoin, floorLeave, floorStart, floorStop, floorPacket, floorMedia, floorTimer, Call, PromisedBy, readAs, timerAs, meant, Fits, ActFits, DoingFits, AllFit, did, done as doneBy, AllPromised, leftByAll, doneByAll, StepInForm, CallsInForm}
 use Rattle.kept.proofs.Desks.{Right, right-at, right-kept, right-run, has-octets}
 
 -- two runs, one after the other
@@ -78,8 +78,8 @@ module _ (d : List ℕ) (o : Octets d) (q : formed d ≡ true) (k : Right (deskA
   timer-so r (Known t) = event-so r (Expiry t)
   timer-so r Unknown = nothing-so r _ refl
 
-  leave-so : (r : List ℕ) (s : ℕ) → Left (leaving s ∷ []) (acts d r (onLeave s))
-  unfolding acts leftOn does
+  leave-so : (r : List ℕ) (s : ℕ) → Left (leaving s ∷ []) (leaveOn d r s)
+  unfolding leftOn does
   leave-so r s = settles-so r _ _ _ (leaving s ∷ []) (done (leaving s) tt)
 
   module _ (r : List ℕ) (i : List ℕ) (n : Newcomer) (w : Fits i n) where
@@ -101,20 +101,27 @@ module _ (d : List ℕ) (o : Octets d) (q : formed d ≡ true) (k : Right (deskA
         (λ _. by-if Seated (leb 1200 (length d)) (λ _. joined-so) (λ _. refused-so 13 (joining i n ∷ []) refl))
         (λ e. refused-so (number (j .answer)) (joining i n ∷ []) e)
 
-    join-so : Left (joining i n ∷ []) (acts d r (onJoin i n))
-    unfolding acts
+    join-so : Seated (joinOn d i n)
     join-so = by-if Seated (formed d) (λ _. written-so) (λ _. refused-so 20 (joining i n ∷ []) refl)
 
-  pub call-so : (r : List ℕ) (a : Act) → ActFits a → Left (meant a) (acts d r a)
-  unfolding acts meant hears
-  call-so r (onEvent e) w = event-so r e
-  call-so r (onPacket p) w = packet-so r (reading p)
-  call-so r (onTimer t) w = timer-so r t
-  call-so r (onLeave s) w = leave-so r s
-  call-so r (onJoin i n) w = join-so r i n w
+  -- so of what is promised
+  module _ (r : List ℕ) (n : ℕ) (d′ r′ : List ℕ) where
+    promised : (xs : List Doing) (l : Leaves) → leaves n d′ r′ ≡ l → Left xs l → Left xs (leaves n d′ r′)
+    promised xs l p k = subst (λ (m : Leaves). Left xs m) (sym p) k
+
+    pub call-so : (a : Act) → PromisedBy a d r n d′ r′ → ActFits a → Left (meant a) (leaves n d′ r′)
+    unfolding meant hears
+    call-so (floorJoin i x h q l) p w =
+        subst (λ (z : ℕ × List ℕ). Seated r′ i (newcomer x h q l) w z) (sym (p .0)) (join-so r′ i (newcomer x h q l) w)
+    call-so (floorLeave s) p w = promised _ _ p (leave-so r (seatNumbered s))
+    call-so floorStart p w = promised _ _ p (event-so r Start)
+    call-so floorStop p w = promised _ _ p (event-so r Stop)
+    call-so (floorPacket o) p w = promised _ _ p (packet-so r (reading o))
+    call-so (floorMedia x) p w = promised _ _ p (event-so r (Media x))
+    call-so (floorTimer t) p w = promised _ _ p (timer-so r (timerNamed t))
 
 pub step-in-form : StepInForm
-step-in-form d o q r a w = call-so d o q (right-at d o q) r a w
+step-in-form d x p o q w = call-so d o q (right-at d o q) (x .room) (x .answer) (x .desk) (x .report) (x .act) p w
 
 -- any sequence of calls
 pub told-as : (s : List ℕ) (d e : Desk) → d ≡ e → Holds s d → Holds s e
@@ -130,25 +137,27 @@ timer-fits Unknown = tt
 
 meant-fits : (a : Act) → ActFits a → AllFit (meant a)
 unfolding meant
-meant-fits (onEvent e) w = (tt, tt)
-meant-fits (onPacket p) w = read-fits (reading p)
-meant-fits (onTimer t) w = timer-fits t
-meant-fits (onLeave s) w = (tt, tt)
-meant-fits (onJoin i n) w = (w, tt)
+meant-fits (floorJoin i x h q l) w = (w, tt)
+meant-fits (floorLeave s) w = (tt, tt)
+meant-fits floorStart w = (tt, tt)
+meant-fits floorStop w = (tt, tt)
+meant-fits (floorPacket o) w = read-fits (reading o)
+meant-fits (floorMedia x) w = (tt, tt)
+meant-fits (floorTimer t) w = timer-fits (timerNamed t)
 
-pub calls-so : (d : List ℕ) (xs : List Call) → CallsFit xs → Octets d → formed d ≡ true → Right (deskAt d) →
-    Holds (leftByAll d xs) (afterAll (deskAt d) (didAll d xs))
+pub done-fits : (x : Call) → ActFits (x .act) → AllFit (doneBy x)
+done-fits x w = by-if AllFit (eqb (x .answer) 0) (λ _. meant-fits (x .act) w) (λ _. tt)
+
+pub calls-so : (d : List ℕ) (xs : List Call) → AllPromised d xs → Octets d → formed d ≡ true → Right (deskAt d) →
+    Holds (leftByAll d xs) (afterAll (deskAt d) (doneByAll xs))
 calls-so d [] w o q k = record { octets = o; inForm = q; stands = refl }
 calls-so d (x ∷ xs) w o q k =
-    let s = leftBy d x .desk in
-    let n = leftBy d x .answer in
-    let ys = did n (meant (x .act)) in
-    let f : AllFit ys = by-if AllFit (eqb n 0) (λ _. meant-fits (x .act) (w .0)) (λ _. tt) in
-    let h : Holds s (afterAll (deskAt d) ys) = call-so d o q k (x .room) (x .act) (w .0) in
-    let l : Right (deskAt s) = rw (h .stands) (right-run (deskAt d) ys f k) in
-    told-as (leftByAll s xs) (afterAll (deskAt s) (didAll s xs)) (afterAll (deskAt d) (ys ++ didAll s xs))
-    (ap (λ (e : Desk). afterAll e (didAll s xs)) (h .stands) ∙ after-both (deskAt d) ys (didAll s xs))
-    (calls-so s xs (w .1) (h .octets) (h .inForm) l)
+    let s = x .desk in
+    let h : Holds s (afterAll (deskAt d) (doneBy x)) = call-so d o q k (x .room) (x .answer) (x .desk) (x .report) (x .act) (w .0) (w .1) in
+    let l : Right (deskAt s) = rw (h .stands) (right-run (deskAt d) (doneBy x) (done-fits x (w .1)) k) in
+    told-as (leftByAll s xs) (afterAll (deskAt s) (doneByAll xs)) (afterAll (deskAt d) (doneBy x ++ doneByAll xs))
+    (ap (λ (e : Desk). afterAll e (doneByAll xs)) (h .stands) ∙ after-both (deskAt d) (doneBy x) (doneByAll xs))
+    (calls-so s xs (w .2) (h .octets) (h .inForm) l)
 
 pub calls-in-form : CallsInForm
-calls-in-form d o q xs w = calls-so d xs w o q (right-at d o q)
+calls-in-form d xs w o q = calls-so d xs w o q (right-at d o q)

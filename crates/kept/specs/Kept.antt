@@ -1,7 +1,8 @@
 -- The desk in lent octets over any sequence of calls (document 01, "The desk"): "All refusals leave the desk unchanged, with no message and no
 -- mark"; "Octets not in that form get 20, before all else; a step writes only octets in it, and every desk that steps can reach from a fresh
 -- one has octets there, which stand for that desk alone". Each statement here is proved in proofs/, in the file named beside it. Octets are
--- numbers below 256, as all that is lent. Assumes nothing.
+-- numbers below 256, as all that is lent. Of the exported functions nothing is used but what they promise (floor/specs/Promises). Assumes
+-- nothing.
 use Prim.Native.Nat.{ℕ, _/_, _≤_, _<_}
 use mathlib.Core.Path.{_≡_}
 use mathlib.Core.Bool.{true, false}
@@ -18,8 +19,7 @@ use Rattle.screen.specs.Screen.{answered}
 use Rattle.hall.specs.Answers.{number}
 use Rattle.hall.specs.declared.Settings.{Settings}
 use Rattle.hall.specs.declared.Newcomer.{Newcomer}
-use Rattle.desk.specs.declared.Event.{Event}
-use Rattle.desk.specs.declared.Event.the-variants.{Expiry}
+use Rattle.desk.specs.declared.Event.the-variants.{Start, Stop, Media, Expiry}
 use Rattle.history.specs.Doing.{Desk, Doing, event, leaves as leaving, joins as joining, made, does, afterAll}
 use Rattle.call.specs.Call.{eventOf}
 use Rattle.sheet.specs.Layout.{Seat, seatsOf, sheetOf}
@@ -28,7 +28,8 @@ use Rattle.sheets.specs.Sheets.{IsDesk}
 use Rattle.form.specs.Form.{octetsOf, coreAt, hallAt, namesAt}
 use Rattle.floor.specs.declared.Named.{Named}
 use Rattle.floor.specs.declared.Named.the-variants.{Known, Unknown}
-use Rattle.floor.specs.Floor.{formed, Leaves, leaves, eventOn, packetOn, notRunning, firedOn, leaveOn, joinOn, settable, makeOn, loadOn, signed, screened}
+use Rattle.floor.specs.Floor.{formed, newcomer, seatNumbered, timerNamed, notRunning, settable, loadOn, signed, screened}
+use Rattle.floor.specs.Promises.{MakePromise, JoinPromise, LeavePromise, StartPromise, StopPromise, PacketPromise, MediaPromise, TimerPromise, LoadPromise}
 
 -- WHAT A C PROGRAM HAS
 
@@ -45,21 +46,36 @@ pub record Holds (s : List ℕ) (d : Desk) : Type 0 where
   pub inForm : formed s ≡ true
   pub stands : deskAt s ≡ d
 
--- what it may ask of a desk: start, stop and media; a packet; a timer; leave; join
+-- what it may ask of a desk: the exported functions that may change one, and what they are lent beside the desk and the report
 pub data Act : Type 0 where
-  onEvent : Event → Act
-  onPacket : List ℕ → Act
-  onTimer : Named → Act
-  onLeave : ℕ → Act
-  onJoin : List ℕ → Newcomer → Act
+  floorJoin : (identity : List ℕ) (ssrc highest queueing listener : ℕ) → Act
+  floorLeave : (seat : ℕ) → Act
+  floorStart : Act
+  floorStop : Act
+  floorPacket : (packet : List ℕ) → Act
+  floorMedia : (ssrc : ℕ) → Act
+  floorTimer : (timer : ℕ) → Act
 
--- what that leaves, of the desk's octets and of the report's room; join has no report
-unfoldable pub acts : List ℕ → List ℕ → Act → Leaves
-acts d r (onEvent e) = eventOn d r e
-acts d r (onPacket p) = packetOn d r p
-acts d r (onTimer t) = firedOn d r t
-acts d r (onLeave s) = leaveOn d r s
-acts d r (onJoin o n) = leaves (joinOn d o n .0) (joinOn d o n .1) r
+-- a call: what is asked, with which room for a report; its answer, and what it leaves in the desk's octets and in the report's
+pub record Call : Type 0 where
+  pub act : Act
+  pub room : List ℕ
+  pub answer : ℕ
+  pub desk : List ℕ
+  pub report : List ℕ
+
+-- what the function promises of it; join has no report
+abbrev pub PromisedBy : Act → (d r : List ℕ) (n : ℕ) (d′ r′ : List ℕ) → Type 0
+PromisedBy (floorJoin o x h q l) d r n d′ r′ = JoinPromise d o x h q l n d′ × (r′ ≡ r)
+PromisedBy (floorLeave s) d r n d′ r′ = LeavePromise d s r n d′ r′
+PromisedBy floorStart d r n d′ r′ = StartPromise d r n d′ r′
+PromisedBy floorStop d r n d′ r′ = StopPromise d r n d′ r′
+PromisedBy (floorPacket p) d r n d′ r′ = PacketPromise d p r n d′ r′
+PromisedBy (floorMedia x) d r n d′ r′ = MediaPromise d x r n d′ r′
+PromisedBy (floorTimer t) d r n d′ r′ = TimerPromise d t r n d′ r′
+
+abbrev pub Promised : List ℕ → Call → Type 0
+Promised d x = PromisedBy (x .act) d (x .room) (x .answer) (x .desk) (x .report)
 
 -- what it is to the desk: a packet that is read is an event, and one that is not is nothing; so is a timer that no desk has
 abbrev pub readAs : Answer Message → List Doing
@@ -71,11 +87,13 @@ timerAs (Known t) = event (Expiry t) ∷ []
 timerAs Unknown = []
 
 unfoldable pub meant : Act → List Doing
-meant (onEvent e) = event e ∷ []
-meant (onPacket p) = readAs (reading p)
-meant (onTimer t) = timerAs t
-meant (onLeave s) = leaving s ∷ []
-meant (onJoin o n) = joining o n ∷ []
+meant (floorJoin o x h q l) = joining o (newcomer x h q l) ∷ []
+meant (floorLeave s) = leaving (seatNumbered s) ∷ []
+meant floorStart = event Start ∷ []
+meant floorStop = event Stop ∷ []
+meant (floorPacket p) = readAs (reading p)
+meant (floorMedia x) = event (Media x) ∷ []
+meant (floorTimer t) = timerAs (timerNamed t)
 
 -- what the rules answer to it: a packet that is not read has its refusal's number, and a timer that no desk has is one that is not running
 abbrev pub ruledOn : Desk → Doing → ℕ
@@ -90,22 +108,26 @@ timerRuled k (Known t) = ruledOn k (event (Expiry t))
 timerRuled k Unknown = notRunning (k .core .phase)
 
 unfoldable pub ruled : Desk → Act → ℕ
-ruled k (onEvent e) = ruledOn k (event e)
-ruled k (onPacket p) = readRuled k (reading p)
-ruled k (onTimer t) = timerRuled k t
-ruled k (onLeave s) = ruledOn k (leaving s)
-ruled k (onJoin o n) = ruledOn k (joining o n)
+ruled k (floorJoin o x h q l) = ruledOn k (joining o (newcomer x h q l))
+ruled k (floorLeave s) = ruledOn k (leaving (seatNumbered s))
+ruled k floorStart = ruledOn k (event Start)
+ruled k floorStop = ruledOn k (event Stop)
+ruled k (floorPacket p) = readRuled k (reading p)
+ruled k (floorMedia x) = ruledOn k (event (Media x))
+ruled k (floorTimer t) = timerRuled k (timerNamed t)
 
 -- numbers from C have their places in octets: what a newcomer says of itself has; nothing else that an act brings is kept
 abbrev pub Fits : List ℕ → Newcomer → Type 0
 Fits o n = Octets o × (n .ssrc < 4294967296) × (n .highest < 256)
 
 abbrev pub ActFits : Act → Type 0
-ActFits (onEvent e) = Unit
-ActFits (onPacket p) = Unit
-ActFits (onTimer t) = Unit
-ActFits (onLeave s) = Unit
-ActFits (onJoin o n) = Fits o n
+ActFits (floorJoin o x h q l) = Fits o (newcomer x h q l)
+ActFits (floorLeave s) = Unit
+ActFits floorStart = Unit
+ActFits floorStop = Unit
+ActFits (floorPacket p) = Unit
+ActFits (floorMedia x) = Unit
+ActFits (floorTimer t) = Unit
 
 abbrev pub DoingFits : Doing → Type 0
 DoingFits (event e) = Unit
@@ -120,59 +142,58 @@ AllFit (x ∷ xs) = DoingFits x × AllFit xs
 abbrev pub did : ℕ → List Doing → List Doing
 did answer xs = if eqb answer 0 then xs else []
 
--- any sequence of calls, each with its own room for a report: the octets in the end, and all that was done
-pub record Call : Type 0 where
-  pub act : Act
-  pub room : List ℕ
+abbrev pub done : Call → List Doing
+done x = did (x .answer) (meant (x .act))
 
-abbrev pub leftBy : List ℕ → Call → Leaves
-leftBy d x = acts d (x .room) (x .act)
+-- any sequence of calls, each on what the one before it left: the octets in the end, and all that was done
+abbrev pub AllPromised : List ℕ → List Call → Type 0
+AllPromised d [] = Unit
+AllPromised d (x ∷ xs) = Promised d x × ActFits (x .act) × AllPromised (x .desk) xs
 
 abbrev pub leftByAll : List ℕ → List Call → List ℕ
 leftByAll d [] = d
-leftByAll d (x ∷ xs) = leftByAll (leftBy d x .desk) xs
+leftByAll d (x ∷ xs) = leftByAll (x .desk) xs
 
-abbrev pub didAll : List ℕ → List Call → List Doing
-didAll d [] = []
-didAll d (x ∷ xs) = did (leftBy d x .answer) (meant (x .act)) ++ didAll (leftBy d x .desk) xs
+abbrev pub doneByAll : List Call → List Doing
+doneByAll [] = []
+doneByAll (x ∷ xs) = done x ++ doneByAll xs
 
-abbrev pub CallsFit : List Call → Type 0
-CallsFit [] = Unit
-CallsFit (x ∷ xs) = ActFits (x .act) × CallsFit xs
+-- a desk is made with settings, in a room
+abbrev pub FloorMake : (room : List ℕ) (g : Settings) (answer : ℕ) (room′ : List ℕ) → Type 0
+FloorMake room g n room′ = MakePromise room (g .ssrc) (g .level) (g .limit) (g .c7) (g .c20) (g .duration) n room′
 
 -- "ALL REFUSALS LEAVE THE DESK UNCHANGED, WITH NO MESSAGE AND NO MARK" (proofs/Refusals): nothing is written, in the desk or in the report
 
 abbrev pub RefusalWritesNothing : Type 0
-RefusalWritesNothing = (d r : List ℕ) (a : Act) → (acts d r a .answer ≡ 0 → ⊥) → (acts d r a .desk ≡ d) × (acts d r a .report ≡ r)
+RefusalWritesNothing = (d : List ℕ) (x : Call) → Promised d x → (x .answer ≡ 0 → ⊥) → (x .desk ≡ d) × (x .report ≡ x .room)
 
 abbrev pub NotMade : Type 0
-NotMade = (room : List ℕ) (g : Settings) → (makeOn room g .0 ≡ 0 → ⊥) → makeOn room g .1 ≡ room
+NotMade = (room : List ℕ) (g : Settings) (n : ℕ) (room′ : List ℕ) → FloorMake room g n room′ → (n ≡ 0 → ⊥) → room′ ≡ room
 
 abbrev pub NotLoaded : Type 0
-NotLoaded = (room sheet : List ℕ) → (loadOn room sheet .0 ≡ 0 → ⊥) → loadOn room sheet .1 ≡ room
+NotLoaded = (room sheet : List ℕ) (n : ℕ) (room′ : List ℕ) → LoadPromise room sheet n room′ → (n ≡ 0 → ⊥) → room′ ≡ room
 
 -- "OCTETS NOT IN THAT FORM GET 20, BEFORE ALL ELSE" (proofs/Refusals)
 
 abbrev pub NotADesk : Type 0
-NotADesk = (d r : List ℕ) (a : Act) → formed d ≡ false → acts d r a ≡ leaves 20 d r
+NotADesk = (d : List ℕ) (x : Call) → Promised d x → formed d ≡ false → x .answer ≡ 20
 
 -- then comes what the rules answer, and nothing else is refused but for want of 24 octets for the report of what would be done
 abbrev pub RulesAnswer : Type 0
 RulesAnswer =
-    (d r : List ℕ) (a : Act) → formed d ≡ true → (ruled (deskAt d) a ≡ 0 → 24 ≤ length r) → acts d r a .answer ≡ ruled (deskAt d) a
+    (d : List ℕ) (x : Call) → Promised d x → formed d ≡ true → (ruled (deskAt d) (x .act) ≡ 0 → 24 ≤ length (x .room)) →
+    x .answer ≡ ruled (deskAt d) (x .act)
 
 -- "A STEP WRITES ONLY OCTETS IN IT" (proofs/Steps), and they stand for the desk that the rules leave
 
 abbrev pub StepInForm : Type 0
 StepInForm =
-    (d : List ℕ) → Octets d → formed d ≡ true → (r : List ℕ) (a : Act) → ActFits a →
-    Holds (acts d r a .desk) (afterAll (deskAt d) (did (acts d r a .answer) (meant a)))
+    (d : List ℕ) (x : Call) → Promised d x → Octets d → formed d ≡ true → ActFits (x .act) → Holds (x .desk) (afterAll (deskAt d) (done x))
 
 -- so any sequence of calls is a run of what was done
 abbrev pub CallsInForm : Type 0
 CallsInForm =
-    (d : List ℕ) → Octets d → formed d ≡ true → (xs : List Call) → CallsFit xs →
-    Holds (leftByAll d xs) (afterAll (deskAt d) (didAll d xs))
+    (d : List ℕ) (xs : List Call) → AllPromised d xs → Octets d → formed d ≡ true → Holds (leftByAll d xs) (afterAll (deskAt d) (doneByAll xs))
 
 -- "EVERY DESK THAT STEPS CAN REACH FROM A FRESH ONE HAS OCTETS THERE" (proofs/Desks)
 
@@ -196,11 +217,11 @@ deskIn room = take 1200 room
 
 -- settings in their ranges and enough room make a fresh desk
 abbrev pub Makes : Type 0
-Makes = (room : List ℕ) (g : Settings) → settable g ≡ true → 1200 ≤ length room → makeOn room g .0 ≡ 0
+Makes = (room : List ℕ) (g : Settings) (n : ℕ) (room′ : List ℕ) → FloorMake room g n room′ → settable g ≡ true → 1200 ≤ length room → n ≡ 0
 
 abbrev pub MadeInForm : Type 0
 MadeInForm =
-    (room : List ℕ) (g : Settings) → g .ssrc < 4294967296 → makeOn room g .0 ≡ 0 → Settable g × Holds (deskIn (makeOn room g .1)) (made g)
+    (room : List ℕ) (g : Settings) (room′ : List ℕ) → FloorMake room g 0 room′ → g .ssrc < 4294967296 → Settable g × Holds (deskIn room′) (made g)
 
 -- an accepted sheet leaves the fresh desk with its settings that its seats joined, one after the other
 abbrev pub joinsOf : List Seat → List Doing
@@ -223,7 +244,7 @@ pub record Loaded (s sheet : List ℕ) : Type 0 where
   pub holds : Holds s (afterAll (made (settingsOn sheet)) (joinsOn sheet))
 
 abbrev pub LoadedInForm : Type 0
-LoadedInForm = (room sheet : List ℕ) → Octets sheet → loadOn room sheet .0 ≡ 0 → Loaded (deskIn (loadOn room sheet .1)) sheet
+LoadedInForm = (room sheet room′ : List ℕ) → LoadPromise room sheet 0 room′ → Octets sheet → Loaded (deskIn room′) sheet
 
 -- "SEATS AND SETTINGS ARE SAVED FROM ANY DESK" (proofs/Loaded): what is saved of octets in the form loads, in any room that is long enough, and
 -- as a fresh desk with the same seats and settings
@@ -243,11 +264,11 @@ OneScreen = (es : List Entry) (room : List ℕ) → screened es room .0 ≡ sign
 
 abbrev pub FromMade : Type 0
 FromMade =
-    (room : List ℕ) (g : Settings) → g .ssrc < 4294967296 → makeOn room g .0 ≡ 0 → (xs : List Call) → CallsFit xs →
-    Holds (leftByAll (deskIn (makeOn room g .1)) xs) (afterAll (made g) (didAll (deskIn (makeOn room g .1)) xs))
+    (room : List ℕ) (g : Settings) (room′ : List ℕ) → FloorMake room g 0 room′ → g .ssrc < 4294967296 →
+    (xs : List Call) → AllPromised (deskIn room′) xs → Holds (leftByAll (deskIn room′) xs) (afterAll (made g) (doneByAll xs))
 
 abbrev pub FromLoaded : Type 0
 FromLoaded =
-    (room sheet : List ℕ) → Octets sheet → loadOn room sheet .0 ≡ 0 → (xs : List Call) → CallsFit xs →
-    Holds (leftByAll (deskIn (loadOn room sheet .1)) xs)
-    (afterAll (made (settingsOn sheet)) (joinsOn sheet ++ didAll (deskIn (loadOn room sheet .1)) xs))
+    (room sheet room′ : List ℕ) → LoadPromise room sheet 0 room′ → Octets sheet →
+    (xs : List Call) → AllPromised (deskIn room′) xs →
+    Holds (leftByAll (deskIn room′) xs) (afterAll (made (settingsOn sheet)) (joinsOn sheet ++ doneByAll xs))
