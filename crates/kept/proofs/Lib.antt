@@ -6,4 +6,5 @@ pub mod Refusals
 pub mod Steps
 pub mod Made
 pub mod Loaded
+pub mod Sheets
 pub mod Wall

@@ -1,9 +1,9 @@
 -- A desk that is loaded is the fresh one with the sheet's settings that the sheet's seats joined, in octets in the form, and so is all that
 -- comes of it. Assumes nothing.
-use Prim.Native.Nat.{ℕ, zero, suc, _+_}
+use Prim.Native.Nat.{ℕ, zero, suc, _+_, _≤_}
 use native.Mathlib.Omega.{arith}
 use mathlib.Core.Path.{_≡_, refl, ap, sym, subst, _∙_}
-use mathlib.Core.Bool.{Bool, true, false, not, _&&_, _||_}
+use mathlib.Core.Bool.{true, not, _&&_, _||_}
 use mathlib.Core.List.{List, [], _∷_, _++_}
 use lib.Dec.{eqb, ltb}
 use lib.ListN.{length, take, drop}
@@ -21,19 +21,18 @@ use Rattle.words.specs.Choice.{if_then_else_, by-if}
 use Rattle.history.specs.Doing.{Desk, made, does, afterAll}
 use Rattle.sheet.specs.Layout.{Seat, form, letters}
 use Rattle.sheet.specs.Loading.{Load, Seats, whole, fault, refused, ifSeated, joinAll, seatAll, settled, loading, settingsPlace, settingsAt, whoIs, readSeat, identityLength, afterSeat, laidOut, infront, readSeats, zeros, settingsOffset, seatsOffset, seatCount, formOf, lettersOf}
-use Rattle.sheets.proofs.Back.{saved-loads}
-use Rattle.form.specs.Form.{hallAt, namesAt}
 use Rattle.words.proofs.Tests.{both, five, neither-left}
 use Rattle.floor.specs.Floor.{inOctets, settable, written, loadOn}
-use Rattle.kept.specs.Kept.{Fits, AllFit, leftByAll, doneByAll, Settable, deskIn, joinsOf, seatedFrom, settingsOn, joinsOn, LoadedInForm, SavedIsLoaded, FromLoaded}
+use Rattle.floor.specs.Promises.{LoadPromise}
+use Rattle.kept.specs.Kept.{Holds, Fits, AllFit, leftByAll, doneByAll, Settable, deskIn, joinsOf, seatedFrom, settingsOn, joinsOn, LoadedInForm, FromLoaded}
 use Rattle.kept.proofs.All.{all-take, all-drop, all-at, at-all}
 use Rattle.kept.proofs.Numbers.{Octet, half-small, word-small}
-use Rattle.kept.proofs.Desks.{Right, right-at, right-made, right-run}
+use Rattle.kept.proofs.Desks.{Right, right-made, right-run}
 use Rattle.kept.proofs.Steps.{after-both, told-as}
 use Rattle.kept.proofs.Made.{done-only, Written, written-so, from-there}
 
 -- what loading answers, as a desk
-abbrev deskLoaded : Load → Desk
+abbrev pub deskLoaded : Load → Desk
 deskLoaded l = record { core = l .core; hall = l .hall; names = l .names }
 
 abbrev empty : Hall → Names → Desk
@@ -111,27 +110,41 @@ module _ (s : List ℕ) (o : Octets s) where
       let b = five (ltb (g .level) 256) (ltb (g .limit) 256) (ltb (g .c7) 256) (ltb (g .c20) 256) (ltb (g .duration) 65536) (lt-ltb (g .level) 256 (o (at + 4))) (lt-ltb (g .limit) 256 (o (at + 5))) (lt-ltb (g .c7) 256 (o (at + 6))) (lt-ltb (g .c20) 256 (o (at + 7))) (lt-ltb (g .duration) 65536 (half-small s o (at + 8))) in
       (both (ltb (g .level) 256 && ltb (g .limit) 256 && ltb (g .c7) 256 && ltb (g .c20) 256 && ltb (g .duration) 65536) (inRange g) b q, word-small s o at)
 
+module _ (room sheet room′ : List ℕ) (p : LoadPromise room sheet 0 room′) (o : Octets sheet) where
+  pub loaded-number : loading sheet .number ≡ 0
+  loaded-number = done-only room (loading sheet .number) (deskLoaded (loading sheet)) (sym (ap (λ (w : ℕ × List ℕ). w .0) p))
+
+  loaded-run : (inRange (settingsOn sheet) ≡ true) × (deskLoaded (loading sheet) ≡ afterAll (made (settingsOn sheet)) (joinsOn sheet))
+  loaded-run = loaded-so sheet loaded-number
+
+  its-settings : Settable (settingsOn sheet)
+  its-settings = settings-fit sheet o (loaded-run .0)
+
+  its-joins : AllFit (joinsOn sheet)
+  its-joins = seats-fit sheet o (seatCount sheet) 0
+
+  pub loaded-stands : Holds (deskIn room′) (deskLoaded (loading sheet))
+  loaded-stands =
+      let d = deskLoaded (loading sheet) in
+      let g = settingsOn sheet in
+      let r : Right d = rw (loaded-run .1) (right-run (made g) (joinsOn sheet) its-joins (right-made g its-settings)) in
+      let h : Written d (loadOn room sheet) = written-so d room (loading sheet .number) (λ _. r) in
+      subst (λ (v : ℕ × List ℕ). Written d v) (sym p) h refl
+
 pub loaded-in-form : LoadedInForm
 loaded-in-form room sheet room′ p o =
-    let d = deskLoaded (loading sheet) in
-    let l = loaded-so sheet (done-only room (loading sheet .number) d (sym (ap (λ (w : ℕ × List ℕ). w .0) p))) in
-    let g = settingsOn sheet in
-    let e = afterAll (made g) (joinsOn sheet) in
-    let k : Settable g = settings-fit sheet o (l .0) in
-    let w : AllFit (joinsOn sheet) = seats-fit sheet o (seatCount sheet) 0 in
-    let r : Right d = rw (l .1) (right-run (made g) (joinsOn sheet) w (right-made g k)) in
-    let h : Written d (loadOn room sheet) = written-so d room (loading sheet .number) (λ _. r) in
     record {
-      settings = k;
-      joins = w;
-      holds = told-as (deskIn room′) d e (l .1) (subst (λ (v : ℕ × List ℕ). Written d v) (sym p) h refl);
+      settings = its-settings room sheet room′ p o;
+      joins = its-joins room sheet room′ p o;
+      holds =
+          told-as (deskIn room′) (deskLoaded (loading sheet)) (afterAll (made (settingsOn sheet)) (joinsOn sheet)) (loaded-run room sheet room′ p o .1)
+          (loaded-stands room sheet room′ p o);
     }
 
-pub saved-is-loaded : SavedIsLoaded
+-- an accepted sheet and enough room
+pub loads : (room sheet : List ℕ) → loading sheet .number ≡ 0 → 1200 ≤ length room → loadOn room sheet .0 ≡ 0
 unfolding written if_then_else_
-saved-is-loaded d room o q b =
-    let l = saved-loads (hallAt d) (namesAt d) (right-at d o q .sound .seats) in
-    (rw (l .accepted, le-leb 1200 (length room) b), l)
+loads room sheet z b = rw (z, le-leb 1200 (length room) b)
 
 pub from-loaded : FromLoaded
 from-loaded room sheet room′ p o xs w =

@@ -3,7 +3,7 @@ use Prim.Native.Nat.{ℕ, _+_}
 use native.Mathlib.Omega.{arith}
 use mathlib.Core.Path.{_≡_, refl, ap, sym, subst, _∙_}
 use mathlib.Core.Bool.{true}
-use mathlib.Core.List.{List, _++_}
+use mathlib.Core.List.{List}
 use lib.Dec.{eqb, leb}
 use lib.ListN.{length, take, drop}
 use lib.Seq.{take-append-seam}
@@ -18,13 +18,14 @@ use Rattle.kept.specs.Kept.{deskAt, octetsFor, Holds, Call, AllPromised,
 use Rattle.kept.proofs.Desks.{Right, right-made, has-octets}
 use Rattle.kept.proofs.Steps.{told-as, calls-in-form}
 
--- the first 1,200 octets of a room that a desk was written into are the desk's
-first-written : (room : List ℕ) (d : Desk) → deskIn (over room 0 (octetsFor d)) ≡ octetsFor d
+-- the first octets of a room that some were written into are those
+pub first-over : (room xs : List ℕ) → take (length xs) (over room 0 xs) ≡ xs
 unfolding over
+first-over room xs = take-append-seam xs (drop (0 + length xs) room)
+
+first-written : (room : List ℕ) (d : Desk) → deskIn (over room 0 (octetsFor d)) ≡ octetsFor d
 first-written room d =
-    let l : length (octetsFor d) ≡ 1200 = length-octets (d .core) (d .hall) (d .names) in
-    let x = drop (0 + length (octetsFor d)) room in
-    ap (λ (n : ℕ). take n (octetsFor d ++ x)) (sym l) ∙ take-append-seam (octetsFor d) x
+    ap (λ (n : ℕ). take n (over room 0 (octetsFor d))) (sym (length-octets (d .core) (d .hall) (d .names))) ∙ first-over room (octetsFor d)
 
 -- a room is written only where all is done
 pub done-only : (room : List ℕ) (n : ℕ) (d : Desk) → written room n (d .core) (d .hall) (d .names) .0 ≡ 0 → n ≡ 0

@@ -9,7 +9,8 @@ use mathlib.Core.Bool.{true, false}
 use mathlib.Core.List.{List, [], _∷_, _++_}
 use lib.Dec.{eqb}
 use lib.ListN.{length, take}
-use Rattle.octets.specs.Octets.{Octets}
+use lib.IntN.{ℤ, pos}
+use Rattle.octets.specs.Octets.{over, Octets}
 use Rattle.words.specs.Choice.{if_then_else_}
 use Rattle.message.specs.Answers.{Answer, refused, result}
 use Rattle.message.specs.declared.Message.{Message}
@@ -22,14 +23,14 @@ use Rattle.hall.specs.declared.Newcomer.{Newcomer}
 use Rattle.desk.specs.declared.Event.the-variants.{Start, Stop, Media, Expiry}
 use Rattle.history.specs.Doing.{Desk, Doing, event, leaves as leaving, joins as joining, made, does, afterAll}
 use Rattle.call.specs.Call.{eventOf}
-use Rattle.sheet.specs.Layout.{Seat, seatsOf, sheetOf}
-use Rattle.sheet.specs.Loading.{Seats, whole, fault, settingsAt, settingsPlace, seatCount, readSeats, loading}
+use Rattle.sheet.specs.Layout.{Seat, seatsOf}
+use Rattle.sheet.specs.Loading.{Load, Seats, whole, fault, settingsAt, settingsPlace, seatCount, readSeats}
 use Rattle.sheets.specs.Sheets.{IsDesk}
 use Rattle.form.specs.Form.{octetsOf, coreAt, hallAt, namesAt}
 use Rattle.floor.specs.declared.Named.{Named}
 use Rattle.floor.specs.declared.Named.the-variants.{Known, Unknown}
-use Rattle.floor.specs.Floor.{formed, newcomer, seatNumbered, timerNamed, notRunning, settable, loadOn, signed, screened}
-use Rattle.floor.specs.Promises.{MakePromise, JoinPromise, LeavePromise, StartPromise, StopPromise, PacketPromise, MediaPromise, TimerPromise, LoadPromise}
+use Rattle.floor.specs.Floor.{formed, newcomer, seatNumbered, timerNamed, notRunning, settable, signed, screened}
+use Rattle.floor.specs.Promises.{MakePromise, JoinPromise, LeavePromise, StartPromise, StopPromise, PacketPromise, MediaPromise, TimerPromise, SavePromise, LoadPromise}
 
 -- WHAT A C PROGRAM HAS
 
@@ -246,14 +247,26 @@ pub record Loaded (s sheet : List ℕ) : Type 0 where
 abbrev pub LoadedInForm : Type 0
 LoadedInForm = (room sheet room′ : List ℕ) → LoadPromise room sheet 0 room′ → Octets sheet → Loaded (deskIn room′) sheet
 
--- "SEATS AND SETTINGS ARE SAVED FROM ANY DESK" (proofs/Loaded): what is saved of octets in the form loads, in any room that is long enough, and
--- as a fresh desk with the same seats and settings
+-- "AN ACCEPTED SHEET IS WRITTEN BACK OCTET FOR OCTET" (proofs/Sheets): what `floor_load` took, `floor_save` writes, given room for it
+
+abbrev pub LoadedIsSaved : Type 0
+LoadedIsSaved =
+    (desk sheet desk′ : List ℕ) → LoadPromise desk sheet 0 desk′ → Octets sheet →
+    (room : List ℕ) (n : ℤ) (room′ : List ℕ) → SavePromise (deskIn desk′) room n room′ → length sheet ≤ length room →
+    (n ≡ pos (length sheet)) × (room′ ≡ over room 0 sheet)
+
+-- "SEATS AND SETTINGS ARE SAVED FROM ANY DESK" (proofs/Sheets): what `floor_save` wrote, `floor_load` takes, in any room that is long enough, and
+-- leaves a fresh desk with the same seats, numbered from 0 in their order, and the same settings
+
+abbrev pub loadedAs : ℕ → List ℕ → Load
+loadedAs n d = record { number = n; core = coreAt d; hall = hallAt d; names = namesAt d }
 
 abbrev pub SavedIsLoaded : Type 0
 SavedIsLoaded =
-    (d room : List ℕ) → Octets d → formed d ≡ true → 1200 ≤ length room →
-    let sheet = sheetOf (hallAt d) (namesAt d) in
-    (loadOn room sheet .0 ≡ 0) × IsDesk (loading sheet) (seatsOf (hallAt d) (namesAt d)) (hallAt d .settings)
+    (d room : List ℕ) (n : ℕ) (room′ : List ℕ) → SavePromise d room (pos n) room′ → Octets d →
+    let sheet = take n room′ in
+    (desk : List ℕ) (m : ℕ) (desk′ : List ℕ) → LoadPromise desk sheet m desk′ → Octets sheet → 1200 ≤ length desk →
+    IsDesk (loadedAs m (deskIn desk′)) (seatsOf (hallAt d) (namesAt d)) (hallAt d .settings)
 
 -- "THE WALL SCREEN IS HANDED THE LINE AS A LIST OF ENTRIES" (proofs/Wall): two octets an entry, and C is answered as the crate `screen` answers
 
