@@ -61,7 +61,7 @@ narrow-settings g k =
     let b = octets-hold (g .level) (g .limit) (g .c7) (g .c20) (g .duration) (and-left (inOctets (g .level) (g .limit) (g .c7) (g .c20) (g .duration)) (inRange g) (k .0)) in
     record { ssrc = k .1; level = b .0; limit = b .1; c7 = b .2; c20 = b .3; duration = b .4 }
 
-in-range : (g : Settings) → Settable g → inRange g ≡ true
+pub in-range : (g : Settings) → Settable g → inRange g ≡ true
 unfolding settable
 in-range g k = and-right (inOctets (g .level) (g .limit) (g .c7) (g .c20) (g .duration)) (inRange g) (k .0)
 

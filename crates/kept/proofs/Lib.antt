@@ -2,6 +2,7 @@ pub mod All
 pub mod Narrow
 pub mod Numbers
 pub mod Desks
+pub mod Shape
 pub mod Refusals
 pub mod Steps
 pub mod Made

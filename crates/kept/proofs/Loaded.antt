@@ -1,10 +1,9 @@
--- A desk that is loaded is the fresh one with the sheet's settings that the sheet's seats joined, in octets in the form, and so is all that
--- comes of it. Assumes nothing.
+-- A desk that is loaded is the fresh one with the sheet's settings that the sheet's seats joined, in octets in the form. Assumes nothing.
 use Prim.Native.Nat.{ℕ, zero, suc, _+_, _≤_}
 use native.Mathlib.Omega.{arith}
 use mathlib.Core.Path.{_≡_, refl, ap, sym, subst, _∙_}
 use mathlib.Core.Bool.{true, not, _&&_, _||_}
-use mathlib.Core.List.{List, [], _∷_, _++_}
+use mathlib.Core.List.{List, [], _∷_}
 use lib.Dec.{eqb, ltb}
 use lib.ListN.{length, take, drop}
 use borrow.Author.Tests.{not-false, lt-ltb, le-leb}
@@ -24,12 +23,12 @@ use Rattle.sheet.specs.Loading.{Load, Seats, whole, fault, refused, ifSeated, j
 use Rattle.words.proofs.Tests.{both, five, neither-left}
 use Rattle.floor.specs.Floor.{inOctets, settable, written, loadOn}
 use Rattle.floor.specs.Promises.{LoadPromise}
-use Rattle.kept.specs.Kept.{Holds, Fits, AllFit, leftByAll, doneByAll, Settable, deskIn, joinsOf, seatedFrom, settingsOn, joinsOn, LoadedInForm, FromLoaded}
+use Rattle.kept.specs.Kept.{Holds, Fits, AllFit, Settable, deskIn, joinsOf, seatedFrom, settingsOn, joinsOn, LoadedInForm}
 use Rattle.kept.proofs.All.{all-take, all-drop, all-at, at-all}
 use Rattle.kept.proofs.Numbers.{Octet, half-small, word-small}
 use Rattle.kept.proofs.Desks.{Right, right-made, right-run}
-use Rattle.kept.proofs.Steps.{after-both, told-as}
-use Rattle.kept.proofs.Made.{done-only, Written, written-so, from-there}
+use Rattle.kept.proofs.Steps.{told-as}
+use Rattle.kept.proofs.Made.{done-only, Written, written-so}
 
 -- what loading answers, as a desk
 abbrev pub deskLoaded : Load → Desk
@@ -145,12 +144,3 @@ loaded-in-form room sheet room′ p o =
 pub loads : (room sheet : List ℕ) → loading sheet .number ≡ 0 → 1200 ≤ length room → loadOn room sheet .0 ≡ 0
 unfolding written if_then_else_
 loads room sheet z b = rw (z, le-leb 1200 (length room) b)
-
-pub from-loaded : FromLoaded
-from-loaded room sheet room′ p o xs w =
-    let l = loaded-in-form room sheet room′ p o in
-    let g = settingsOn sheet in
-    let s = deskIn room′ in
-    let e = afterAll (made g) (joinsOn sheet) in
-    told-as (leftByAll s xs) (afterAll e (doneByAll xs)) (afterAll (made g) (joinsOn sheet ++ doneByAll xs)) (after-both (made g) (joinsOn sheet) (doneByAll xs))
-    (from-there s e (l .holds) xs w)

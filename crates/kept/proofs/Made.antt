@@ -1,4 +1,4 @@
--- A desk that is made is a fresh one, in octets in the form, and so is all that comes of it. Assumes nothing.
+-- A desk that is made is a fresh one, in octets in the form. Assumes nothing.
 use Prim.Native.Nat.{ℕ, _+_}
 use native.Mathlib.Omega.{arith}
 use mathlib.Core.Path.{_≡_, refl, ap, sym, subst, _∙_}
@@ -11,12 +11,11 @@ use borrow.Author.Tests.{eqb-true, eqb-false, le-leb}
 use Rattle.words.specs.Choice.{if_then_else_, by-if}
 use Rattle.octets.specs.Octets.{over}
 use Rattle.hall.specs.declared.Settings.{Settings}
-use Rattle.history.specs.Doing.{Desk, made, afterAll}
+use Rattle.history.specs.Doing.{Desk, made}
 use Rattle.forms.proofs.Fits.{length-octets}
 use Rattle.floor.specs.Floor.{written, settable, makeOn}
-use Rattle.kept.specs.Kept.{deskAt, octetsFor, Holds, Call, AllPromised, leftByAll, doneByAll, Settable, deskIn, Makes, MadeInForm, FromMade}
+use Rattle.kept.specs.Kept.{octetsFor, Holds, Settable, deskIn, Makes, MadeInForm}
 use Rattle.kept.proofs.Desks.{Right, right-made, has-octets}
-use Rattle.kept.proofs.Steps.{told-as, calls-in-form}
 
 -- the first octets of a room that some were written into are those
 pub first-over : (room xs : List ℕ) → take (length xs) (over room 0 xs) ≡ xs
@@ -58,12 +57,3 @@ made-in-form room g room′ p b =
     let h : Written (made g) (makeOn room g) =
     by-if (Written (made g)) (settable g) (λ _. written-so (made g) room 0 (λ _. right-made g k)) (λ _ y. absurd (omega (arith, y))) in
     (k, subst (λ (w : ℕ × List ℕ). Written (made g) w) (sym p) h refl)
-
--- whatever is done to octets that hold a desk
-pub from-there : (s : List ℕ) (d : Desk) → Holds s d → (xs : List Call) → AllPromised s xs → Holds (leftByAll s xs) (afterAll d (doneByAll xs))
-from-there s d h xs w =
-    told-as (leftByAll s xs) (afterAll (deskAt s) (doneByAll xs)) (afterAll d (doneByAll xs)) (ap (λ (e : Desk). afterAll e (doneByAll xs)) (h .stands))
-    (calls-in-form s xs w (h .octets) (h .inForm))
-
-pub from-made : FromMade
-from-made room g room′ p b xs w = from-there (deskIn room′) (made g) (made-in-form room g room′ p b .1) xs w

@@ -39,7 +39,7 @@ pub record NarrowCore (c : Core) : Type 0 where
   pub holder : Small (holderIn (c .phase))
 
 -- what is done to a line
-waiting-small : (l : Line) → All Small (l .entries) → All Small (waiting l)
+pub waiting-small : (l : Line) → All Small (l .entries) → All Small (waiting l)
 unfolding waiting
 waiting-small l k = all-take Small (l .len) (l .entries) k
 
@@ -47,13 +47,13 @@ pub line-small : (es : List Entry) → All Small es → All Small (lineOf es .en
 unfolding lineOf
 line-small es k = all-padded Small empty 15 es none-small k
 
-enter-small : (e : Entry) (es : List Entry) → Small e → All Small es → All Small (enter e es)
+pub enter-small : (e : Entry) (es : List Entry) → Small e → All Small es → All Small (enter e es)
 unfolding enter
 enter-small e es p k =
     let n = ahead (e .priority) es in
     all-both Small (take n es) (e ∷ drop n es) (all-take Small n es k) (p, all-drop Small n es k)
 
-without-small : (seats : List Bool) (es : List Entry) → All Small es → All Small (without seats es)
+pub without-small : (seats : List Bool) (es : List Entry) → All Small es → All Small (without seats es)
 unfolding without
 without-small seats [] k = tt
 without-small seats (e ∷ es) k =

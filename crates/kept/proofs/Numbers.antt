@@ -110,7 +110,7 @@ module _ (h : Hall) (ns : Names) (k : NarrowSeats h ns) where
   join-kept o n w j (turnedAway a f q) = rw q k
   join-kept o n w j (sitsDown s p f z b q) = rw q (one-set s true n (nameOf o) (w .1) (w .2) (name-narrow o (w .0)))
 
-  top : (s : ℕ) → getD (h .highest) s 0 < 256
+  pub top : (s : ℕ) → getD (h .highest) s 0 < 256
   top s = all-at Octet 0 (omega arith) (h .highest) (k .highest) s
 
 hall-kept : (d : Desk) (x : Doing) → DoingFits x → NarrowSeats (d .hall) (d .names) → NarrowSeats (does d x .hall) (does d x .names)
@@ -157,7 +157,7 @@ timers-small (Idle t7) = flag-small t7
 timers-small (Taken e b) = beside-small b
 timers-small (Revoking e n) = omega arith
 
-cause-small : (p : Phase) → causeOk p ≡ true → causeIn p < 65536
+pub cause-small : (p : Phase) → causeOk p ≡ true → causeIn p < 65536
 cause-small Stopped u = omega arith
 cause-small (Idle t7) u = omega arith
 cause-small (Taken e b) u = omega arith

@@ -1,9 +1,8 @@
--- What a call leaves in a desk's octets is in the form, and stands for the desk that the rules leave: a call, then any sequence of them.
--- Assumes nothing.
+-- What a call leaves in a desk's octets is in the form, and stands for the desk that the rules leave. Assumes nothing.
 use Prim.Native.Nat.{ℕ}
-use mathlib.Core.Path.{_≡_, refl, ap, sym, subst, _∙_}
+use mathlib.Core.Path.{_≡_, refl, sym, subst, _∙_}
 use mathlib.Core.Bool.{true, false}
-use mathlib.Core.List.{List, [], _∷_, _++_}
+use mathlib.Core.List.{List, [], _∷_}
 use lib.Dec.{eqb, leb}
 use lib.ListN.{length}
 use Rattle.words.specs.Choice.{if_then_else_, by-if}
@@ -25,13 +24,8 @@ use Rattle.floor.specs.declared.Named.{Named}
 use Rattle.floor.specs.declared.Named.the-variants.{Known, Unknown}
 use Rattle.floor.specs.Floor.{formed, Leaves, leaves, settles, calledOn, leftOn, leaveOn, written, eventOn, firedOn, joinOn, newcomer, seatNumbered, timerNamed}
 use Rattle.floor.proofs.Desks.{fits, fits-whole, over-desk}
-use Rattle.kept.specs.Kept.{deskAt, octetsFor, Holds, Act, floorJoin, floorLeave, floorStart, floorStop, floorPacket, floorMedia, floorTimer, Call, PromisedBy, readAs, timerAs, meant, Fits, ActFits, DoingFits, AllFit, did, done as doneBy, AllPromised, leftByAll, doneByAll, StepInForm, CallsInForm}
-use Rattle.kept.proofs.Desks.{Right, right-at, right-kept, right-run, has-octets}
-
--- two runs, one after the other
-pub after-both : (d : Desk) (xs ys : List Doing) → afterAll (afterAll d xs) ys ≡ afterAll d (xs ++ ys)
-after-both d [] ys = refl
-after-both d (x ∷ xs) ys = after-both (after d x) xs ys
+use Rattle.kept.specs.Kept.{deskAt, octetsFor, Holds, Act, floorJoin, floorLeave, floorStart, floorStop, floorPacket, floorMedia, floorTimer, PromisedBy, readAs, timerAs, meant, Fits, ActFits, DoingFits, did, StepInForm}
+use Rattle.kept.proofs.Desks.{Right, right-at, right-kept, has-octets}
 
 -- a call
 module _ (d : List ℕ) (o : Octets d) (q : formed d ≡ true) (k : Right (deskAt d)) where
@@ -123,41 +117,5 @@ module _ (d : List ℕ) (o : Octets d) (q : formed d ≡ true) (k : Right (deskA
 pub step-in-form : StepInForm
 step-in-form d x p o q w = call-so d o q (right-at d o q) (x .room) (x .answer) (x .desk) (x .report) (x .act) p w
 
--- any sequence of calls
 pub told-as : (s : List ℕ) (d e : Desk) → d ≡ e → Holds s d → Holds s e
 told-as s d e p h = record { octets = h .octets; inForm = h .inForm; stands = h .stands ∙ p }
-
-read-fits : (a : Answer Message) → AllFit (readAs a)
-read-fits (refused n) = tt
-read-fits (result m) = (tt, tt)
-
-timer-fits : (t : Named) → AllFit (timerAs t)
-timer-fits (Known t) = (tt, tt)
-timer-fits Unknown = tt
-
-meant-fits : (a : Act) → ActFits a → AllFit (meant a)
-unfolding meant
-meant-fits (floorJoin i x h q l) w = (w, tt)
-meant-fits (floorLeave s) w = (tt, tt)
-meant-fits floorStart w = (tt, tt)
-meant-fits floorStop w = (tt, tt)
-meant-fits (floorPacket o) w = read-fits (reading o)
-meant-fits (floorMedia x) w = (tt, tt)
-meant-fits (floorTimer t) w = timer-fits (timerNamed t)
-
-pub done-fits : (x : Call) → ActFits (x .act) → AllFit (doneBy x)
-done-fits x w = by-if AllFit (eqb (x .answer) 0) (λ _. meant-fits (x .act) w) (λ _. tt)
-
-pub calls-so : (d : List ℕ) (xs : List Call) → AllPromised d xs → Octets d → formed d ≡ true → Right (deskAt d) →
-    Holds (leftByAll d xs) (afterAll (deskAt d) (doneByAll xs))
-calls-so d [] w o q k = record { octets = o; inForm = q; stands = refl }
-calls-so d (x ∷ xs) w o q k =
-    let s = x .desk in
-    let h : Holds s (afterAll (deskAt d) (doneBy x)) = call-so d o q k (x .room) (x .answer) (x .desk) (x .report) (x .act) (w .0) (w .1) in
-    let l : Right (deskAt s) = rw (h .stands) (right-run (deskAt d) (doneBy x) (done-fits x (w .1)) k) in
-    told-as (leftByAll s xs) (afterAll (deskAt s) (doneByAll xs)) (afterAll (deskAt d) (doneBy x ++ doneByAll xs))
-    (ap (λ (e : Desk). afterAll e (doneByAll xs)) (h .stands) ∙ after-both (deskAt d) (doneBy x) (doneByAll xs))
-    (calls-so s xs (w .2) (h .octets) (h .inForm) l)
-
-pub calls-in-form : CallsInForm
-calls-in-form d xs w o q = calls-so d xs w o q (right-at d o q)

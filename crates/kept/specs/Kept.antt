@@ -1,8 +1,8 @@
--- The desk in lent octets over any sequence of calls (document 01, "The desk"): "All refusals leave the desk unchanged, with no message and no
--- mark"; "Octets not in that form get 20, before all else; a step writes only octets in it, and every desk that steps can reach from a fresh
--- one has octets there, which stand for that desk alone". Each statement here is proved in proofs/, in the file named beside it. Octets are
--- numbers below 256, as all that is lent. Of the exported functions nothing is used but what they promise (floor/specs/Promises). Assumes
--- nothing.
+-- The desk in lent octets, call by call (document 01, "The desk"): "All refusals leave the desk unchanged, with no message and no mark";
+-- "Octets not in that form get 20, before all else; a step writes only octets in it, and every desk that steps can reach from a fresh one has
+-- octets there, which stand for that desk alone". Of the exported functions nothing is used but what they promise (floor/specs/Promises); any
+-- sequence of calls is in library/specs/Library. Each statement here is proved in proofs/, in the file named beside it. Octets are numbers
+-- below 256, as all that is lent. Assumes nothing.
 use Prim.Native.Nat.{ℕ, _/_, _≤_, _<_}
 use mathlib.Core.Path.{_≡_}
 use mathlib.Core.Bool.{true, false}
@@ -20,6 +20,7 @@ use Rattle.screen.specs.Screen.{answered}
 use Rattle.hall.specs.Answers.{number}
 use Rattle.hall.specs.declared.Settings.{Settings}
 use Rattle.hall.specs.declared.Newcomer.{Newcomer}
+use Rattle.rules.specs.declared.Report.{Report}
 use Rattle.desk.specs.declared.Event.the-variants.{Start, Stop, Media, Expiry}
 use Rattle.history.specs.Doing.{Desk, Doing, event, leaves as leaving, joins as joining, made, does, afterAll}
 use Rattle.call.specs.Call.{eventOf}
@@ -27,6 +28,7 @@ use Rattle.sheet.specs.Layout.{Seat, seatsOf}
 use Rattle.sheet.specs.Loading.{Load, Seats, whole, fault, settingsAt, settingsPlace, seatCount, readSeats}
 use Rattle.sheets.specs.Sheets.{IsDesk}
 use Rattle.form.specs.Form.{octetsOf, coreAt, hallAt, namesAt}
+use Rattle.report.specs.Reported.{Reported, Shaped}
 use Rattle.floor.specs.declared.Named.{Named}
 use Rattle.floor.specs.declared.Named.the-variants.{Known, Unknown}
 use Rattle.floor.specs.Floor.{formed, newcomer, seatNumbered, timerNamed, notRunning, settable, signed, screened}
@@ -146,19 +148,6 @@ did answer xs = if eqb answer 0 then xs else []
 abbrev pub done : Call → List Doing
 done x = did (x .answer) (meant (x .act))
 
--- any sequence of calls, each on what the one before it left: the octets in the end, and all that was done
-abbrev pub AllPromised : List ℕ → List Call → Type 0
-AllPromised d [] = Unit
-AllPromised d (x ∷ xs) = Promised d x × ActFits (x .act) × AllPromised (x .desk) xs
-
-abbrev pub leftByAll : List ℕ → List Call → List ℕ
-leftByAll d [] = d
-leftByAll d (x ∷ xs) = leftByAll (x .desk) xs
-
-abbrev pub doneByAll : List Call → List Doing
-doneByAll [] = []
-doneByAll (x ∷ xs) = done x ++ doneByAll xs
-
 -- a desk is made with settings, in a room
 abbrev pub FloorMake : (room : List ℕ) (g : Settings) (answer : ℕ) (room′ : List ℕ) → Type 0
 FloorMake room g n room′ = MakePromise room (g .ssrc) (g .level) (g .limit) (g .c7) (g .c20) (g .duration) n room′
@@ -191,10 +180,12 @@ abbrev pub StepInForm : Type 0
 StepInForm =
     (d : List ℕ) (x : Call) → Promised d x → Octets d → formed d ≡ true → ActFits (x .act) → Holds (x .desk) (afterAll (deskAt d) (done x))
 
--- so any sequence of calls is a run of what was done
-abbrev pub CallsInForm : Type 0
-CallsInForm =
-    (d : List ℕ) (xs : List Call) → AllPromised d xs → Octets d → formed d ≡ true → Holds (leftByAll d xs) (afterAll (deskAt d) (doneByAll xs))
+-- and what it reports is of the shape that a report's octets say (proofs/Shape)
+abbrev pub reportOf : Report → Reported
+reportOf r = record { first = r .first; second = r .second; marks = r .marks }
+
+abbrev pub StepShaped : Type 0
+StepShaped = (d : List ℕ) → Octets d → formed d ≡ true → (x : Doing) → DoingFits x → Shaped (reportOf (does (deskAt d) x .report))
 
 -- "EVERY DESK THAT STEPS CAN REACH FROM A FRESH ONE HAS OCTETS THERE" (proofs/Desks)
 
@@ -272,16 +263,3 @@ SavedIsLoaded =
 
 abbrev pub OneScreen : Type 0
 OneScreen = (es : List Entry) (room : List ℕ) → screened es room .0 ≡ signed (answered es (length room / 2))
-
--- SO WHATEVER A C PROGRAM DOES, ITS DESK IS ONE THAT STEPS REACH FROM A FRESH ONE (proofs/Made, proofs/Loaded)
-
-abbrev pub FromMade : Type 0
-FromMade =
-    (room : List ℕ) (g : Settings) (room′ : List ℕ) → FloorMake room g 0 room′ → g .ssrc < 4294967296 →
-    (xs : List Call) → AllPromised (deskIn room′) xs → Holds (leftByAll (deskIn room′) xs) (afterAll (made g) (doneByAll xs))
-
-abbrev pub FromLoaded : Type 0
-FromLoaded =
-    (room sheet room′ : List ℕ) → LoadPromise room sheet 0 room′ → Octets sheet →
-    (xs : List Call) → AllPromised (deskIn room′) xs →
-    Holds (leftByAll (deskIn room′) xs) (afterAll (made (settingsOn sheet)) (joinsOn sheet ++ doneByAll xs))

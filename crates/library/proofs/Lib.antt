@@ -1,0 +1,3 @@
+pub mod Looks
+pub mod Told
+pub mod Library

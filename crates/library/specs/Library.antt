@@ -1,0 +1,177 @@
+-- THE MISSION'S THIRD DEMAND, OF THE LIBRARY THAT C PROGRAMS LINK: over any sequence of calls of the exported functions on one desk's octets,
+-- made or loaded, nobody drops out unseen. What is counted are the marks in the octets of the reports that the calls left; who waits and who
+-- holds the floor now is what `floor_screen` and `floor_holder` show. Of the functions nothing is used but what they promise
+-- (floor/specs/Promises).
+--
+-- First a run and its log, then a look at the desk, then the five statements, and at the end the demand. All is proved in proofs/Library, from
+-- the same statements of the rules' desk (demands/specs/Demands), whose counting is used here too. Assumes nothing.
+use Prim.Native.Nat.{ℕ, suc, _+_, _*_, _/_, _≤_, _<_}
+use mathlib.Core.Path.{_≡_}
+use mathlib.Core.Bool.{Bool, true, false, _||_}
+use mathlib.Core.List.{List, [], _∷_, _++_}
+use lib.IntN.{ℤ, pos, negsuc}
+use lib.ListN.{length, getD, take}
+use Rattle.words.specs.Choice.{one}
+use Rattle.octets.specs.Octets.{Octets}
+use Rattle.line.specs.declared.Entry.{Entry}
+use Rattle.line.specs.Line.{isIn}
+use Rattle.hall.specs.declared.Settings.{Settings}
+use Rattle.hall.specs.declared.Hall.{Hall}
+use Rattle.rules.specs.declared.Mark.{Mark}
+use Rattle.rules.specs.declared.Mark.the-variants.{NoSeat, Seat}
+use Rattle.rules.specs.declared.Given.the-variants.{OutOfLine}
+use Rattle.rules.specs.declared.Marks.{Marks}
+use Rattle.rules.specs.Words.{silence, noMarks}
+use Rattle.rules.specs.Request.{entry}
+use Rattle.history.specs.Doing.{Desk, Doing, Fresh}
+use Rattle.history.specs.Asking.{asking}
+use Rattle.marks.specs.Marks.{isSeat}
+use Rattle.demands.specs.Demands.{happens, History, deskAfter, Report, Row, log, isPlaced, isStruck, isGivenOut, isGivenAny, isEnded, times, standing, lineFrom, holderFrom, placeOf, inLine, reasonOf, ComesFirst}
+use Rattle.form.specs.Form.{hallAt}
+use Rattle.form.specs.Columns.{column}
+use Rattle.report.specs.Reported.{reportIn}
+use Rattle.floor.specs.Promises.{LoadPromise, ScreenPromise, PhasePromise, HolderPromise}
+use Rattle.kept.specs.Kept.{Holds, deskIn, FloorMake, Act, floorJoin, floorLeave, floorStart, floorStop, floorPacket, floorMedia, floorTimer, Call, Promised, ActFits, done}
+
+-- A RUN AND ITS LOG
+
+-- what a report's octets say; a join has no report
+abbrev pub said : List ℕ → Report
+said r = record { answer = 0; first = reportIn r .first; second = reportIn r .second; marks = reportIn r .marks }
+
+abbrev pub unsaid : Report
+unsaid = record { answer = 0; first = silence; second = silence; marks = noMarks }
+
+abbrev pub reportBy : Act → List ℕ → Report
+reportBy (floorJoin o x h q l) r = unsaid
+reportBy (floorLeave s) r = said r
+reportBy floorStart r = said r
+reportBy floorStop r = said r
+reportBy (floorPacket p) r = said r
+reportBy (floorMedia x) r = said r
+reportBy (floorTimer t) r = said r
+
+-- A call that was done brings a row: what was asked, a seat and its priority, as the desk reads the packet; and what the 24 octets of the
+-- report say. A call that was refused brings none.
+abbrev pub rowsOf : Hall → Report → List Doing → List Row
+rowsOf h r [] = []
+rowsOf h r (y ∷ ys) = record { asked = asking h y; report = r } ∷ rowsOf h r ys
+
+abbrev pub rowsBy : List ℕ → Call → List Row
+rowsBy d x = rowsOf (hallAt d) (reportBy (x .act) (take 24 (x .report))) (done x)
+
+-- Calls on one desk's octets: those that stand there now, and the log, the latest row first. A desk that is made or loaded, in the first 1,200
+-- octets of a room, begins a new log, whatever stood there and was done before; a make or a load that is refused is no row either. `called` is
+-- join, leave, start, stop, packet, media and timer, each with its promise; the other functions only read a desk. Numbers from C are as its
+-- types hold them.
+pub data Ran : List ℕ → List Row → Type 0 where
+  made : (room : List ℕ) (g : Settings) (room′ : List ℕ) → FloorMake room g 0 room′ → g .ssrc < 4294967296 → Ran (deskIn room′) []
+  loaded : (room sheet room′ : List ℕ) → LoadPromise room sheet 0 room′ → Octets sheet → Ran (deskIn room′) []
+  called : {d : List ℕ} {rows : List Row} → Ran d rows → (x : Call) → Promised d x → ActFits (x .act) → Ran (x .desk) (rowsBy d x ++ rows)
+  notMade : {d : List ℕ} {rows : List Row} → Ran d rows →
+      (g : Settings) (n : ℕ) (d′ : List ℕ) → FloorMake d g n d′ → (n ≡ 0 → ⊥) → Ran d′ rows
+  notLoaded : {d : List ℕ} {rows : List Row} → Ran d rows →
+      (sheet : List ℕ) (n : ℕ) (d′ : List ℕ) → LoadPromise d sheet n d′ → (n ≡ 0 → ⊥) → Ran d′ rows
+
+-- WHAT A RUN COMES TO: octets in the form; they stand for the desk that the rules leave of a fresh one, and the log is what they report
+
+pub record Reached (d : List ℕ) (rows : List Row) : Type 0 where
+  pub start : Desk
+  pub isFresh : Fresh start
+  pub past : History
+  pub holds : Holds d (deskAfter happens start past)
+  pub same : rows ≡ log happens start past
+
+abbrev pub EveryRunReached : Type 0
+EveryRunReached = (d : List ℕ) (rows : List Row) → Ran d rows → Reached d rows
+
+-- A LOOK AT THE DESK: the line, by `floor_screen` with room for it, and the holder, by `floor_holder`
+
+pub record Look (d : List ℕ) : Type 0 where
+  pub room : List ℕ
+  pub count : ℕ
+  pub shown : List ℕ
+  pub answer : ℤ
+  pub screen : ScreenPromise d room (pos count) shown
+  pub holder : HolderPromise d answer
+
+-- two octets an entry; 256 times the seat and the priority, or less than 0
+abbrev pub entriesIn : List ℕ → ℕ → List Entry
+entriesIn s n = column (λ i. entry (getD s (2 * i) 0) (getD s (2 * i + 1) 0)) 0 n
+
+abbrev pub seatIn : ℤ → Mark
+seatIn (pos n) = Seat (n / 256)
+seatIn (negsuc n) = NoSeat
+
+abbrev pub line : {d : List ℕ} → Look d → List Entry
+line l = entriesIn (l .shown) (l .count)
+
+abbrev pub holder : {d : List ℕ} → Look d → Mark
+holder l = seatIn (l .answer)
+
+-- 30 octets are room enough for any line
+abbrev pub RoomEnough : Type 0
+RoomEnough = (d : List ℕ) (rows : List Row) → Ran d rows → (room : List ℕ) (a : ℤ) (room′ : List ℕ) → ScreenPromise d room a room′ →
+    30 ≤ length room → (n : ℕ) × (a ≡ pos n)
+
+-- ONE CALL MORE: its marks, which a refused one has not, and the reason it gives to strike a seat off
+
+abbrev pub marksOf : List Row → Marks
+marksOf [] = noMarks
+marksOf (r ∷ rows) = r .report .marks
+
+abbrev pub marksBy : List ℕ → Call → Marks
+marksBy d x = marksOf (rowsBy d x)
+
+abbrev pub reasonIn : Hall → List Doing → ℕ → Bool
+reasonIn h [] s = false
+reasonIn h (y ∷ ys) s = reasonOf h y s
+
+-- THE FIVE STATEMENTS, of any run, any look and any seat number; of any call more, with a look before it and one after it
+
+-- 1. "times placed in line = times given the floor out of the line + times struck off + 1 if it waits now"; and it waits at most once
+abbrev pub NobodyDropsOut : Type 0
+NobodyDropsOut = (d : List ℕ) (rows : List Row) → Ran d rows → (now : Look d) (s : ℕ) →
+    (times (isPlaced s) rows ≡ times (isGivenOut s) rows + times (isStruck s) rows + one (isIn s (line now)))
+    × (standing s (line now) ≡ one (isIn s (line now)))
+
+-- 2. "Struck off only in a step where it releases, leaves, or the call stops."
+abbrev pub StruckForAReason : Type 0
+StruckForAReason = (d : List ℕ) (rows : List Row) → Ran d rows → (x : Call) → Promised d x → ActFits (x .act) → (s : ℕ) →
+    isStruck s (marksBy d x) ≡ true → reasonIn (hallAt d) (done x) s ≡ true
+
+-- 3. "A floor that ends with a line waiting, the call going on, goes to the highest priority, and among equals to the one whose latest placing
+-- or move came first." Who waits, and at which priority, is read off the log; `floor_phase` answers more than 0 while the call goes on.
+abbrev pub GoesToTheFirst : Type 0
+GoesToTheFirst = (d : List ℕ) (rows : List Row) → Ran d rows → (x : Call) → Promised d x → ActFits (x .act) → (t u p k : ℕ) →
+    isEnded t (marksBy d x) ≡ true → placeOf u rows ≡ inLine p → PhasePromise (x .desk) (pos (suc k)) →
+    (s : ℕ) × (marksBy d x .given ≡ OutOfLine s) × ComesFirst rows s
+
+-- 4. "Times given = times ended + 1 for the seat that holds it."; at most one does, since `floor_holder` names one or none
+abbrev pub GivenAndEnded : Type 0
+GivenAndEnded = (d : List ℕ) (rows : List Row) → Ran d rows → (now : Look d) (s : ℕ) →
+    times (isGivenAny s) rows ≡ times (isEnded s) rows + one (isSeat (holder now) s)
+
+-- 5. Nobody enters the line, leaves it, gets the floor or loses it without its mark; and the line and the holder now can be worked out from
+-- the marks and the requests alone.
+pub record Marked (old new : List Entry) (from to : Mark) (m : Marks) (s : ℕ) : Type 0 where
+  pub enters : isIn s old ≡ false → isIn s new ≡ true → isPlaced s m ≡ true
+  pub goes : isIn s old ≡ true → isIn s new ≡ false → (isStruck s m || isGivenOut s m) ≡ true
+  pub gets : isSeat from s ≡ false → isSeat to s ≡ true → isGivenAny s m ≡ true
+  pub loses : isSeat from s ≡ true → isSeat to s ≡ false → isEnded s m ≡ true
+
+abbrev pub NothingUnseen : Type 0
+NothingUnseen = (d : List ℕ) (rows : List Row) → Ran d rows → (before : Look d) (x : Call) → Promised d x → ActFits (x .act) →
+    (after : Look (x .desk)) (s : ℕ) → Marked (line before) (line after) (holder before) (holder after) (marksBy d x) s
+
+abbrev pub WorkedOut : Type 0
+WorkedOut = (d : List ℕ) (rows : List Row) → Ran d rows → (now : Look d) →
+    (line now ≡ lineFrom rows) × ((s : ℕ) → isSeat (holder now) s ≡ isSeat (holderFrom rows) s)
+
+-- THE DEMAND
+pub record NobodyDropsOutUnseen : Type 0 where
+  pub one : NobodyDropsOut
+  pub two : StruckForAReason
+  pub three : GoesToTheFirst
+  pub four : GivenAndEnded
+  pub five : NothingUnseen × WorkedOut
