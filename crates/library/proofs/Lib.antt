@@ -1,3 +1,4 @@
 pub mod Looks
+pub mod Rows
 pub mod Told
 pub mod Library

@@ -3,8 +3,9 @@
 -- holds the floor now is what `floor_screen` and `floor_holder` show. Of the functions nothing is used but what they promise
 -- (floor/specs/Promises).
 --
--- First a run and its log, then a look at the desk, then the five statements, and at the end the demand. All is proved in proofs/Library, from
--- the same statements of the rules' desk (demands/specs/Demands), whose counting is used here too. Assumes nothing.
+-- First a run and its log, then a look at the desk, then the five statements, and at the end the demand. All is proved in proofs/Library (and
+-- DoneIsARow in proofs/Rows), from the same statements of the rules' desk (demands/specs/Demands), whose counting is used here too. Assumes
+-- nothing.
 use Prim.Native.Nat.{ℕ, suc, _+_, _*_, _/_, _≤_, _<_}
 use mathlib.Core.Path.{_≡_}
 use mathlib.Core.Bool.{Bool, true, false, _||_}
@@ -59,6 +60,10 @@ rowsOf h r (y ∷ ys) = record { asked = asking h y; report = r } ∷ rowsOf h r
 
 abbrev pub rowsBy : List ℕ → Call → List Row
 rowsBy d x = rowsOf (hallAt d) (reportBy (x .act) (take 24 (x .report))) (done x)
+
+-- every call that answers 0 brings one row
+abbrev pub DoneIsARow : Type 0
+DoneIsARow = (d : List ℕ) (x : Call) → Promised d x → x .answer ≡ 0 → (r : Row) × (rowsBy d x ≡ r ∷ [])
 
 -- Calls on one desk's octets: those that stand there now, and the log, the latest row first. A desk that is made or loaded, in the first 1,200
 -- octets of a room, begins a new log, whatever stood there and was done before; a make or a load that is refused is no row either. `called` is
