@@ -18,9 +18,9 @@ use Rattle.message.specs.declared.Kind.{Kind}
 use Rattle.message.specs.declared.Typed.{Typed}
 use Rattle.message.specs.declared.Typed.the-variants.{Listed, Unlisted}
 use Rattle.message.specs.declared.Message.{Message}
-use Rattle.reading.specs.declared.Found.{Found}
-use Rattle.reading.specs.Fields.{Fields, whole, fault, fieldsIn, startOf}
-use Rattle.reading.specs.Reading.{reading, messageAt, version, padBit, typeBits, name, ofType, judged}
+use Rattle.field.specs.declared.Found.{Found}
+use Rattle.field.specs.Fields.{Fields, whole, fault, fieldsIn}
+use Rattle.reading.specs.Reading.{startOf, reading, messageAt, version, padBit, typeBits, name, ofType, judged}
 use Rattle.writing.specs.Wire.{header, wire, headed, firstOctet}
 use Rattle.writing.specs.Writing.{readable, lies, allFit}
 use Rattle.again.specs.Again.{WrittenAgain, ReadIsWritten, OnlyTwelve}

@@ -19,9 +19,9 @@ use Rattle.message.specs.declared.Kind.{Kind}
 use Rattle.message.specs.declared.Kind.the-variants.{Request, Granted, Taken, Deny, Release, Idle, Revoke, QueuePositionRequest, QueuePositionInfo, Ack}
 use Rattle.message.specs.declared.Typed.the-variants.{Listed}
 use Rattle.message.specs.declared.Message.{Message}
-use Rattle.reading.specs.declared.Found.{Found}
-use Rattle.reading.specs.Fields.{fieldsIn, startOf}
-use Rattle.reading.specs.Reading.{reading, messageAt, version, padBit, typeBits, name, judged}
+use Rattle.field.specs.declared.Found.{Found}
+use Rattle.field.specs.Fields.{fieldsIn}
+use Rattle.reading.specs.Reading.{startOf, reading, messageAt, version, padBit, typeBits, name, judged}
 use Rattle.writing.specs.Wire.{optional, body, header, wire, lengthOf, headed, firstOctet}
 use Rattle.writing.specs.Writing.{readable, lies, allFit, fits}
 use Rattle.again.specs.Again.{ReadsAs, ReadBack}

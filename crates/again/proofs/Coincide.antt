@@ -7,7 +7,7 @@ use lib.Seq.{ext-getD}
 use Rattle.message.specs.declared.Message.{Message}
 use Rattle.reading.specs.declared.Opening.{Opening}
 use Rattle.reading.specs.declared.Opening.the-variants.{Of}
-use Rattle.reading.specs.Fields.{Fields, whole, fault, fieldsIn}
+use Rattle.field.specs.Fields.{Fields, whole, fault, fieldsIn}
 use Rattle.reading.specs.Walk.{Noted}
 use Rattle.reading.proofs.Reaches.{differ}
 use Rattle.message.specs.declared.Refusal.{Refusal}

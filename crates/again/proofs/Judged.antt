@@ -13,9 +13,10 @@ use Rattle.words.specs.Choice.{if_then_else_, by-test}
 use Rattle.octets.specs.Octets.{be16}
 use Rattle.message.specs.Table.{against, padded}
 use Rattle.message.specs.Message.{Field}
-use Rattle.reading.specs.declared.Found.{Found}
-use Rattle.reading.specs.declared.Step.{Step}
-use Rattle.reading.specs.Fields.{Fields, whole, fault, infront, stepThen, stepAt, fieldsFrom, startOf, idAt, lengthAt, fieldAt}
+use Rattle.field.specs.declared.Found.{Found}
+use Rattle.field.specs.declared.Step.{Step}
+use Rattle.field.specs.Fields.{Fields, whole, fault, infront, stepThen, stepAt, fieldsFrom, idAt, lengthAt, fieldAt}
+use Rattle.reading.specs.Reading.{startOf}
 use Rattle.again.proofs.Numbers.{length-place}
 use Rattle.again.proofs.Fits.{Agrees, agrees}
 

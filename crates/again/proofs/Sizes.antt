@@ -11,7 +11,7 @@ use Rattle.words.specs.Below.{and-left, and-right}
 use Rattle.words.specs.Choice.{if_then_else_, if-no, by-test}
 use Rattle.message.specs.Message.{Field}
 use Rattle.message.specs.Table.{padded}
-use Rattle.reading.specs.declared.Found.{Found}
+use Rattle.field.specs.declared.Found.{Found}
 use Rattle.again.proofs.Judged.{sizeOf, total}
 use Rattle.again.proofs.Kept.{sum}
 

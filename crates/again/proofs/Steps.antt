@@ -6,9 +6,9 @@ use mathlib.Core.Path.{_≡_, refl, ap}
 use mathlib.Core.List.{List, []}
 use lib.ListN.{length}
 use Rattle.message.specs.Table.{padded}
-use Rattle.reading.specs.declared.Found.{Found}
-use Rattle.reading.specs.declared.Step.{Step}
-use Rattle.reading.specs.Fields.{whole, infront, stepThen, stepAt, fieldsFrom, fieldsIn, lengthAt}
+use Rattle.field.specs.declared.Found.{Found}
+use Rattle.field.specs.declared.Step.{Step}
+use Rattle.field.specs.Fields.{whole, infront, stepThen, stepAt, fieldsFrom, fieldsIn, lengthAt}
 use Rattle.again.specs.Again.{StepsSuffice}
 use Rattle.again.proofs.Numbers.{padded-least}
 use Rattle.again.proofs.Walk.{step-end}

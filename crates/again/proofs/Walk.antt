@@ -16,9 +16,10 @@ use Rattle.words.specs.Choice.{if_then_else_, if-yes, by-test}
 use Rattle.octets.specs.Octets.{be16}
 use Rattle.message.specs.Table.{rowOf, against, padded, padding}
 use Rattle.message.specs.Message.{Field, field}
-use Rattle.reading.specs.declared.Found.{Found}
-use Rattle.reading.specs.declared.Step.{Step}
-use Rattle.reading.specs.Fields.{Fields, whole, stepAt, fieldsFrom, startOf, idAt, lengthAt, fieldAt}
+use Rattle.field.specs.declared.Found.{Found}
+use Rattle.field.specs.declared.Step.{Step}
+use Rattle.field.specs.Fields.{Fields, whole, stepAt, fieldsFrom, idAt, lengthAt, fieldAt}
+use Rattle.reading.specs.Reading.{startOf}
 use Rattle.writing.specs.Wire.{lengthOf, fieldOctets, optional, body}
 use Rattle.writing.specs.Writing.{fits, allFit}
 use Rattle.again.proofs.Numbers.{seen, first-seen, be16-seen, drop-seen, zeros-behind, padded-least, length-place}

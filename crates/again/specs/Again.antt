@@ -12,7 +12,7 @@ use Rattle.message.specs.Message.{Said, said}
 use Rattle.message.specs.Answers.{result, number}
 use Rattle.reading.specs.declared.Reading.{Reading}
 use Rattle.reading.specs.declared.Reading.the-variants.{Read}
-use Rattle.reading.specs.Fields.{fieldsFrom, fieldsIn}
+use Rattle.field.specs.Fields.{fieldsFrom, fieldsIn}
 use Rattle.reading.specs.declared.Opening.{Opening}
 use Rattle.reading.specs.Walk.{Judges}
 use Rattle.reading.specs.Reading.{reading, told as toldByReader}

@@ -14,8 +14,8 @@ use Rattle.message.specs.declared.Part.{Part}
 use Rattle.message.specs.Table.{rowIn, against, atFault, padding, padded}
 use Rattle.message.specs.Message.{Field, field, Said, said, has, hasAll, complete}
 use Rattle.message.specs.Answers.{refused}
-use Rattle.reading.specs.Fields.{stepAt, fieldsFrom, fieldsIn, startOf}
-use Rattle.reading.specs.Reading.{octetAt, wordAt, numberAt, queueAt, partAt, causeAt, messageAt, reading}
+use Rattle.field.specs.Fields.{stepAt, fieldsFrom, fieldsIn}
+use Rattle.reading.specs.Reading.{startOf, octetAt, wordAt, numberAt, queueAt, partAt, causeAt, messageAt, reading}
 use Rattle.writing.specs.Wire.{fieldOctets, optional, body, header, headed, firstOctet, wire}
 use Rattle.again.specs.Again.{ReadsAs}
 

@@ -1,8 +1,8 @@
 // Prints packets field by field, as a reader that rests on each hands its fields out, and where it stops: at the end, or at a fault with
 // the paper's number.
+use field::Found;
+use field::Step;
 use libc::STDOUT_FILENO;
-use reading::Found;
-use reading::Step;
 
 fn text(s: &[u8]) {
     io::write_all(STDOUT_FILENO, s);
@@ -24,24 +24,24 @@ fn field(f: Found) {
     text(b"\n");
 }
 
-// Prints what is handed out once the reader is moved on n times; whether it was a field.
-fn handed(packet: &[u8], n: usize) -> bool {
-    match reader::nth_field(packet, n) {
+// Prints what a reader hands out at a place; where the next field stands, and 0 where it was none.
+fn printed(packet: &[u8], at: usize) -> usize {
+    match reader::handed(packet, at) {
         Step::Field(f) => {
             field(f);
-            true
+            f.next
         }
         Step::End => {
             text(b"  end\n");
-            false
+            0
         }
         Step::PastTheEnd => {
             text(b"  refusal 9\n");
-            false
+            0
         }
         Step::AgainstTheTable => {
             text(b"  refusal 10\n");
-            false
+            0
         }
     }
 }
@@ -49,13 +49,14 @@ fn handed(packet: &[u8], n: usize) -> bool {
 // A packet has fewer fields than octets, so that the walk ends of itself before the count does.
 fn walk(title: &[u8], packet: &[u8]) {
     text(title);
+    let mut at = 12;
     let mut n = 0;
     while n < packet.len() {
-        if handed(packet, n) {
-            n += 1;
-        } else {
+        at = printed(packet, at);
+        if at == 0 {
             return;
         }
+        n += 1;
     }
 }
 

@@ -15,11 +15,11 @@ use Rattle.message.specs.declared.Kind.{Kind}
 use Rattle.message.specs.declared.Typed.{Typed}
 use Rattle.message.specs.declared.Typed.the-variants.{Listed, Unlisted}
 use Rattle.message.specs.declared.Message.{Message}
-use Rattle.reading.specs.declared.Found.{Found}
-use Rattle.reading.specs.declared.Step.{Step}
-use Rattle.reading.specs.declared.Step.the-variants.{Field, End, PastTheEnd, AgainstTheTable}
-use Rattle.reading.specs.Fields.{Fields, whole, fault, infront, stepAt, stepThen, fieldsFrom, fieldsIn, startOf}
-use Rattle.reading.specs.Reading.{messageAt, judged, ofType, reading, typeBits}
+use Rattle.field.specs.declared.Found.{Found}
+use Rattle.field.specs.declared.Step.{Step}
+use Rattle.field.specs.declared.Step.the-variants.{Field, End, PastTheEnd, AgainstTheTable}
+use Rattle.field.specs.Fields.{Fields, whole, fault, infront, stepAt, stepThen, fieldsFrom, fieldsIn}
+use Rattle.reading.specs.Reading.{startOf, messageAt, judged, ofType, reading, typeBits}
 use Rattle.held.specs.Held.{answered, readHeld}
 use Rattle.held.specs.Laws.{WasRead, ReadIf0}
 

@@ -1,4 +1,2 @@
--- What the walks share, and the laws of what a reader hands out.
+-- What the walks share.
 pub mod Resting
-pub mod Moves
-pub mod HandsOut

@@ -11,10 +11,10 @@ use borrow.Author.Tests.{ltb-true, ltb-false, eqb-true}
 use Rattle.words.proofs.Tests.{neither-left}
 use Rattle.words.specs.Choice.{if_then_else_, by-test, if-yes, if-no}
 use Rattle.message.specs.Table.{rowIn, rowOf, against, atFault}
-use Rattle.reading.specs.declared.Found.{Found}
-use Rattle.reading.specs.declared.Step.{Step}
-use Rattle.reading.specs.declared.Step.the-variants.{Field, End, PastTheEnd, AgainstTheTable}
-use Rattle.reading.specs.Fields.{idAt, lengthAt, stepAt, Fields, whole, fault, infront, stepThen, fieldsFrom, fieldsIn, startOf}
+use Rattle.field.specs.declared.Found.{Found}
+use Rattle.field.specs.declared.Step.{Step}
+use Rattle.field.specs.declared.Step.the-variants.{Field, End, PastTheEnd, AgainstTheTable}
+use Rattle.field.specs.Fields.{idAt, lengthAt, stepAt, Fields, whole, fault, infront, stepThen, fieldsFrom, fieldsIn}
 use Rattle.message.specs.Answers.{refused, result, number}
 use Rattle.message.specs.Message.{said, complete}
 use Rattle.message.specs.declared.Message.{Message}
@@ -23,9 +23,9 @@ use Rattle.message.specs.declared.Refusal.{Refusal}
 use Rattle.reading.specs.declared.Walk.{Walk}
 use Rattle.reading.specs.declared.Walk.the-variants.{Whole}
 use Rattle.reading.specs.declared.Opening.the-variants.{Of}
-use Rattle.reading.specs.Reading.{messageAt, judged, reading}
+use Rattle.reading.specs.Reading.{startOf, messageAt, judged, reading}
 use Rattle.reading.specs.Walk.{Notes, Reach, Walked, faultNumber, Opens, Judges}
-use Rattle.reading.proofs.Steps.{padded-least, padded-holds, Sound, step-sound}
+use Rattle.field.proofs.Steps.{padded-least, padded-holds, Sound, step-sound}
 
 -- a field that lies in the packet, with a length that the table has
 pub record Lies (s : List ℕ) (f : Found) : Type 0 where

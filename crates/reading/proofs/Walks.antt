@@ -2,24 +2,26 @@
 -- each way out reads the answer off it. Assumes nothing.
 use Prim.Native.Nat.{ℕ, zero, suc, _+_, _-_, _<_, _≤_}
 use native.Mathlib.Omega.{arith}
-use mathlib.Core.Bool.{Bool, true, false, _&&_, and-true}
+use mathlib.Core.Bool.{Bool, true, false, not, _&&_, and-true}
 use mathlib.Core.List.{List, [], _∷_, _++_, append-nil}
 use mathlib.Core.Path.{_≡_, refl, sym, ap, subst, _∙_}
-use lib.Dec.{ltb, leb, eqb}
+use lib.Dec.{T as Holds, ltb, leb, eqb}
 use lib.ListN.{length, getD, set, replicate, length-set}
 use lib.Seq.{getD-set-same, getD-set-other}
 use lib.ListN.{getD-replicate}
 use borrow.Author.Tests.{lt-ltb, le-ltb, eq-eqb, ne-eqb, eqb-true, eqb-false, ltb-true, ltb-false, leb-true, leb-false}
 use Rattle.words.specs.Choice.{if_then_else_, by-test, if-yes, if-no}
 use Rattle.message.specs.Table.{padded}
-use Rattle.reading.specs.declared.Found.{Found}
-use Rattle.reading.specs.declared.Step.{Step}
-use Rattle.reading.specs.declared.Step.the-variants.{Field, End, PastTheEnd, AgainstTheTable}
+use Rattle.field.specs.declared.Found.{Found}
+use Rattle.field.specs.declared.Step.{Step}
+use Rattle.field.specs.declared.Step.the-variants.{Field, End, PastTheEnd, AgainstTheTable}
 use Rattle.reading.specs.declared.Walk.{Walk}
 use Rattle.reading.specs.declared.Walk.the-variants.{Whole, PastTheEnd as Past, AgainstTheTable as Against}
-use Rattle.reading.specs.Fields.{idAt, lengthAt, fieldAt, stepAt, Fields, whole, fault, infront, stepThen, fieldsFrom, fieldsIn, startOf}
-use Rattle.reading.specs.Walk.{noted, Notes, faultNumber, Walked}
-use Rattle.reading.proofs.Steps.{padded-least, step-end, Sound, step-sound}
+use Rattle.field.specs.Fields.{idAt, lengthAt, fieldAt, stepAt, Fields, whole, fault, infront, stepThen, fieldsFrom, fieldsIn}
+use Rattle.reading.specs.Reading.{startOf}
+use Rattle.reading.specs.Walk.{noted, isField, notedStep, endedBy, Notes, faultNumber, Walked}
+use Rattle.reader.specs.Reader.{behind}
+use Rattle.field.proofs.Steps.{padded-least, step-end, Sound, step-sound}
 
 -- fields found before the others
 abbrev allInfront : List Found → Fields → Fields
@@ -168,3 +170,23 @@ walking-less s starts at f e =
     let k : Sound s at f = step-sound s at f e in
     let n : f .next ≡ at + padded (lengthAt s at) = ap (λ (g : Found). g .next) (k .is) in
     omega (arith, padded-least (lengthAt s at), k .inside)
+
+-- the same by what the reader handed out, whatever it was
+module _ (s starts : List ℕ) (at : ℕ) where
+  pub walking-by : (x : Step) → stepAt s at ≡ x → Holds (isField x) → Walking s starts at → Walking s (notedStep starts x) (behind x at)
+  walking-by (Field f) e h w = walking-on s starts at f e w
+  walking-by End e h w = absurd h
+  walking-by PastTheEnd e h w = absurd h
+  walking-by AgainstTheTable e h w = absurd h
+
+  pub nearer-by : (x : Step) → stepAt s at ≡ x → Holds (isField x) → length s - behind x at < length s - at
+  nearer-by (Field f) e h = walking-less s starts at f e
+  nearer-by End e h = absurd h
+  nearer-by PastTheEnd e h = absurd h
+  nearer-by AgainstTheTable e h = absurd h
+
+  pub walked-by : (x : Step) → stepAt s at ≡ x → Holds (not (isField x)) → Walking s starts at → Walked (fieldsIn s) (endedBy x) (notedStep starts x)
+  walked-by (Field f) e h w = absurd h
+  walked-by End e h w = walked-whole s starts at e w
+  walked-by PastTheEnd e h w = walked-past s starts at e w
+  walked-by AgainstTheTable e h w = walked-against s starts at e w

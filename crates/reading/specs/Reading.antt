@@ -2,7 +2,7 @@
 -- "The packet"). Assumes nothing.
 use Prim.Native.Nat.{ℕ, _+_, _-_, _*_, _/_, _%_}
 use mathlib.Core.Bool.{Bool, not}
-use mathlib.Core.List.{List}
+use mathlib.Core.List.{List, [], _∷_}
 use lib.Dec.{ltb, eqb}
 use lib.ListN.{length, getD}
 use Rattle.words.specs.Choice.{if_then_else_}
@@ -22,7 +22,8 @@ use Rattle.message.specs.declared.Cause.{Cause}
 use Rattle.message.specs.declared.Message.{Message}
 use Rattle.reading.specs.declared.Reading.{Reading}
 use Rattle.reading.specs.declared.Reading.the-variants.{Read, Refused}
-use Rattle.reading.specs.Fields.{Fields, whole, fault, fieldsIn, startOf}
+use Rattle.field.specs.declared.Found.{Found}
+use Rattle.field.specs.Fields.{Fields, whole, fault, fieldsIn}
 
 -- the first octet: version (two bits), P (one bit), the Ack bit, the type (four bits)
 abbrev pub version : List ℕ → ℕ
@@ -40,6 +41,11 @@ typeBits s = getD s 0 0 % 16
 -- the letters M, C, P, T
 abbrev pub name : ℕ
 name = 0x4D43_5054
+
+-- "of a repeated ID the first counts": where the content of the first field with this ID starts; 0 if there is none, since none starts there
+unfoldable pub startOf : List Found → ℕ → ℕ
+startOf [] i = 0
+startOf (f ∷ fs) i = if eqb i (f .id) then f .start else startOf fs i
 
 -- what a message has of a field whose content starts at a place; nothing where that is 0. L stands before the content.
 unfoldable pub octetAt : List ℕ → ℕ → Octet

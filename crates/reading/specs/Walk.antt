@@ -1,13 +1,14 @@
 -- How the walk is held in the code: the starts of the fields found so far, in an array of 16, one for each ID below 16. What the walk
--- is stands in Fields. Assumes nothing.
+-- is stands in field/specs/Fields. Assumes nothing.
 use Prim.Native.Nat.{ℕ, _<_, _≤_, _+_, _-_}
-use mathlib.Core.Bool.{_&&_}
+use mathlib.Core.Bool.{Bool, true, false, _&&_}
 use mathlib.Core.List.{List, []}
 use mathlib.Core.Path.{_≡_}
 use lib.Dec.{ltb, leb, eqb}
 use lib.ListN.{length, getD, set, replicate}
 use Rattle.words.specs.Choice.{if_then_else_}
-use Rattle.reading.specs.declared.Found.{Found}
+use Rattle.field.specs.declared.Found.{Found}
+use Rattle.field.specs.declared.Step.{Step}
 use Rattle.reading.specs.declared.Walk.{Walk}
 use Rattle.reading.specs.declared.Walk.the-variants.{Whole, PastTheEnd, AgainstTheTable}
 use Rattle.octets.specs.Octets.{part}
@@ -15,12 +16,31 @@ use Rattle.message.specs.Answers.{Answer, refused, result, number}
 use Rattle.message.specs.declared.Part.{Part}
 use Rattle.reading.specs.declared.Opening.{Opening}
 use Rattle.reading.specs.declared.Opening.the-variants.{Of, Refused}
-use Rattle.reading.specs.Fields.{Fields, whole, fault, fieldsIn, startOf}
-use Rattle.reading.specs.Reading.{messageAt, judged, reading}
+use Rattle.field.specs.Fields.{Fields, whole, fault, fieldsIn}
+use Rattle.reading.specs.Reading.{startOf, messageAt, judged, reading}
 
 -- a start noted: the first counts
 unfoldable pub noted : List ℕ → ℕ → ℕ → List ℕ
 noted starts i start = if ltb i 16 && eqb (getD starts i 0) 0 then set starts i start else starts
+
+-- what a step handed out adds to the array, and how it ends a walk
+abbrev pub isField : Step → Bool
+isField (Step.Field f) = true
+isField Step.End = false
+isField Step.PastTheEnd = false
+isField Step.AgainstTheTable = false
+
+abbrev pub notedStep : List ℕ → Step → List ℕ
+notedStep starts (Step.Field f) = noted starts (f .id) (f .start)
+notedStep starts Step.End = starts
+notedStep starts Step.PastTheEnd = starts
+notedStep starts Step.AgainstTheTable = starts
+
+abbrev pub endedBy : Step → Walk
+endedBy (Step.Field f) = Whole
+endedBy Step.End = Whole
+endedBy Step.PastTheEnd = PastTheEnd
+endedBy Step.AgainstTheTable = AgainstTheTable
 
 -- the array has the start of each ID below 16
 pub record Notes (starts : List ℕ) (fs : List Found) : Type 0 where

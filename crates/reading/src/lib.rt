@@ -1,5 +1,6 @@
-// The reader (document 01, "The packet" and "What is answered to packets", 1 to 11): each field by one step on the packet and a
-// place in it, all fields by a walk, and then the message.
+// Reading (document 01, "The packet" and "What is answered to packets", 1 to 11): the opening, all fields as the reader that rests on the
+// packet hands them out, and then the message.
+use field::Step;
 use message::Cause;
 use message::Kind;
 use message::Message;
@@ -13,29 +14,12 @@ use message::Word;
 ghost use mathlib.Core.Path.{_≡_};
 ghost use mathlib.Core.List.{List};
 ghost use Prim.Native.Nat.{ℕ, _+_, _-_, _<_, _≤_, _^_};
-ghost use Rattle.message.specs.Table.{padded};
 ghost use Rattle.message.specs.Message.{said, complete};
 ghost use lib.ListN.{length, getD, replicate};
-ghost use Rattle.reading.specs.Fields.{stepAt, fieldsIn};
+ghost use Rattle.field.specs.Fields.{fieldsIn};
 ghost use Rattle.reading.specs.Reading.{octetAt, wordAt, numberAt, queueAt, partAt, causeAt, messageAt, reading, told};
-ghost use Rattle.reading.specs.Walk.{noted, Walked, Reach, Opens, Judges, partIn};
+ghost use Rattle.reading.specs.Walk.{noted, isField, notedStep, endedBy, Walked, Reach, Opens, Judges, partIn};
 ghost use Rattle.reading.specs.declared.Opening.the-variants as opening;
-
-// A field: its ID, where its content starts, its length, and where the next field starts.
-pub struct Found {
-    pub id: u8,
-    pub start: usize,
-    pub len: usize,
-    pub next: usize,
-}
-
-// What stands at a place of a packet: a field, the packet's end, or a field that is at fault.
-pub enum Step {
-    Field(Found),
-    End,
-    PastTheEnd,
-    AgainstTheTable,
-}
 
 // What a packet is judged to be: one of a type, or refused.
 pub enum Opening {
@@ -56,45 +40,6 @@ pub enum Reading {
     Refused(Refusal),
 }
 
-// Where the next field starts: four octets further for each word that a field has, counted from its ID.
-fn after(at: usize, len: u8) -> usize
-    requires { ⌜ at < 2 ^ 63 ⌝ }
-    ensures { λ r. ⌜ r ≡ at + padded len ⌝ }
-{
-    at + (len as usize + 5) / 4 * 4
-}
-
-// Judges the field that starts at a place.
-pub fn field_at(s: &[u8], at: usize) -> Step
-    ensures { λ r. ⌜ r ≡ stepAt (now (s .entry)) at ⌝ }
-{
-    if s.len() <= at {
-        return Step::End;
-    }
-    let id = s[at];
-    if 192 <= id {
-        return Step::AgainstTheTable;
-    }
-    // every padded field has at least 4 octets, so that its length and two octets of content or padding can be looked at
-    if s.len() - at < 4 {
-        return Step::PastTheEnd;
-    }
-    let len = s[at + 1];
-    let next = after(at, len);
-    if s.len() < next {
-        return Step::PastTheEnd;
-    }
-    if message::against(id, len, octets::number16(s, at + 2)) {
-        return Step::AgainstTheTable;
-    }
-    Step::Field(Found {
-        id: id,
-        start: at + 2,
-        len: len as usize,
-        next: next,
-    })
-}
-
 // Notes where a field's content starts, unless one with its ID came before it: of a repeated ID the first counts.
 fn note(starts: &mut [usize; 16], id: u8, start: usize)
     ensures { λ _. ⌜ now (starts .exit) ≡ noted (now (starts .entry)) id start ⌝ }
@@ -107,21 +52,45 @@ fn note(starts: &mut [usize; 16], id: u8, start: usize)
     }
 }
 
-// Walks over all fields and notes where their contents start.
+// Notes what was handed out, where it is a field; whether it is one.
+fn noted_field(starts: &mut [usize; 16], step: Step) -> bool
+    ensures { λ r. ⌜ (r ≡ isField step) × (now (starts .exit) ≡ notedStep (now (starts .entry)) step) ⌝ }
+{
+    match step {
+        Step::Field(f) => {
+            note(starts, f.id, f.start);
+            true
+        }
+        Step::End => false,
+        Step::PastTheEnd => false,
+        Step::AgainstTheTable => false,
+    }
+}
+
+// How a walk ended, by what the reader handed out last.
+fn ended(step: Step) -> Walk
+    ensures { λ r. ⌜ r ≡ endedBy step ⌝ }
+{
+    match step {
+        Step::Field(f) => Walk::Whole,
+        Step::End => Walk::Whole,
+        Step::PastTheEnd => Walk::PastTheEnd,
+        Step::AgainstTheTable => Walk::AgainstTheTable,
+    }
+}
+
+// Walks over all fields, as the reader that rests on the packet hands them out, and notes where their contents start.
 fn note_all(s: &[u8], starts: &mut [usize; 16]) -> Walk
     requires { ⌜ now starts ≡ replicate 16 0 ⌝ }
     ensures { λ r. ⌜ Walked (fieldsIn (now (s .entry))) r (now (starts .exit)) ⌝ }
 {
-    let mut at = 12;
+    let mut r = reader::rest(s);
     loop {
-        match field_at(s, at) {
-            Step::Field(f) => {
-                note(starts, f.id, f.start);
-                at = f.next;
-            }
-            Step::End => return Walk::Whole,
-            Step::PastTheEnd => return Walk::PastTheEnd,
-            Step::AgainstTheTable => return Walk::AgainstTheTable,
+        let step = reader::next(r);
+        if noted_field(starts, step) {
+            r = reader::moved(r, step);
+        } else {
+            return ended(step);
         }
     }
 }

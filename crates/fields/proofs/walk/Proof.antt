@@ -6,10 +6,10 @@ use Rattle.fields.proofs.walk.Statement.{statement}
 use Rattle.fields.proofs.walk.Tie as tie
 
 abbrev Inv-loop : tie.InvT-loop
-Inv-loop title packet n₀ n = n ≤ length packet
+Inv-loop title packet at₀ n₀ at n = n ≤ length packet
 
 abbrev μ-loop : tie.MeasureT-loop
-μ-loop title packet n₀ n = length packet - n
+μ-loop title packet at₀ n₀ at n = length packet - n
 
 text-requires : tie.Need-text-requires Inv-loop μ-loop
 text-requires c κs = search needs
@@ -17,8 +17,8 @@ text-requires c κs = search needs
 loop-holds : tie.Need-loop-holds Inv-loop μ-loop
 loop-holds c = search needs
 
-handed-requires : tie.Need-handed-requires Inv-loop μ-loop
-handed-requires c κs = search needs
+printed-requires : tie.Need-printed-requires Inv-loop μ-loop
+printed-requires c κs = search needs
 
 add-n : tie.Need-add-n Inv-loop μ-loop
 add-n c = search needs
@@ -43,9 +43,9 @@ walk-spec =
     μ-loop
     text-requires
     loop-holds
-    handed-requires
+    printed-requires
+    returns
     add-n
     loop-less
     loop-again
-    returns
     returns-2)

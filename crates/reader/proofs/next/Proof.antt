@@ -1,4 +1,4 @@
--- `reader::next` answers the field where the reader stands, as `reading::field_at` judges it on the packet and the place, and leaves the
+-- `reader::next` answers the field where the reader stands, as `field::field_at` judges it on the packet and the place, and leaves the
 -- reader as it was passed. A walk of its MIR, by hand, in the shape of the kit's `reader/proofs/next`: the struct is taken apart, and of
 -- its two copies one gives the callee what it asks, and the other is there at exit. Of `field_at` its promise alone is known. Assumes
 -- nothing.
@@ -39,14 +39,14 @@ use denote.Triple.Table.{entered, cited}
 use denote.Triple.Walked.{says, Stays, stay-none, walkOf, goes-none, Walks, ends-at, walked, walk-meets}
 use denote.Exit.{yes}
 use denote.Triple.Clauses.{ensured, lasts}
-use Rattle.reading.specs.Fields.{stepAt}
-use Rattle.reading.specs.declared.Step.{Step}
-use Rattle.reading.proofs.Step as S
-use Rattle.reading.proofs.Step.Laws as S′
-use Rattle.reading.proofs.field_at as field
-use Rattle.reading.proofs.field_at.Symbol as field-def
-use Rattle.reading.proofs.field_at.Symbol.{name as #reading·field-at}
-use Rattle.reading.proofs.field_at.Met as field-thm
+use Rattle.field.specs.Fields.{stepAt}
+use Rattle.field.specs.declared.Step.{Step}
+use Rattle.field.proofs.Step as S
+use Rattle.field.proofs.Step.Laws as S′
+use Rattle.field.proofs.field_at as field
+use Rattle.field.proofs.field_at.Symbol as field-def
+use Rattle.field.proofs.field_at.Symbol.{name as #field·field-at}
+use Rattle.field.proofs.field_at.Met as field-thm
 use Rattle.reader.specs.declared.Reader.{Reader}
 use Rattle.reader.proofs.Reader.Laws as T′
 use Rattle.reader.proofs.Resting.{the-row, the-type, the-laws, the-copy, fields, value, packet-value, owned-at}
@@ -106,7 +106,7 @@ module _ {M : Type 1} (𝓤 : URA M) (H : Heap 𝓤) (A : Atoms 𝓤) (W : Given
       suffices ! _ (ends-at 𝓤 H A next.ended stayed (next.clauses 𝓤 H A mem run) W bound v s (tt, tt) (tt, tt)) $ says ! e $
       move ! (1 ∷ []) $ frame ! $ nothing ! $ move ! (2 ∷ 0 ∷ []) $ fjoin ! $ frame ! $ done !
 
-  module _ (C : Calls 𝓤 H) (Λ : Loops 𝓤 H) (fm : FmC 𝓤 H (W .laws) C) (known : Triple 𝓤 (C #reading·field-at) (FieldAt 𝓤 H A mem run)) where
+  module _ (C : Calls 𝓤 H) (Λ : Loops 𝓤 H) (fm : FmC 𝓤 H (W .laws) C) (known : Triple 𝓤 (C #field·field-at) (FieldAt 𝓤 H A mem run)) where
     walk : Holds (hasTy (T′.mir (named 0)) (value r)) × WT (value r) → ent 𝓤 Entry (WpFn 𝓤 H C Λ code.function (value r ∷ []) Post)
     walk typed =
         qed W (raw Entry ∷ []) ∵ enter ! C Λ code.function (value r ∷ []) _ $
@@ -124,7 +124,7 @@ module _ {M : Type 1} (𝓤 : URA M) (H : Heap 𝓤) (A : Atoms 𝓤) (W : Given
         move ! (9 ∷ 10 ∷ []) $ free1 ! $ move ! (7 ∷ 8 ∷ []) $ free1 ! $ move ! (5 ∷ 6 ∷ []) $ free1 ! $ move ! (3 ∷ 4 ∷ []) $ free1 ! $ free0 ! $ by ! (exits s v e)))))))))
 
 module _ {M : Type 1} (𝓤 : URA M) (H : Heap 𝓤) (A : Atoms 𝓤) (W : Given 𝓤 H A) (mem : Memory → SProp 𝓤) (run : Routine → Fun 𝓤) where
-  next-walks : (C : Calls 𝓤 H) (Λ : Loops 𝓤 H) → FmC 𝓤 H (W .laws) C → Triple 𝓤 (C #reading·field-at) (FieldAt 𝓤 H A mem run)
+  next-walks : (C : Calls 𝓤 H) (Λ : Loops 𝓤 H) → FmC 𝓤 H (W .laws) C → Triple 𝓤 (C #field·field-at) (FieldAt 𝓤 H A mem run)
       → Walks 𝓤 H A next.ended stayed (WpFn 𝓤 H C Λ code.function) (next.clauses 𝓤 H A mem run)
   next-walks C Λ fm known =
       walked 𝓤 H A next.ended stayed (next.clauses 𝓤 H A mem run) (WpFn 𝓤 H C Λ code.function)
@@ -132,7 +132,7 @@ module _ {M : Type 1} (𝓤 : URA M) (H : Heap 𝓤) (A : Atoms 𝓤) (W : Given
       (λ κs qs bounds a g are. via 𝓤 _ (fst∗ 𝓤 _ (emp 𝓤))
       (walk 𝓤 H A W mem run (κs .0) (qs .0) (a .0) C Λ fm known (struct.lawful (the-type (κs .0)) (the-laws (κs .0)) 𝓤 H A W .typed (a .0) _ (are .0) .0)))
 
-  next-meets : (𝓣 : Tables 𝓤 H) → Triple 𝓤 (𝓣 .C #reading·field-at) (FieldAt 𝓤 H A mem run)
+  next-meets : (𝓣 : Tables 𝓤 H) → Triple 𝓤 (𝓣 .C #field·field-at) (FieldAt 𝓤 H A mem run)
       → Meets 𝓤 H A next.signature (WpFn 𝓤 H (𝓣 .C) (𝓣 .Λ) code.function) (next.spec 𝓤 H A mem run)
   next-meets 𝓣 known =
       walk-meets 𝓤 H A next.ended stayed W (goes-none 𝓤 H A W 1 the-row yes (λ κs x f. refl), tt) (next.clauses 𝓤 H A mem run)
@@ -144,4 +144,4 @@ next-spec 𝓤 H 𝓜 𝓖 𝓡 =
     entered 𝓤 H (tripleOf 𝓤 H (𝓖 .A) next.signature (next.spec 𝓤 H (𝓖 .A) (𝓜 .mem) (𝓡 .run)))
     (tables 𝓤 H 𝓜 𝓡 code.env .C) (tables 𝓤 H 𝓜 𝓡 code.env .Λ) #reader·next code.function (code.unfolded 𝓤 H 𝓜 𝓡)
     (next-meets 𝓤 H (𝓖 .A) (givenOf 𝓤 H 𝓜 𝓖) (𝓜 .mem) (𝓡 .run) (tablesOf 𝓤 H 𝓜 (tables 𝓤 H 𝓜 𝓡 code.env))
-    (cited 𝓤 H (FieldAt 𝓤 H (𝓖 .A) (𝓜 .mem) (𝓡 .run)) 𝓜 𝓡 code.env #reading·field-at field-def.routine code.calls-reading·field-at (field-thm.met 𝓤 H 𝓜 𝓖 𝓡)))
+    (cited 𝓤 H (FieldAt 𝓤 H (𝓖 .A) (𝓜 .mem) (𝓡 .run)) 𝓜 𝓡 code.env #field·field-at field-def.routine code.calls-field·field-at (field-thm.met 𝓤 H 𝓜 𝓖 𝓡)))

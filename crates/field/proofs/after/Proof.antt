@@ -1,10 +1,10 @@
-use Rattle.reading.proofs.Steps.{padded-is}
+use Rattle.field.proofs.Steps.{padded-is}
 use native.Mathlib.Omega.{arith}
 use borrow.Author.Needs.{needs}
-use Rattle.reading.proofs.after.Statement.{statement}
-use Rattle.reading.proofs.after.Tie as tie
-use Rattle.reading.proofs.after.Reads as reads
-use Rattle.reading.proofs.after.Lts as lts
+use Rattle.field.proofs.after.Statement.{statement}
+use Rattle.field.proofs.after.Tie as tie
+use Rattle.field.proofs.after.Reads as reads
+use Rattle.field.proofs.after.Lts as lts
 
 add-result : tie.Need-add-result
 add-result c = search needs

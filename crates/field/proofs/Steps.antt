@@ -10,10 +10,10 @@ use borrow.Author.Tests.{le-leb, lt-leb, le-ltb, lt-ltb, leb-true, leb-false, lt
 use Rattle.words.specs.Choice.{if_then_else_, by-test}
 use Rattle.octets.specs.Octets.{be16}
 use Rattle.message.specs.Table.{against, padded, padding}
-use Rattle.reading.specs.declared.Found.{Found}
-use Rattle.reading.specs.declared.Step.{Step}
-use Rattle.reading.specs.declared.Step.the-variants.{Field, End, PastTheEnd, AgainstTheTable}
-use Rattle.reading.specs.Fields.{idAt, lengthAt, fieldAt, stepAt}
+use Rattle.field.specs.declared.Found.{Found}
+use Rattle.field.specs.declared.Step.{Step}
+use Rattle.field.specs.declared.Step.the-variants.{Field, End, PastTheEnd, AgainstTheTable}
+use Rattle.field.specs.Fields.{idAt, lengthAt, fieldAt, stepAt}
 
 -- the padded length as the code works it out, and that it is at least 4
 pub padded-is : (l : ℕ) → (l + 5) / 4 * 4 ≡ padded l

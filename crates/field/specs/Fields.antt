@@ -2,14 +2,14 @@
 -- Assumes nothing.
 use Prim.Native.Nat.{ℕ, zero, suc, _+_}
 use mathlib.Core.List.{List, [], _∷_}
-use lib.Dec.{ltb, leb, eqb}
+use lib.Dec.{ltb, leb}
 use lib.ListN.{length, getD}
 use Rattle.words.specs.Choice.{if_then_else_}
 use Rattle.octets.specs.Octets.{be16}
 use Rattle.message.specs.Table.{against, padded}
-use Rattle.reading.specs.declared.Found.{Found}
-use Rattle.reading.specs.declared.Step.{Step}
-use Rattle.reading.specs.declared.Step.the-variants.{Field, End, PastTheEnd, AgainstTheTable}
+use Rattle.field.specs.declared.Found.{Found}
+use Rattle.field.specs.declared.Step.{Step}
+use Rattle.field.specs.declared.Step.the-variants.{Field, End, PastTheEnd, AgainstTheTable}
 
 -- the field whose ID stands at a place: its ID, where its content starts, its L, and where the next field starts
 abbrev pub idAt : List ℕ → ℕ → ℕ
@@ -54,8 +54,3 @@ fieldsFrom (suc steps) s at = stepThen (stepAt s at) (λ next. fieldsFrom steps 
 -- the fields stand behind the name
 unfoldable pub fieldsIn : List ℕ → Fields
 fieldsIn s = fieldsFrom (length s) s 12
-
--- "of a repeated ID the first counts": where the content of the first field with this ID starts; 0 if there is none, since none starts there
-unfoldable pub startOf : List Found → ℕ → ℕ
-startOf [] i = 0
-startOf (f ∷ fs) i = if eqb i (f .id) then f .start else startOf fs i

@@ -2,17 +2,17 @@ use Prim.Native.Nat.{_+_, _<_, _≤_}
 use mathlib.Core.Path.{sym, ap, _∙_}
 use Rattle.message.specs.Table.{against}
 use lib.ListN.{length}
-use Rattle.reading.specs.Fields.{idAt, lengthAt}
-use Rattle.reading.proofs.Steps.{padded-least, step-end, step-high, step-past, step-against, step-field}
+use Rattle.field.specs.Fields.{idAt, lengthAt}
+use Rattle.field.proofs.Steps.{padded-least, step-end, step-high, step-past, step-against, step-field}
 use native.Mathlib.Omega.{arith}
 use borrow.Author.Needs.{needs}
-use Rattle.reading.proofs.field_at.Statement.{statement}
-use Rattle.reading.proofs.field_at.Tie as tie
-use Rattle.reading.proofs.field_at.Reads as reads
-use Rattle.reading.proofs.field_at.Lts as lts
+use Rattle.field.proofs.field_at.Statement.{statement}
+use Rattle.field.proofs.field_at.Tie as tie
+use Rattle.field.proofs.field_at.Reads as reads
+use Rattle.field.proofs.field_at.Lts as lts
 use Rattle.message.proofs.against.Reads as against-reads
 use Rattle.octets.proofs.number16.Reads as number16-reads
-use Rattle.reading.proofs.after.Reads as after-reads
+use Rattle.field.proofs.after.Reads as after-reads
 
 returns : tie.Need-returns
 returns c = sym (step-end (c .before .before .args .s .now) (c .before .before .args .at) (c .if1 .taken))

@@ -1,0 +1,2 @@
+-- Laws of the field step.
+pub mod Steps
