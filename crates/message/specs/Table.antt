@@ -32,16 +32,24 @@ table =
     ∷ row 14 6 6 2  -- SSRC: SSRC, 2 spare
     ∷ []
 
--- "Every other ID below 192 is skipped by its length": any length will do. That its least is 0 marks it, since no field of the table is empty.
+-- "Every other ID below 192 is skipped by its length": any length will do
 abbrev pub skipped : ℕ → Row
 skipped i = row i 0 255 0
 
+-- the row of an ID, and whether the table has one
 unfoldable pub rowIn : List Row → ℕ → Row
 rowIn [] i = skipped i
 rowIn (r ∷ rows) i = if eqb i (r .id) then r else rowIn rows i
 
 abbrev pub rowOf : ℕ → Row
 rowOf i = rowIn table i
+
+unfoldable pub listedIn : List Row → ℕ → Bool
+listedIn [] i = false
+listedIn (r ∷ rows) i = if eqb i (r .id) then true else listedIn rows i
+
+abbrev pub listed : ℕ → Bool
+listed i = listedIn table i
 
 -- "Content can be at fault only at IDs 5 and 10": the number that it is
 unfoldable pub atFault : ℕ → ℕ → Bool

@@ -3,7 +3,8 @@ ghost use mathlib.Core.Path.{_≡_};
 ghost use mathlib.Core.List.{List};
 ghost use Prim.Native.Nat.{ℕ};
 ghost use Rattle.message.specs.Types.{typed, typeNumber};
-ghost use Rattle.message.specs.Table.{atFault, against};
+ghost use Rattle.message.specs.Table.{listed, atFault, against};
+ghost use lib.Dec.{ltb};
 ghost use Rattle.message.specs.Answers.{number};
 ghost use Rattle.message.specs.Message.{ofOctet, ofWord, ofCause, ofQueue, ofPart, isGiven, said, complete};
 
@@ -155,11 +156,48 @@ pub fn refusal_number(r: Refusal) -> u8
     }
 }
 
-// The least and the greatest length for each field ID below 16. A least length of 0 marks an ID that is skipped by its length, as
-// every ID from 16 to 191 is.
+// The mark of an ID that is skipped by its length, in the place of its greatest length: no field of the table has 0 there.
+const SKIPPED: u8 = 0;
+
+// The table: the least and the greatest length for each field ID below 16.
 const LEAST: [u8; 16] = [2, 2, 2, 2, 1, 2, 1, 0, 2, 0, 2, 0, 2, 2, 6, 0];
 
-const GREATEST: [u8; 16] = [2, 2, 255, 2, 62, 2, 62, 255, 2, 255, 2, 255, 2, 2, 6, 255];
+const GREATEST: [u8; 16] = [
+    2, // 0, Floor Priority
+    2, // 1, Duration
+    255, // 2, Reject Cause
+    2, // 3, Queue Info
+    62, // 4, Granted Party's Identity
+    2, // 5, Permission to Request
+    62, // 6, User ID
+    SKIPPED,
+    2, // 8, Message Sequence-Number
+    SKIPPED,
+    2, // 10, Source
+    SKIPPED,
+    2, // 12, Message Type
+    2, // 13, Floor Indicator
+    6, // 14, SSRC
+    SKIPPED,
+];
+
+// Whether the table reaches an ID. Those from 16 on are skipped too, and this is the one place that says so.
+fn is_reached(id: u8) -> bool
+    ensures { λ r. ⌜ r ≡ ltb id 16 ⌝ }
+{
+    id < 16
+}
+
+// Whether the table has an ID. Every other below 192 is skipped by its length.
+pub fn is_listed(id: u8) -> bool
+    ensures { λ r. ⌜ r ≡ listed id ⌝ }
+{
+    if is_reached(id) {
+        let i = id as usize;
+        return GREATEST[i] != SKIPPED;
+    }
+    false
+}
 
 // Whether a field's content is at fault: only IDs 5 and 10 can be.
 pub fn at_fault(id: u8, number: u16) -> bool
@@ -178,12 +216,13 @@ pub fn at_fault(id: u8, number: u16) -> bool
 pub fn against(id: u8, len: u8, number: u16) -> bool
     ensures { λ r. ⌜ r ≡ against id len number ⌝ }
 {
-    if id < 16 {
+    if is_reached(id) {
         let i = id as usize;
-        if len < LEAST[i] {
-            return true;
-        }
+        // the mark is asked for only here, so that a field of the table costs no more for it
         if GREATEST[i] < len {
+            return is_listed(id);
+        }
+        if len < LEAST[i] {
             return true;
         }
         return at_fault(id, number);
