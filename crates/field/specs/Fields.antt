@@ -7,6 +7,8 @@ use lib.ListN.{length, getD}
 use Rattle.words.specs.Choice.{if_then_else_}
 use Rattle.octets.specs.Octets.{be16}
 use Rattle.message.specs.Table.{against, padded}
+use Rattle.message.specs.Answers.{number}
+use Rattle.message.specs.declared.Refusal.{Refusal}
 use Rattle.field.specs.declared.Found.{Found}
 use Rattle.field.specs.declared.Step.{Step}
 use Rattle.field.specs.declared.Step.the-variants.{Field, End, PastTheEnd, AgainstTheTable}
@@ -39,11 +41,11 @@ abbrev pub infront : Found → Fields → Fields
 infront f (whole fs) = whole (f ∷ fs)
 infront f (fault n) = fault n
 
--- the paper's number for each way that a step can end the walk
+-- what a step adds to the fields behind it; a fault has the number of its refusal, 9 or 10
 abbrev pub stepThen : Step → (ℕ → Fields) → Fields
 stepThen End rest = whole []
-stepThen PastTheEnd rest = fault 9
-stepThen AgainstTheTable rest = fault 10
+stepThen PastTheEnd rest = fault (number Refusal.PastTheEnd)
+stepThen AgainstTheTable rest = fault (number Refusal.AgainstTheTable)
 stepThen (Field f) rest = infront f (rest (f .next))
 
 -- from a place on; a field has at least 4 octets, so as many steps as there are octets are enough

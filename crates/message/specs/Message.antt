@@ -1,6 +1,6 @@
 -- What a message is (document 01, "The packet": "A message is its type, Ack bit, SSRC and the table's fields it has, without spare,
--- padding or skipped fields"). The struct `Message` holds one beside a source; `said` is the message that it holds.
--- Assumes nothing.
+-- padding or skipped fields"). The struct `Message` holds one beside a source; `said` is the message that it holds, if its parts lie in
+-- that source: else it holds none, and the writer answers 12 (`lies` of writing/specs/Writing). Assumes nothing.
 use Prim.Native.Nat.{ℕ}
 use mathlib.Core.Bool.{Bool, true, false, _&&_}
 use mathlib.Core.List.{List, [], _∷_, _++_}

@@ -14,6 +14,7 @@ use Rattle.reading.specs.declared.Walk.the-variants.{Whole, PastTheEnd, 
 use Rattle.octets.specs.Octets.{part}
 use Rattle.message.specs.Answers.{Answer, refused, result, number}
 use Rattle.message.specs.declared.Part.{Part}
+use Rattle.message.specs.declared.Refusal.{Refusal}
 use Rattle.reading.specs.declared.Opening.{Opening}
 use Rattle.reading.specs.declared.Opening.the-variants.{Of, Refused}
 use Rattle.field.specs.Fields.{Fields, whole, fault, fieldsIn}
@@ -50,8 +51,8 @@ pub record Notes (starts : List ℕ) (fs : List Found) : Type 0 where
 -- the paper's number for a walk that ended at a fault
 abbrev pub faultNumber : Walk → ℕ
 faultNumber Whole = 0
-faultNumber PastTheEnd = 9
-faultNumber AgainstTheTable = 10
+faultNumber PastTheEnd = number Refusal.PastTheEnd
+faultNumber AgainstTheTable = number Refusal.AgainstTheTable
 
 -- what the walk's end and its array say of the fields
 abbrev pub Walked : Fields → Walk → List ℕ → Type 0
@@ -87,3 +88,12 @@ Judges (Of k) s starts =
 abbrev pub partIn : List ℕ → Part → List ℕ
 partIn s Part.Absent = []
 partIn s (Part.At from count) = if leb (from + count) (length s) then part s from count else []
+
+-- and where in the packet it stands; where there is none, at its start
+abbrev pub startIn : List ℕ → Part → ℕ
+startIn s Part.Absent = 0
+startIn s (Part.At from count) = if leb (from + count) (length s) then from else 0
+
+-- a pointer so many octets further in the same memory
+abbrev pub further : ℕ → ℕ × ℕ → ℕ × ℕ
+further n place = (place .0, n + place .1)

@@ -18,7 +18,7 @@ ghost use Rattle.message.specs.Message.{said, complete};
 ghost use lib.ListN.{length, getD, replicate};
 ghost use Rattle.field.specs.Fields.{fieldsIn};
 ghost use Rattle.reading.specs.Reading.{octetAt, wordAt, numberAt, queueAt, partAt, causeAt, messageAt, reading, told};
-ghost use Rattle.reading.specs.Walk.{noted, isField, notedStep, endedBy, Walked, Reach, Opens, Judges, partIn};
+ghost use Rattle.reading.specs.Walk.{noted, isField, notedStep, endedBy, Walked, Reach, Opens, Judges, partIn, startIn, further};
 ghost use Rattle.reading.specs.declared.Opening.the-variants as opening;
 
 // What a packet is judged to be: one of a type, or refused.
@@ -287,9 +287,10 @@ pub fn read(s: &[u8]) -> Reading
     }
 }
 
-// The part of the packet that holds an identity or a phrase; an empty part where the packet has none there.
+// The part of the packet that holds an identity or a phrase, itself and no copy of it; an empty part where the packet has none there.
 pub fn part_in(s: &[u8], p: Part) -> &[u8]
     ensures { λ r. ⌜ now r ≡ partIn (now (s .entry)) p ⌝ }
+    ensures { λ r. ⌜ r .ptr ≡ further (startIn (now (s .entry)) p) (s .entry .ptr) ⌝ }
 {
     let Part::At(from, count) = p else {
         return &s[0..0];

@@ -1,7 +1,7 @@
 use Prim.Native.Nat.{ℕ, _+_, _≤_, _<_}
 use native.Mathlib.Nat.{add-sub-cancel-left}
 use mathlib.Core.Logic.{⊎-elim}
-use mathlib.Core.Path.{ap}
+use mathlib.Core.Path.{ap, refl}
 use lib.ListN.{length, take, drop}
 use borrow.Author.Tests.{le-leb, lt-leb}
 use Rattle.words.specs.Choice.{if_then_else_}
@@ -29,7 +29,7 @@ part-result-end : tie.Need-part-result-end
 part-result-end c = search needs
 
 returns : tie.Need-returns
-returns c = search needs
+returns c = rw (c .before .enum-told .given .1) (refl, refl)
 
 sub-if2 : tie.Need-sub-if2
 sub-if2 c = search needs
@@ -53,7 +53,7 @@ returns-2 c =
     let from = c .before .before .before .before .p .given .0 .0 in
     let count = c .before .before .before .before .p .given .0 .1 .0 in
     let h : from + count ≤ length s = omega (arith, c .before .before .if1 .taken, c .before .if2 .taken) in
-    rw (c .before .before .before .before .p .given .1, le-leb (from + count) (length s) h) (ap (λ (k : ℕ). take k (drop from s)) (add-sub-cancel-left from count))
+    rw (c .before .before .before .before .p .given .1, le-leb (from + count) (length s) h) (ap (λ (k : ℕ). take k (drop from s)) (add-sub-cancel-left from count), refl)
 
 sub-result-3 : tie.Need-sub-result-3
 sub-result-3 c = search needs
@@ -71,7 +71,7 @@ returns-3 c =
     let from = c .before .before .before .p .given .0 .0 in
     let count = c .before .before .before .p .given .0 .1 .0 in
     let h : length s < from + count = ⊎-elim (λ w. omega arith) (λ w. omega arith) (c .before .if1 .came) in
-    rw (c .before .before .before .p .given .1, lt-leb (from + count) (length s) h)
+    rw (c .before .before .before .p .given .1, lt-leb (from + count) (length s) h) (refl, refl)
 
 pub part-in-spec : {M : Type 1} → statement M
 part-in-spec =
