@@ -19,7 +19,7 @@ use Rattle.reading.specs.Reading.{messageAt, told as toldByReader}
 use Rattle.writing.specs.declared.Writing.{Writing}
 use Rattle.writing.specs.declared.Writing.the-variants.{Written}
 use Rattle.writing.specs.Writing.{told as toldByWriter}
-use Rattle.again.specs.Again.{NumbersDiffer, ReadersCoincide, WritersCoincide, ToldCoincide, LaysCoincide, JudgesCoincide}
+use Rattle.again.specs.Again.{NumbersDiffer, ReadersCoincide, WritersCoincide, LaysCoincide, JudgesCoincide}
 
 -- the refusal that each number names, from 1 on; 0 names none
 abbrev refusals : List Refusal
@@ -58,15 +58,14 @@ read-told (Reading.Refused r) (Reading.Refused r′) e = ap Reading.Refused (num
 pub readers-coincide : ReadersCoincide
 readers-coincide s q q′ p p′ = read-told q q′ (p ∙ sym p′)
 
-pub told-coincide : ToldCoincide
+pub told-coincide : (r r′ : Writing) → toldByWriter r ≡ toldByWriter r′ → r ≡ r′
 told-coincide (Written n) (Written n′) e = ap Written (cc)
 told-coincide (Written n) (Writing.Refused r) e = cc
 told-coincide (Writing.Refused r) (Written n) e = cc
 told-coincide (Writing.Refused r) (Writing.Refused r′) e = ap Writing.Refused (number-of r r′ e)
 
 pub writers-coincide : WritersCoincide
-writers-coincide m src room r r′ left left′ p p′ =
-    record { answers = told-coincide r r′ (p .answer ∙ sym (p′ .answer)); rooms = p .left ∙ sym (p′ .left) }
+writers-coincide tells leaves r r′ room room′ p p′ = record { answers = told-coincide r r′ (p .0 ∙ sym (p′ .0)); rooms = p .1 ∙ sym (p′ .1) }
 
 pub lays-coincide : LaysCoincide
 lays-coincide before octets after after′ at end end′ l l′ = (l .ends ∙ sym (l′ .ends), l .stands ∙ sym (l′ .stands))

@@ -16,18 +16,18 @@ use Rattle.message.specs.Message.{Said, said}
 use Rattle.message.specs.declared.Message.{Message}
 use Rattle.reading.specs.declared.Reading.{Reading}
 use Rattle.reading.specs.declared.Reading.the-variants.{Read}
-use Rattle.reading.specs.Reading.{told as toldByReader}
+use Rattle.reading.specs.Reading.{Reads, told as toldByReader}
 use Rattle.writing.specs.declared.Writing.the-variants.{Written}
 use Rattle.writing.specs.Wire.{wire}
 use Rattle.writing.specs.Writing.{readable, writing, written, left, told as toldByWriter}
-use Rattle.again.specs.Again.{ReadsAs, ReaderPromise, IsRead, WriteThenRead, RefusalWritesNothing, RestUntouched, ReadThenWrite}
+use Rattle.again.specs.Again.{ReadsAs, IsRead, WriteThenRead, RefusalWritesNothing, RestUntouched, ReadThenWrite}
 use Rattle.again.proofs.Judged.{passed}
 use Rattle.again.proofs.Back.{read-back}
 use Rattle.again.proofs.Again.{read-is-written}
 use Rattle.again.proofs.Coincide.{read-told, told-coincide}
 
 -- a reader's answer where a message reads so
-is-read : (s : List ℕ) (what : Said) (q : Reading) → ReadsAs s what → ReaderPromise s q → IsRead s q what
+is-read : (s : List ℕ) (what : Said) (q : Reading) → ReadsAs s what → Reads s q → IsRead s q what
 is-read s what q h p = record { message = h .message; read = read-told q (Read (h .message)) (p ∙ h .read); same = h .same }
 
 -- a writer that answers n: its message is readable, n is all its octets, and they stand at the front of the room
@@ -55,20 +55,20 @@ wrote m src room n e =
 
 pub write-then-read : WriteThenRead
 write-then-read m src room room′ r n q p e z =
-    let w = wrote m src room n (sym (ap toldByWriter e) ∙ p .answer) in
-    let t : take n room′ ≡ wire (said m src) = ap (take n) (p .left) ∙ w .octets in
+    let w = wrote m src room n (sym (ap toldByWriter e) ∙ p .0) in
+    let t : take n room′ ≡ wire (said m src) = ap (take n) (p .1) ∙ w .octets in
     rw t (is-read (wire (said m src)) (said m src) q (read-back m src (w .accepted)) (rw t at z))
 
 pub refusal-writes-nothing : RefusalWritesNothing
 unfolding written
 refusal-writes-nothing m src room room′ r why p e =
-    let told : writing m src (length room) ≡ refused (number why) = sym (p .answer) ∙ ap toldByWriter e in
-    p .left ∙ rw told
+    let told : writing m src (length room) ≡ refused (number why) = sym (p .0) ∙ ap toldByWriter e in
+    p .1 ∙ rw told
 
 pub rest-untouched : RestUntouched
 rest-untouched m src room room′ r n p e =
-    let w = wrote m src room n (sym (ap toldByWriter e) ∙ p .answer) in
-    ap (drop n) (p .left) ∙ w .behind
+    let w = wrote m src room n (sym (ap toldByWriter e) ∙ p .0) in
+    ap (drop n) (p .1) ∙ w .behind
 
 -- a writer of a readable message that has room for it
 writes : (m : Message) (src : List ℕ) (room : ℕ) → readable m src ≡ true → length (wire (said m src)) ≤ room
@@ -81,5 +81,5 @@ read-then-write s room room′ q m r p e h wp =
     let a = read-is-written s m (sym p ∙ ap toldByReader e) in
     let n : ℕ = length (wire (said m s)) in
     let l : n ≤ length room = omega (arith, a .noLonger) in
-    let wr : r ≡ Written n = told-coincide r (Written n) (wp .answer ∙ writes m s (length room) (a .accepted) l) in
+    let wr : r ≡ Written n = told-coincide r (Written n) (wp .0 ∙ writes m s (length room) (a .accepted) l) in
     record { count = n; wrote = wr; readAgain = λ q′ z. write-then-read m s room room′ r n q′ wp wr z }

@@ -9,18 +9,18 @@ use lib.ListN.{length, take, drop}
 use Rattle.message.specs.declared.Message.{Message}
 use Rattle.message.specs.declared.Refusal.{Refusal}
 use Rattle.message.specs.Message.{Said, said}
-use Rattle.message.specs.Answers.{result, number}
+use Rattle.message.specs.Answers.{Answer, result, number}
 use Rattle.reading.specs.declared.Reading.{Reading}
 use Rattle.reading.specs.declared.Reading.the-variants.{Read}
 use Rattle.field.specs.Fields.{fieldsFrom, fieldsIn}
 use Rattle.reading.specs.declared.Opening.{Opening}
 use Rattle.reading.specs.Walk.{Judges}
-use Rattle.reading.specs.Reading.{reading, told as toldByReader}
+use Rattle.reading.specs.Reading.{reading, Reads}
 use Rattle.writing.specs.declared.Writing.{Writing}
 use Rattle.writing.specs.declared.Writing.the-variants.{Written}
 use Rattle.writing.specs.Wire.{wire}
 use Rattle.writing.specs.Puts.{Laid}
-use Rattle.writing.specs.Writing.{lies, readable, writing, written, told as toldByWriter}
+use Rattle.writing.specs.Writing.{lies, readable, Tells, Writes}
 
 -- reading these octets gives a message, and it says this
 pub record ReadsAs (s : List ℕ) (what : Said) : Type 0 where
@@ -52,16 +52,8 @@ OnlyTwelve = (m : Message) (src s : List ℕ) → lies m src ≡ true → ReadsA
 abbrev pub StepsSuffice : Type 0
 StepsSuffice = (s : List ℕ) (more : ℕ) → fieldsFrom (length s + more) s 12 ≡ fieldsIn s
 
--- The same through the promises of the code (proofs/Promised): what the reader promises of its answer q to s; what the writer promises
--- of its answer r, and of the room as it leaves it.
-abbrev pub ReaderPromise : List ℕ → Reading → Type 0
-ReaderPromise s q = toldByReader q ≡ reading s
-
-pub record WriterPromise (m : Message) (src room : List ℕ) (r : Writing) (room′ : List ℕ) : Type 0 where
-  pub answer : toldByWriter r ≡ writing m src (length room)
-  pub left : room′ ≡ written m src room
-
--- the answer q to s is a message, and it says this
+-- The same through the promises of the code (proofs/Promised), by the very definitions that `reading::read` and `writing::write` promise:
+-- `Reads` of an answer q to s, `Writes` of an answer r and of the room as it is left. First, the answer q to s is a message, and it says this.
 pub record IsRead (s : List ℕ) (q : Reading) (what : Said) : Type 0 where
   pub message : Message
   pub read : q ≡ Read message
@@ -70,50 +62,47 @@ pub record IsRead (s : List ℕ) (q : Reading) (what : Said) : Type 0 where
 -- a writer that answers n leaves n octets that any reader reads as the same message
 abbrev pub WriteThenRead : Type 0
 WriteThenRead =
-    (m : Message) (src room room′ : List ℕ) (r : Writing) (n : ℕ) (q : Reading) → WriterPromise m src room r room′ → r ≡ Written n
-    → ReaderPromise (take n room′) q → IsRead (take n room′) q (said m src)
+    (m : Message) (src room room′ : List ℕ) (r : Writing) (n : ℕ) (q : Reading) → Writes m src room r room′ → r ≡ Written n
+    → Reads (take n room′) q → IsRead (take n room′) q (said m src)
 
 -- "A refusal returns its number only and writes nothing; a result leaves the room past its end untouched"
 abbrev pub RefusalWritesNothing : Type 0
 RefusalWritesNothing =
-    (m : Message) (src room room′ : List ℕ) (r : Writing) (why : Refusal) → WriterPromise m src room r room′ → r ≡ Writing.Refused why
+    (m : Message) (src room room′ : List ℕ) (r : Writing) (why : Refusal) → Writes m src room r room′ → r ≡ Writing.Refused why
     → room′ ≡ room
 
 abbrev pub RestUntouched : Type 0
 RestUntouched =
-    (m : Message) (src room room′ : List ℕ) (r : Writing) (n : ℕ) → WriterPromise m src room r room′ → r ≡ Written n
+    (m : Message) (src room room′ : List ℕ) (r : Writing) (n : ℕ) → Writes m src room r room′ → r ≡ Written n
     → drop n room′ ≡ drop n room
 
 -- what a reader read from s, a writer with room for s writes, and any reader reads it as the same message
 pub record SameAgain (s : List ℕ) (m : Message) (r : Writing) (room′ : List ℕ) : Type 0 where
   pub count : ℕ
   pub wrote : r ≡ Written count
-  pub readAgain : (q : Reading) → ReaderPromise (take count room′) q → IsRead (take count room′) q (said m s)
+  pub readAgain : (q : Reading) → Reads (take count room′) q → IsRead (take count room′) q (said m s)
 
 abbrev pub ReadThenWrite : Type 0
 ReadThenWrite =
-    (s room room′ : List ℕ) (q : Reading) (m : Message) (r : Writing) → ReaderPromise s q → q ≡ Read m → length s ≤ length room
-    → WriterPromise m s room r room′ → SameAgain s m r room′
+    (s room room′ : List ℕ) (q : Reading) (m : Message) (r : Writing) → Reads s q → q ≡ Read m → length s ≤ length room
+    → Writes m s room r room′ → SameAgain s m r room′
 
 -- "any two results it would allow are proved to coincide" (proofs/Coincide)
 abbrev pub NumbersDiffer : Type 0
 NumbersDiffer = (a b : Refusal) → number a ≡ number b → a ≡ b
 
 abbrev pub ReadersCoincide : Type 0
-ReadersCoincide = (s : List ℕ) (q q′ : Reading) → ReaderPromise s q → ReaderPromise s q′ → q ≡ q′
+ReadersCoincide = (s : List ℕ) (q q′ : Reading) → Reads s q → Reads s q′ → q ≡ q′
 
 pub record SameResult (r r′ : Writing) (room room′ : List ℕ) : Type 0 where
   pub answers : r ≡ r′
   pub rooms : room ≡ room′
 
+-- of every writer, whatever it tells and leaves: `Tells` is what `writing::write`, `outgoing::send` and `held_writing::write_held` promise
 abbrev pub WritersCoincide : Type 0
 WritersCoincide =
-    (m : Message) (src room : List ℕ) (r r′ : Writing) (left left′ : List ℕ) → WriterPromise m src room r left
-    → WriterPromise m src room r′ left′ → SameResult r r′ left left′
-
--- so of any promise that says what an answer is told as, `outgoing::send`'s and `held_writing::write_held`'s too
-abbrev pub ToldCoincide : Type 0
-ToldCoincide = (r r′ : Writing) → toldByWriter r ≡ toldByWriter r′ → r ≡ r′
+    (tells : Answer ℕ) (leaves : List ℕ) (r r′ : Writing) (room room′ : List ℕ) → Tells tells leaves r room → Tells tells leaves r′ room′
+    → SameResult r r′ room room′
 
 -- and of what the writer's leaves lay
 abbrev pub LaysCoincide : Type 0

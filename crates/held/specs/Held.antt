@@ -23,7 +23,8 @@ use Rattle.message.specs.declared.Part.{Part}
 use Rattle.message.specs.declared.Cause.{Cause}
 use Rattle.message.specs.declared.Message.{Message}
 use Rattle.reading.specs.Reading.{reading}
-use Rattle.writing.specs.Writing.{writing, written}
+use Rattle.writing.specs.Writing.{writing, written, Tells}
+use Rattle.writing.specs.declared.Writing.{Writing}
 
 -- WHAT A MESSAGE IS HELD AS
 
@@ -207,3 +208,6 @@ writingOf (Is m) src room = writing m src room
 abbrev pub writtenOf : Held → List ℕ → List ℕ → List ℕ
 writtenOf Nothing src room = room
 writtenOf (Is m) src room = written m src room
+
+abbrev pub WritesOf : Held → List ℕ → List ℕ → Writing → List ℕ → Type 0
+WritesOf held src room answer after = Tells (writingOf held src (length room)) (writtenOf held src room) answer after

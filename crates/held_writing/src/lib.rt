@@ -19,9 +19,9 @@ ghost use Rattle.message.specs.Types.{typed};
 ghost use Rattle.message.specs.Table.{rowOf};
 ghost use Rattle.message.specs.Message.{required, ofOctet, ofWord, ofNumber, ofQueue, ofPart, ofCause};
 ghost use Rattle.writing.specs.Wire.{optional, body};
-ghost use Rattle.writing.specs.Writing.{partLies, phraseLies, lies, told};
+ghost use Rattle.writing.specs.Writing.{partLies, phraseLies, lies};
 ghost use Rattle.writing.specs.Puts.{Laid, Short, Held, countOf, phraseCount, phraseFits, identityFits, contentFits, fitting, frontFields, restFields, partSize, causeSize, frontSize, restSize};
-ghost use Rattle.held.specs.Held.{bitOf, octetIf, wordIf, numberIf, queueIf, causeIf, unlistedField, heldAt, writingOf, writtenOf};
+ghost use Rattle.held.specs.Held.{bitOf, octetIf, wordIf, numberIf, queueIf, causeIf, unlistedField, heldAt, WritesOf};
 ghost use Rattle.held_writing.specs.Writes.{partAt, causeAt, messageIn, allSet, hasRequired, readableIn, fourIf, shortSize};
 
 // How many octets a message is held in.
@@ -387,8 +387,7 @@ fn put_rest(room: &mut [u8], at: usize, src: &[u8], s: &[u8], fields: u16) -> us
 // Writes the message that octets hold as a packet, its identities and its phrase out of the lent source. The type and the Ack bit are
 // numbers in their octets, so that the packet's first octet is a sum of them.
 pub fn write_held(held: &[u8], source: &[u8], room: &mut [u8]) -> Writing
-    ensures { λ r. ⌜ told r ≡ writingOf (heldAt (now (held .entry))) (now (source .entry)) (length (now (room .entry))) ⌝ }
-    ensures { λ _. ⌜ now (room .exit) ≡ writtenOf (heldAt (now (held .entry))) (now (source .entry)) (now (room .entry)) ⌝ }
+    ensures { λ r. ⌜ WritesOf (heldAt (now (held .entry))) (now (source .entry)) (now (room .entry)) r (now (room .exit)) ⌝ }
 {
     if held.len() != SIZE {
         return Writing::Refused(Refusal::Unreadable);

@@ -17,7 +17,8 @@ use Rattle.message.specs.declared.Part.{Part}
 use Rattle.message.specs.declared.Cause.{Cause}
 use Rattle.message.specs.declared.Message.{Message}
 use Rattle.writing.specs.Wire.{wire}
-use Rattle.writing.specs.Writing.{writing, written, readable}
+use Rattle.writing.specs.Writing.{writing, written, readable, Tells}
+use Rattle.writing.specs.declared.Writing.{Writing}
 use Rattle.again.specs.Again.{ReadsAs}
 use Rattle.hall.specs.declared.Settings.{Settings}
 use Rattle.rules.specs.declared.Kind.{Kind as Say}
@@ -71,6 +72,10 @@ sending (Packet m) identity room = writing m identity room
 abbrev pub sent : Outgoing → List ℕ → List ℕ → List ℕ
 sent Silence identity room = room
 sent (Packet m) identity room = written m identity room
+
+abbrev pub Sends : Settings → Say → List ℕ → List ℕ → Writing → List ℕ → Type 0
+Sends s k identity room answer after =
+    Tells (sending (outgoing s k (length identity)) identity (length room)) (sent (outgoing s k (length identity)) identity room) answer after
 
 -- Every message of the desk can be written, and its octets read back as that message (proofs/Back): the seat's identity has 1 to 62 octets,
 -- as join asks.

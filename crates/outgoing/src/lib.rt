@@ -17,8 +17,7 @@ ghost use Rattle.message.specs.declared.Word.{Word};
 ghost use Rattle.message.specs.declared.Cause.{Cause};
 ghost use Rattle.message.specs.declared.Queue.{Queue};
 ghost use Rattle.message.specs.declared.Part.{Part};
-ghost use Rattle.writing.specs.Writing.{told};
-ghost use Rattle.outgoing.specs.Outgoing.{carrying, outgoing, sending, sent};
+ghost use Rattle.outgoing.specs.Outgoing.{carrying, outgoing, Sends};
 
 // A message to be sent, or that there is none.
 pub enum Outgoing {
@@ -163,8 +162,7 @@ fn to_send(settings: Settings, kind: Kind, count: usize) -> Outgoing
 
 // Writes an outgoing message as a packet. `identity` is that of the seat that Taken names; it rests where the desk keeps it.
 pub fn send(settings: Settings, kind: Kind, identity: &[u8], room: &mut [u8]) -> Writing
-    ensures { λ r. ⌜ told r ≡ sending (outgoing settings kind (length (now (identity .entry)))) (now (identity .entry)) (length (now (room .entry))) ⌝ }
-    ensures { λ r. ⌜ now (room .exit) ≡ sent (outgoing settings kind (length (now (identity .entry)))) (now (identity .entry)) (now (room .entry)) ⌝ }
+    ensures { λ r. ⌜ Sends settings kind (now (identity .entry)) (now (room .entry)) r (now (room .exit)) ⌝ }
 {
     match to_send(settings, kind, identity.len()) {
         Outgoing::Silence => Writing::Written(0),

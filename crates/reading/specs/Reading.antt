@@ -3,6 +3,7 @@
 use Prim.Native.Nat.{ℕ, _+_, _-_, _*_, _/_, _%_}
 use mathlib.Core.Bool.{Bool, not}
 use mathlib.Core.List.{List, [], _∷_}
+use mathlib.Core.Path.{_≡_}
 use lib.Dec.{ltb, eqb}
 use lib.ListN.{length, getD}
 use Rattle.words.specs.Choice.{if_then_else_}
@@ -112,3 +113,7 @@ reading s =
 abbrev pub told : Reading → Answer Message
 told (Read m) = result m
 told (Refused r) = refused (number r)
+
+-- what a reader promises of its answer to a packet; of two such answers `again` proves that they are one
+abbrev pub Reads : List ℕ → Reading → Type 0
+Reads s answer = told answer ≡ reading s

@@ -17,7 +17,7 @@ ghost use Prim.Native.Nat.{ℕ, _+_, _-_, _<_, _≤_, _^_};
 ghost use Rattle.message.specs.Message.{said, complete};
 ghost use lib.ListN.{length, getD, replicate};
 ghost use Rattle.field.specs.Fields.{fieldsIn};
-ghost use Rattle.reading.specs.Reading.{octetAt, wordAt, numberAt, queueAt, partAt, causeAt, messageAt, reading, told};
+ghost use Rattle.reading.specs.Reading.{octetAt, wordAt, numberAt, queueAt, partAt, causeAt, messageAt, Reads};
 ghost use Rattle.reading.specs.Walk.{noted, isField, notedStep, endedBy, Walked, Reach, Opens, Judges, partIn, startIn, further};
 ghost use Rattle.reading.specs.declared.Opening.the-variants as opening;
 
@@ -275,7 +275,7 @@ pub fn judge(s: &[u8], starts: &mut [usize; 16]) -> Opening
 
 // Reads a packet: its message, or the first refusal that applies.
 pub fn read(s: &[u8]) -> Reading
-    ensures { λ r. ⌜ told r ≡ reading (now (s .entry)) ⌝ }
+    ensures { λ r. ⌜ Reads (now (s .entry)) r ⌝ }
 {
     let mut starts = [0usize; 16];
     match judge(s, &mut starts) {

@@ -2,6 +2,7 @@
 use Prim.Native.Nat.{ℕ, _+_}
 use mathlib.Core.Bool.{Bool, true, false, not, _&&_}
 use mathlib.Core.List.{List, [], _∷_}
+use mathlib.Core.Path.{_≡_}
 use mathlib.Core.Option.{Option, none, some}
 use lib.Dec.{ltb, leb}
 use lib.ListN.{length}
@@ -61,3 +62,10 @@ written m src room = left (writing m src (length room)) (wire (said m src)) room
 abbrev pub told : Writing → Answer ℕ
 told (Written n) = result n
 told (Refused r) = refused (number r)
+
+-- what every writer promises of its answer and of the room as it leaves it; of two such results `again` proves that they are one
+abbrev pub Tells : Answer ℕ → List ℕ → Writing → List ℕ → Type 0
+Tells said leaves answer after = (told answer ≡ said) × (after ≡ leaves)
+
+abbrev pub Writes : Message → List ℕ → List ℕ → Writing → List ℕ → Type 0
+Writes m src room answer after = Tells (writing m src (length room)) (written m src room) answer after

@@ -9,7 +9,7 @@ ghost use Rattle.octets.specs.Octets.{part, over};
 ghost use Rattle.message.specs.Table.{padding, padded, rowOf};
 ghost use Rattle.message.specs.Message.{ofOctet, ofWord, ofNumber, ofQueue, ofPart, ofCause};
 ghost use Rattle.writing.specs.Wire.{optional, body, headed, firstOctet};
-ghost use Rattle.writing.specs.Writing.{partLies, phraseLies, lies, readable, writing, written, told};
+ghost use Rattle.writing.specs.Writing.{partLies, phraseLies, lies, readable, Writes};
 ghost use Rattle.writing.specs.Puts.{Laid, Short, Held, phraseFits, identityFits, contentFits, fitting, frontFields, restFields, countOf, phraseCount, octetSize, wordSize, queueSize, numberSize, partSize, causeSize, frontSize, restSize};
 use message::Cause;
 use message::Kind;
@@ -398,8 +398,7 @@ fn put_rest(room: &mut [u8], at: usize, src: &[u8], m: Message) -> usize
 // Writes a message into the lent room, its identities and its phrase out of the lent source, and answers how many octets it has. A
 // refusal, 12 before 13, writes nothing; the room past the packet is left as it was.
 pub fn write(m: Message, src: &[u8], room: &mut [u8]) -> Writing
-    ensures { λ r. ⌜ told r ≡ writing m (now (src .entry)) (length (now (room .entry))) ⌝ }
-    ensures { λ r. ⌜ now (room .exit) ≡ written m (now (src .entry)) (now (room .entry)) ⌝ }
+    ensures { λ r. ⌜ Writes m (now (src .entry)) (now (room .entry)) r (now (room .exit)) ⌝ }
 {
     if readable(m, src) {
         let size = size_of(m);
