@@ -195,10 +195,11 @@ fn opened(s: &[u8]) -> Opening
     if first / 64 != 2 {
         return Opening::Refused(Refusal::NotVersion2);
     }
+    let second = s[1];
     if first / 32 % 2 == 1 {
         return Opening::Refused(Refusal::Padded);
     }
-    if s[1] != 204 {
+    if second != 204 {
         return Opening::Refused(Refusal::NotApplication);
     }
     if 4 * (octets::number16(s, 2) as usize + 1) != s.len() {

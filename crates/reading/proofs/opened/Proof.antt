@@ -33,16 +33,16 @@ returns-3 c =
     (c .before .before .if2 .left)
     (c .if3 .taken)
 
+shared-slice-read-second : tie.Need-shared-slice-read-second
+shared-slice-read-second c = search needs
+
 returns-4 : tie.Need-returns-4
 returns-4 c =
-    answers-4 (c .before .before .before .before .before .before .args .s .now)
-    (c .before .before .before .before .if1 .left)
-    (c .before .before .before .if2 .left)
-    (c .before .if3 .left)
+    answers-4 (c .before .before .before .before .before .before .before .args .s .now)
+    (c .before .before .before .before .before .if1 .left)
+    (c .before .before .before .before .if2 .left)
+    (c .before .before .if3 .left)
     (c .if4 .taken)
-
-shared-slice-read-if5 : tie.Need-shared-slice-read-if5
-shared-slice-read-if5 c = search needs
 
 returns-5 : tie.Need-returns-5
 returns-5 c =
@@ -50,7 +50,7 @@ returns-5 c =
     (c .before .before .before .before .before .before .if1 .left)
     (c .before .before .before .before .before .if2 .left)
     (c .before .before .before .if3 .left)
-    (c .before .before .if4 .left)
+    (c .before .if4 .left)
     (c .if5 .taken)
 
 number16-requires : tie.Need-number16-requires
@@ -71,7 +71,7 @@ returns-6 c =
     (c .before .before .before .before .before .before .before .before .if1 .left)
     (c .before .before .before .before .before .before .before .if2 .left)
     (c .before .before .before .before .before .if3 .left)
-    (c .before .before .before .before .if4 .left)
+    (c .before .before .before .if4 .left)
     (c .before .before .if5 .left)
     (rw (c .before .number16 .ensures) at (c .if6 .taken))
 
@@ -84,7 +84,7 @@ returns-7 c =
     (c .before .before .before .before .before .before .before .before .before .before .if1 .left)
     (c .before .before .before .before .before .before .before .before .before .if2 .left)
     (c .before .before .before .before .before .before .before .if3 .left)
-    (c .before .before .before .before .before .before .if4 .left)
+    (c .before .before .before .before .before .if4 .left)
     (c .before .before .before .before .if5 .left)
     (ap (λ (n : ℕ). 4 * (n + 1)) (sym (c .before .before .before .number16 .ensures)) ∙ c .before .before .if6 .left)
     (rw (c .before .number32 .ensures) at (c .if7 .taken))
@@ -105,7 +105,7 @@ returns-8 c = (
       (c .before .before .before .before .before .before .before .before .before .before .before .before .before .before .if1 .left)
       (c .before .before .before .before .before .before .before .before .before .before .before .before .before .if2 .left)
       (c .before .before .before .before .before .before .before .before .before .before .before .if3 .left)
-      (c .before .before .before .before .before .before .before .before .before .before .if4 .left)
+      (c .before .before .before .before .before .before .before .before .before .if4 .left)
       (c .before .before .before .before .before .before .before .before .if5 .left)
       (ap (λ (n : ℕ). 4 * (n + 1)) (sym (c .before .before .before .before .before .before .before .number16 .ensures)) ∙ c .before .before .before .before .before .before .if6 .left)
       (sym (c .before .before .before .before .before .number32 .ensures) ∙ c .before .before .before .before .if7 .left)
@@ -118,7 +118,7 @@ returns-9 c =
     (c .before .before .before .before .before .before .before .before .before .before .before .before .before .if1 .left)
     (c .before .before .before .before .before .before .before .before .before .before .before .before .if2 .left)
     (c .before .before .before .before .before .before .before .before .before .before .if3 .left)
-    (c .before .before .before .before .before .before .before .before .before .if4 .left)
+    (c .before .before .before .before .before .before .before .before .if4 .left)
     (c .before .before .before .before .before .before .before .if5 .left)
     (ap (λ (n : ℕ). 4 * (n + 1)) (sym (c .before .before .before .before .before .before .number16 .ensures)) ∙ c .before .before .before .before .before .if6 .left)
     (sym (c .before .before .before .before .number32 .ensures) ∙ c .before .before .before .if7 .left)
@@ -132,8 +132,8 @@ opened-spec =
     returns-2
     shared-slice-read-first
     returns-3
+    shared-slice-read-second
     returns-4
-    shared-slice-read-if5
     returns-5
     number16-requires
     cast-if6
