@@ -28,6 +28,7 @@ use Rattle.history.specs.Doing.{Desk, Doing, event, deskOf}
 use Rattle.history.specs.Asking.{nobody, asks, asking, givesUp, stopsCall}
 use Rattle.ways.specs.Ways.{marks, Sits, Unmoved, samePriority, holder}
 use Rattle.ways.specs.Ways as way
+use Rattle.ways.proofs.Apart.{this-one, not-asked}
 use Rattle.ways.proofs.Laws.{six-line, six-holds, idle-none}
 use Rattle.marks.specs.Marks.{Fit}
 use Rattle.marks.proofs.InLine.{in-cons, only-at, without-less}
@@ -57,9 +58,6 @@ pub data Did (d : Desk) (x : Doing) (new : Core) (m : Marks) : Type 0 where
   closes : stopsCall x ≡ true → isIdle (d .core .phase) ≡ true → waiting (new .line) ≡ [] → new .phase ≡ Stopped →
       m ≡ marks NoSeat (seatsOf (waiting (d .core .line))) NoSeat NotGiven → Did d x new m
 
-asks-nobody : {t p : ℕ} {A : Type 0} → nobody ≡ asks t p → A
-asks-nobody q = let z : _≡_ {A = ℕ} 0 1 = cc in absurd (omega arith)
-
 module _ (d : Desk) (x : Doing) (l : Left) (f : Fit (d .core) (d .hall)) where
   abbrev line : List Entry
   line = waiting (d .core .line)
@@ -70,13 +68,13 @@ module _ (d : Desk) (x : Doing) (l : Left) (f : Fit (d .core) (d .hall)) where
   same u k h m = rests u (ap waiting k) h m
 
   unasked : asking (d .hall) x ≡ nobody → (t p : ℕ) → asking (d .hall) x ≡ asks t p → Unmoved (d .core) (d .hall) t p
-  unasked a t p q = asks-nobody (sym a ∙ q)
+  unasked a = not-asked (asking (d .hall) x) a
 
   this : (t p : ℕ) → asking (d .hall) x ≡ asks t p → Unmoved (d .core) (d .hall) t p → (u v : ℕ) → asking (d .hall) x ≡ asks u v → Unmoved (d .core) (d .hall) u v
-  this t p a m u v q = let i : t ≡ u = cc in let j : p ≡ v = cc in rw (sym i, sym j) m
+  this t p a m = this-one (asking (d .hall) x) t p a m
 
   by-name : (e : _) → x ≡ event e → asking (d .hall) (event e) ≡ nobody → (t p : ℕ) → asking (d .hall) x ≡ asks t p → Unmoved (d .core) (d .hall) t p
-  by-name e q a t p r = asks-nobody (sym a ∙ sym (ap (asking (d .hall)) q) ∙ r)
+  by-name e q a = unasked (ap (asking (d .hall)) q ∙ a)
 
   core-line : {c : Core} → l .core ≡ c → l .core .line ≡ c .line
   core-line q = ap (λ (y : Core). y .line) q

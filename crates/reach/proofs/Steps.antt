@@ -23,13 +23,12 @@ use Rattle.rules.specs.declared.Message.{Message}
 use Rattle.rules.specs.Words.{next, numbered, _inPhase_, _withLine_, _countingC7_}
 use Rattle.rules.specs.Floor.{holds}
 use Rattle.rules.specs.Request.{entry, waits, full}
-use Rattle.desk.specs.declared.Event.{Event}
 use Rattle.desk.specs.declared.Left.{Left}
-use Rattle.history.specs.Doing.{Desk, Doing, event, leaves}
-use Rattle.history.specs.Asking.{nobody, asks}
+use Rattle.history.specs.Doing.{Desk, Doing, leaves}
 use Rattle.marks.proofs.InLine.{in-nil, in-cons, in-enter, in-without, only-at, without-less}
 use Rattle.ways.specs.Ways.{isBusy, Six, informs, presses, informsAndPresses}
 use Rattle.ways.specs.Ways as way
+use Rattle.ways.proofs.Apart.{no-event, asks-nobody}
 use Rattle.ways.proofs.Walk.{idle-quiet}
 use Rattle.reach.specs.Sound.{ListOk, LineOk, FloorOk, NumbersOk, HallOk, CoreOk, causeOk}
 use Rattle.reach.proofs.InLine.{none-ok, without-ok, enter-ok, line-ok, present-below}
@@ -185,12 +184,6 @@ module _ (d : Desk) (x : Doing) (l : Left) (k : HallOk (d .hall)) (o : CoreOk (d
       })
 
 -- who leaves
-no-event : {e : Event} {u : ℕ} {A : Type 0} → leaves u ≡ event e → A
-no-event q = let z : _≡_ {A = ℕ} 0 1 = cc in absurd (omega arith)
-
-no-request : {t p : ℕ} {A : Type 0} → nobody ≡ asks t p → A
-no-request q = let z : _≡_ {A = ℕ} 0 1 = cc in absurd (omega arith)
-
 module _ (d : Desk) (t : ℕ) (l : Left) (k : HallOk (d .hall)) (o : CoreOk (d .hall) (d .core)) (p : isPresent (d .hall) t ≡ true) where
   abbrev Gone : Core → Type 0
   Gone c = (isIn t (waiting (c .line)) ≡ false) × (holds (c .phase) t ≡ false)
@@ -201,12 +194,12 @@ module _ (d : Desk) (t : ℕ) (l : Left) (k : HallOk (d .hall)) (o : CoreOk (d .
   pub leaver-gone : way.Way d (leaves t) l → Gone (l .core)
   unfolding waits
   leaver-gone (way.refuses a n u v q m) = clash p (v t refl)
-  leaver-gone (way.grantsHolder s v e b a w n q m) = no-request a
-  leaver-gone (way.denies s v n a w u b q m) = no-request a
-  leaver-gone (way.gives s v a w i q m) = no-request a
-  leaver-gone (way.asksAgain s v f g a w n z m) = no-request a
-  leaver-gone (way.moves s v f g a w b n u r z m) = no-request a
-  leaver-gone (way.places s v f g a w b n r u y z m) = no-request a
+  leaver-gone (way.grantsHolder s v e b a w n q m) = asks-nobody a
+  leaver-gone (way.denies s v n a w u b q m) = asks-nobody a
+  leaver-gone (way.gives s v a w i q m) = asks-nobody a
+  leaver-gone (way.asksAgain s v f g a w n z m) = asks-nobody a
+  leaver-gone (way.moves s v f g a w b n u r z m) = asks-nobody a
+  leaver-gone (way.places s v f g a w b n r u y z m) = asks-nobody a
   leaver-gone (way.passes s e es a f n w q m) =
       let i : isIn t (e ∷ es) ≡ false = rw w at (o .floor .out t (rw (f t refl) n)) in
       let b : length (e ∷ es) < 16 = rw w at (let z : length (waiting (d .core .line)) < 16 = omega (arith, o .line .list .within, k .limit) in z) in

@@ -20,8 +20,9 @@ use Rattle.rules.specs.Request.{isIdle}
 use Rattle.desk.specs.declared.Event.{Event}
 use Rattle.desk.specs.declared.Event.the-variants.{Start, Stop, Expiry, Request, Release, Position, Media, Other}
 use Rattle.history.specs.Doing.{Doing, event, leaves, joins}
-use Rattle.history.specs.Asking.{nobody, asks, fromSeat, askedBy, asking}
+use Rattle.history.specs.Asking.{asks, fromSeat, askedBy, asking}
 use Rattle.ways.specs.Ways.{Six, informs, presses, informsAndPresses}
+use Rattle.ways.proofs.Apart.{asks-nobody}
 
 module _ {c : Core} {h : Hall} {t : ℕ} {new : Core} {first second : Message} where
   pub six-line : Six c h t new first second → new .line ≡ c .line
@@ -44,23 +45,20 @@ module _ (h : Hall) (t p : ℕ) where
   from-seat a (At s) q = let i : s ≡ t = cc in record { field = a; is = (let j : effective h s a ≡ p = cc in sym j ∙ ap (λ (u : ℕ). effective h u a) i) }
   from-seat a Nowhere q = let z : _≡_ {A = ℕ} 0 1 = cc in absurd (omega arith)
 
-  no-one : nobody ≡ asks t p → Effective
-  no-one q = let z : _≡_ {A = ℕ} 0 1 = cc in absurd (omega arith)
-
   by-event : (e : Event) → askedBy h e ≡ asks t p → Effective
   by-event (Request x a) q = from-seat a (seatOf h x) q
-  by-event (Release x) q = no-one q
-  by-event (Position x) q = no-one q
-  by-event (Media x) q = no-one q
-  by-event (Other x) q = no-one q
-  by-event Start q = no-one q
-  by-event Stop q = no-one q
-  by-event (Expiry k) q = no-one q
+  by-event (Release x) q = asks-nobody q
+  by-event (Position x) q = asks-nobody q
+  by-event (Media x) q = asks-nobody q
+  by-event (Other x) q = asks-nobody q
+  by-event Start q = asks-nobody q
+  by-event Stop q = asks-nobody q
+  by-event (Expiry k) q = asks-nobody q
 
   pub asked-effective : (x : Doing) → asking h x ≡ asks t p → Effective
   asked-effective (event e) q = by-event e q
-  asked-effective (leaves s) q = no-one q
-  asked-effective (joins o n) q = no-one q
+  asked-effective (leaves s) q = asks-nobody q
+  asked-effective (joins o n) q = asks-nobody q
 
 -- who holds the floor is the only one that does, and in Idle nobody does
 pub holds-one : (p : Phase) (t s : ℕ) → holds p t ≡ true → holds p s ≡ eqb t s

@@ -1,3 +1,4 @@
+pub mod Apart
 pub mod Walk
 pub mod Laws
 pub mod Refusals

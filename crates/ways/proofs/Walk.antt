@@ -52,14 +52,9 @@ use Rattle.desk.specs.Events.{starts, sitting, callerOf, heard, struckOff, rele
 use Rattle.history.specs.Doing.{Desk, Doing, event, leaves as leaves-now, joins, joined, does}
 use Rattle.history.specs.Asking.{Asking, nobody, asks, fromSeat, asking, givesUp, stopsCall}
 use Rattle.ways.specs.Ways as way
+use Rattle.ways.proofs.Apart.{no-leave, asks-nobody, this-one, not-asked}
 
--- an event is no leave, and neither is a refusal done
-no-leave : {e : Event} {u : ℕ} {A : Type 0} → event e ≡ leaves-now u → A
-no-leave q = let z : _≡_ {A = ℕ} 0 1 = cc in absurd (omega arith)
-
-asks-nobody : {t p : ℕ} {A : Type 0} → nobody ≡ asks t p → A
-asks-nobody q = let z : _≡_ {A = ℕ} 0 1 = cc in absurd (omega arith)
-
+-- a refusal is not done
 not-21 : CallStopped ≡ Done → ⊥
 not-21 q = let z : _≡_ {A = ℕ} 0 1 = cc in omega arith
 
@@ -159,7 +154,7 @@ module _ (d : Desk) (x : Event) where
   -- Request
   module _ (t p : ℕ) (a : asking h (event x) ≡ asks t p) (s : way.Sits h t) where
     unmoved : way.Unmoved c h t p → (u v : ℕ) → asking h (event x) ≡ asks u v → way.Unmoved c h u v
-    unmoved m u v q = let i : t ≡ u = cc in let j : p ≡ v = cc in rw (sym i, sym j) m
+    unmoved m = this-one (asking h (event x)) t p a m
 
     denies : (n : ℕ) → n < 8 → way.Unmoved c h t p → W (denied c t n)
     unfolding denied
@@ -225,11 +220,11 @@ module _ (d : Desk) (x : Event) where
 
   -- nobody asks
   module _ (a : asking h (event x) ≡ nobody) where
-    no-one : (t p : ℕ) → asking h (event x) ≡ asks t p → way.Unmoved c h t p
-    no-one t p q = asks-nobody (sym a ∙ q)
+    unasked : (t p : ℕ) → asking h (event x) ≡ asks t p → way.Unmoved c h t p
+    unasked = not-asked (asking h (event x)) a
 
     unexpected : W (refused c NotExpected)
-    unexpected = refuse NotExpected not-23 no-one
+    unexpected = refuse NotExpected not-23 unasked
 
     ends-here : (t : ℕ) → holds (c .phase) t ≡ true → W (floorEnds c h t)
     ends-here t k = ends d (event x) h (d .names) t a (λ u q. no-leave q) k
@@ -246,7 +241,7 @@ module _ (d : Desk) (x : Event) where
     -- the timers
     stop-in : stopsCall (event x) ≡ true → (o : Phase) → c .phase ≡ o → W (stops c o)
     unfolding stops halted
-    stop-in y Stopped q = refuse CallStopped not-21 no-one
+    stop-in y Stopped q = refuse CallStopped not-21 unasked
     stop-in y (Idle t7) q = way.closes y (ap isIdle q) refl refl
     stop-in y (Taken e b) q = way.halts (e .seat) y (ap (λ (o : Phase). holds o (e .seat)) q ∙ eq-eqb (e .seat) (e .seat) refl) refl refl
     stop-in y (Revoking e n) q = way.halts (e .seat) y (ap (λ (o : Phase). holds o (e .seat)) q ∙ eq-eqb (e .seat) (e .seat) refl) refl refl
@@ -314,7 +309,7 @@ fires-on d timer.T20 q = grants-again d _ refl refl (d .core .phase) refl
 expires-on : (d : Desk) (t : Timer) → W d (Expiry t) (expires (d .core) (d .hall) t)
 unfolding expires
 expires-on d t =
-    by-if (W d (Expiry t)) (isStopped (d .core .phase)) (λ _. refuse d (Expiry t) CallStopped not-21 (no-one d (Expiry t) refl))
+    by-if (W d (Expiry t)) (isStopped (d .core .phase)) (λ _. refuse d (Expiry t) CallStopped not-21 (unasked d (Expiry t) refl))
     (λ _. by-if (W d (Expiry t)) (runs (running (d .core .phase)) t) (λ q. fires-on d t q) (λ _. unexpected d (Expiry t) refl))
 
 places-on : (d : Desk) (s t : ℕ) → way.Sits (d .hall) t → W d (Position s) (asksPlace (d .core) t)
@@ -330,10 +325,10 @@ events d (Request s a) =
     heard-on d (Request s a) s _ (λ t q k o. requests d (Request s a) t (effective (d .hall) t a) (ap (fromSeat (d .hall) a) q) k o)
     (λ q t p z. asks-nobody (sym (ap (fromSeat (d .hall) a) q) ∙ z))
 events d (Release s) =
-    heard-on d (Release s) s _ (λ t q k o. releases-on d (Release s) refl t (ap (λ (f : Found). finds f t) q ∙ eq-eqb t t refl)) (λ _. no-one d (Release s) refl)
-events d (Position s) = heard-on d (Position s) s _ (λ t q k o. places-on d s t k) (λ _. no-one d (Position s) refl)
-events d (Media s) = heard-on d (Media s) s _ (λ t q k o. talks-on d (Media s) refl s t refl (d .core .phase) refl) (λ _. no-one d (Media s) refl)
-events d (Other s) = heard-on d (Other s) s _ (λ t q k o. unexpected d (Other s) refl) (λ _. no-one d (Other s) refl)
+    heard-on d (Release s) s _ (λ t q k o. releases-on d (Release s) refl t (ap (λ (f : Found). finds f t) q ∙ eq-eqb t t refl)) (λ _. unasked d (Release s) refl)
+events d (Position s) = heard-on d (Position s) s _ (λ t q k o. places-on d s t k) (λ _. unasked d (Position s) refl)
+events d (Media s) = heard-on d (Media s) s _ (λ t q k o. talks-on d (Media s) refl s t refl (d .core .phase) refl) (λ _. unasked d (Media s) refl)
+events d (Other s) = heard-on d (Other s) s _ (λ t q k o. unexpected d (Other s) refl) (λ _. unasked d (Other s) refl)
 
 -- Leave
 same-leaver : {u t : ℕ} → leaves-now t ≡ leaves-now u → u ≡ t
