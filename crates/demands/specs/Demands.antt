@@ -5,7 +5,7 @@
 --   1, 2  of each call and each step: the promises above the functions, each proved in its crate. Packets: reading, writing, and again for what
 --         is written and read back. The desk: rules, desk, call; Thursday's exercise and the idle versions: exercise.
 --   3     of any sequence of steps: the statements below. 1, 4 and the first half of 5 in proofs/Counts, 2 and the rest of 5 in proofs/Steps,
---         3 in proofs/Order; that the reports counted are the code's: specs/ThroughCode, proofs/ByCode.
+--         3 in proofs/Order. The same of the library that C programs call, from its promises: crate library.
 use Prim.Native.Nat.{ℕ, suc, _+_, _≤_, _<_}
 use mathlib.Core.Path.{_≡_}
 use mathlib.Core.Bool.{Bool, true, false, not, _&&_, _||_}

@@ -17,7 +17,7 @@ use Rattle.hall.specs.Identity.{noNames}
 use Rattle.hall.specs.Join.{join}
 use Rattle.desk.specs.Events.{fresh}
 use Rattle.words.specs.Choice.{if_then_else_, by-if}
-use Rattle.history.specs.Doing.{Desk, made, does, afterAll}
+use Rattle.history.specs.Doing.{Desk, made, does, afterAll, Fresh, justMade, andJoined}
 use Rattle.sheet.specs.Layout.{Seat, form, letters}
 use Rattle.sheet.specs.Loading.{Load, Seats, whole, fault, refused, ifSeated, joinAll, seatAll, settled, loading, settingsPlace, settingsAt, whoIs, readSeat, identityLength, afterSeat, laidOut, infront, readSeats, zeros, settingsOffset, seatsOffset, seatCount, formOf, lettersOf}
 use Rattle.words.proofs.Tests.{both, five, neither-left}
@@ -26,7 +26,7 @@ use Rattle.floor.specs.Promises.{LoadPromise}
 use Rattle.kept.specs.Kept.{Holds, Fits, AllFit, Settable, deskIn, joinsOf, seatedFrom, settingsOn, joinsOn, LoadedInForm}
 use Rattle.kept.proofs.All.{all-take, all-drop, all-at, at-all}
 use Rattle.kept.proofs.Numbers.{Octet, half-small, word-small}
-use Rattle.kept.proofs.Desks.{Right, right-made, right-run}
+use Rattle.kept.proofs.Desks.{Right, in-range, right-made, right-run}
 use Rattle.kept.proofs.Steps.{told-as}
 use Rattle.kept.proofs.Made.{done-only, Written, written-so}
 
@@ -130,11 +130,23 @@ module _ (room sheet room′ : List ℕ) (p : LoadPromise room sheet 0 room′) 
       let h : Written d (loadOn room sheet) = written-so d room (loading sheet .number) (λ _. r) in
       subst (λ (v : ℕ × List ℕ). Written d v) (sym p) h refl
 
+-- seats that join a fresh desk leave it fresh
+joined-fresh : (d : Desk) → Fresh d → (xs : List Seat) → Fresh (afterAll d (joinsOf xs))
+joined-fresh d f [] = f
+joined-fresh d f (x ∷ xs) = joined-fresh _ (andJoined d (x .identity) (x .who) f) xs
+
+seated-fresh : (d : Desk) → Fresh d → (xs : Seats) → Fresh (afterAll d (seatedFrom xs))
+seated-fresh d f (whole xs) = joined-fresh d f xs
+seated-fresh d f fault = f
+
 pub loaded-in-form : LoadedInForm
 loaded-in-form room sheet room′ p o =
     record {
       settings = its-settings room sheet room′ p o;
       joins = its-joins room sheet room′ p o;
+      isFresh =
+          seated-fresh (made (settingsOn sheet)) (justMade (settingsOn sheet) (in-range (settingsOn sheet) (its-settings room sheet room′ p o)))
+          (readSeats (seatCount sheet) sheet 0);
       holds =
           told-as (deskIn room′) (deskLoaded (loading sheet)) (afterAll (made (settingsOn sheet)) (joinsOn sheet)) (loaded-run room sheet room′ p o .1)
           (loaded-stands room sheet room′ p o);

@@ -5,6 +5,7 @@ use mathlib.Core.Bool.{true, false}
 use mathlib.Core.List.{List}
 use lib.Dec.{eqb, leb}
 use lib.ListN.{length}
+use lib.IntN.{ℤ}
 use borrow.Author.Tests.{eqb-true, le-leb}
 use Rattle.words.specs.Choice.{if_then_else_, by-if}
 use Rattle.message.specs.Answers.{Answer, refused, result}
@@ -26,9 +27,9 @@ use Rattle.call.specs.Call.{eventOf, ofStep, unread, byReading, hears}
 use Rattle.form.specs.Form.{coreAt, hallAt, namesAt}
 use Rattle.floor.specs.declared.Named.{Named}
 use Rattle.floor.specs.declared.Named.the-variants.{Known, Unknown}
-use Rattle.floor.specs.Floor.{formed, Leaves, leaves, settles, calledOn, eventOn, notRunning, firedOn, leftOn, leaveOn, seatNumbered, timerNamed, newcomer, written, joinOn, settable}
+use Rattle.floor.specs.Floor.{formed, Leaves, leaves, settles, calledOn, eventOn, notRunning, firedOn, leftOn, leaveOn, seatNumbered, timerNamed, newcomer, written, joinOn, settable, looks, answers, screenOn, saveOn, messageOn}
 use Rattle.floor.proofs.Desks.{has-room, no-desk-so}
-use Rattle.kept.specs.Kept.{deskAt, Act, floorJoin, floorLeave, floorStart, floorStop, floorPacket, floorMedia, floorTimer, PromisedBy, ruledOn, readRuled, timerRuled, ruled, RefusalWritesNothing, NotMade, NotLoaded, NotADesk, RulesAnswer}
+use Rattle.kept.specs.Kept.{deskAt, Act, floorJoin, floorLeave, floorStart, floorStop, floorPacket, floorMedia, floorTimer, PromisedBy, ruledOn, readRuled, timerRuled, ruled, RefusalWritesNothing, NotMade, NotLoaded, NotADesk, NotLookedAt, Unread, NotWrittenFrom, RulesAnswer}
 
 module _ (d r : List ℕ) where
   -- a step's own account
@@ -106,6 +107,29 @@ timer-no-desk d r Unknown q = called-no-desk d r _ q
 join-no-desk : (d o : List ℕ) (w : Newcomer) → formed d ≡ false → joinOn d o w .0 ≡ 20
 unfolding if_then_else_
 join-no-desk d o w q = rw q
+
+pub not-looked-at : NotLookedAt
+unfolding looks if_then_else_
+not-looked-at d a q = rw q
+
+no-screen : (d room : List ℕ) → formed d ≡ false → screenOn d room ≡ answers (refused 20) room
+unfolding if_then_else_
+no-screen d room q = rw q
+
+no-sheet : (d room : List ℕ) → formed d ≡ false → saveOn d room ≡ answers (refused 20) room
+unfolding if_then_else_
+no-sheet d room q = rw q
+
+no-message : (d r : List ℕ) (which : ℕ) (room : List ℕ) → formed d ≡ false → messageOn d r which room ≡ answers (refused 20) room
+unfolding if_then_else_
+no-message d r which room q = rw q
+
+not-read : (n : ℤ) (room room′ : List ℕ) → (n, room′) ≡ answers (refused 20) room → Unread n room room′
+not-read n room room′ e = (ap (λ (w : ℤ × List ℕ). w .0) e, ap (λ (w : ℤ × List ℕ). w .1) e)
+
+pub not-written-from : NotWrittenFrom
+not-written-from d room n room′ q =
+    (λ p. not-read n room room′ (p ∙ no-screen d room q), λ p. not-read n room room′ (p ∙ no-sheet d room q), λ r w p. not-read n room room′ (p ∙ no-message d r w room q))
 
 -- the answer that is promised
 abbrev answerOf : Leaves → ℕ

@@ -22,7 +22,7 @@ use Rattle.hall.specs.declared.Settings.{Settings}
 use Rattle.hall.specs.declared.Newcomer.{Newcomer}
 use Rattle.rules.specs.declared.Report.{Report}
 use Rattle.desk.specs.declared.Event.the-variants.{Start, Stop, Media, Expiry}
-use Rattle.history.specs.Doing.{Desk, Doing, event, leaves as leaving, joins as joining, made, does, afterAll}
+use Rattle.history.specs.Doing.{Desk, Doing, event, leaves as leaving, joins as joining, made, does, afterAll, Fresh}
 use Rattle.call.specs.Call.{eventOf}
 use Rattle.sheet.specs.Layout.{Seat, seatsOf}
 use Rattle.sheet.specs.Loading.{Load, Seats, whole, fault, settingsAt, settingsPlace, seatCount, readSeats}
@@ -31,8 +31,8 @@ use Rattle.form.specs.Form.{octetsOf, coreAt, hallAt, namesAt}
 use Rattle.report.specs.Reported.{Reported, Shaped}
 use Rattle.floor.specs.declared.Named.{Named}
 use Rattle.floor.specs.declared.Named.the-variants.{Known, Unknown}
-use Rattle.floor.specs.Floor.{formed, newcomer, seatNumbered, timerNamed, notRunning, settable, signed, screened}
-use Rattle.floor.specs.Promises.{MakePromise, JoinPromise, LeavePromise, StartPromise, StopPromise, PacketPromise, MediaPromise, TimerPromise, SavePromise, LoadPromise}
+use Rattle.floor.specs.Floor.{formed, newcomer, seatNumbered, timerNamed, notRunning, settable, signed, looks, screened}
+use Rattle.floor.specs.Promises.{MakePromise, JoinPromise, LeavePromise, StartPromise, StopPromise, PacketPromise, MediaPromise, TimerPromise, MessagePromise, SavePromise, LoadPromise, ScreenPromise}
 
 -- WHAT A C PROGRAM HAS
 
@@ -168,6 +168,18 @@ NotLoaded = (room sheet : List ℕ) (n : ℕ) (room′ : List ℕ) → LoadPromi
 abbrev pub NotADesk : Type 0
 NotADesk = (d : List ℕ) (x : Call) → Promised d x → formed d ≡ false → x .answer ≡ 20
 
+-- the functions that look at a desk answer minus 20, and those with a room leave it as it was
+abbrev pub NotLookedAt : Type 0
+NotLookedAt = (d : List ℕ) (a : Answer ℕ) → formed d ≡ false → looks d a ≡ signed (refused 20)
+
+abbrev pub Unread : ℤ → List ℕ → List ℕ → Type 0
+Unread answer room room′ = (answer ≡ signed (refused 20)) × (room′ ≡ room)
+
+abbrev pub NotWrittenFrom : Type 0
+NotWrittenFrom = (d room : List ℕ) (n : ℤ) (room′ : List ℕ) → formed d ≡ false →
+    (ScreenPromise d room n room′ → Unread n room room′) × (SavePromise d room n room′ → Unread n room room′)
+    × ((report : List ℕ) (which : ℕ) → MessagePromise d report which room n room′ → Unread n room room′)
+
 -- then comes what the rules answer, and nothing else is refused but for want of 24 octets for the report of what would be done
 abbrev pub RulesAnswer : Type 0
 RulesAnswer =
@@ -230,9 +242,11 @@ settingsOn sheet = settingsAt sheet (settingsPlace sheet)
 abbrev pub joinsOn : List ℕ → List Doing
 joinsOn sheet = seatedFrom (readSeats (seatCount sheet) sheet 0)
 
+-- "A loaded desk is fresh"
 pub record Loaded (s sheet : List ℕ) : Type 0 where
   pub settings : Settable (settingsOn sheet)
   pub joins : AllFit (joinsOn sheet)
+  pub isFresh : Fresh (afterAll (made (settingsOn sheet)) (joinsOn sheet))
   pub holds : Holds s (afterAll (made (settingsOn sheet)) (joinsOn sheet))
 
 abbrev pub LoadedInForm : Type 0

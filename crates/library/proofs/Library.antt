@@ -18,20 +18,18 @@ use Rattle.rules.specs.declared.Given.the-variants.{OutOfLine}
 use Rattle.rules.specs.Floor.{holds}
 use Rattle.rules.specs.Request.{waits}
 use Rattle.desk.specs.Timers.{isStopped}
-use Rattle.history.specs.Doing.{Desk, Doing, made as madeWith, after, afterAll, Fresh, justMade, andJoined}
+use Rattle.history.specs.Doing.{Desk, Doing, made as madeWith, after, afterAll, justMade}
 use Rattle.marks.specs.Marks.{isSeat}
 use Rattle.demands.specs.Demands.{Report, Row, other, heard, happens, deskAfter, rowOf, log, isStruck, isEnded, placeOf, inLine, ComesFirst}
 use Rattle.demands.proofs.Counts.{nobody-drops-out, given-and-ended, nothing-unseen}
 use Rattle.demands.proofs.Steps.{struck-for-a-reason, worked-out}
 use Rattle.demands.proofs.Order.{goes-to-the-first}
-use Rattle.sheet.specs.Layout.{Seat}
-use Rattle.sheet.specs.Loading.{Seats, whole, fault, seatCount, readSeats}
 use Rattle.form.specs.Form.{hallAt}
 use Rattle.floor.specs.declared.Named.{Named}
 use Rattle.floor.specs.declared.Named.the-variants.{Known, Unknown}
 use Rattle.floor.specs.Floor.{timerNamed}
 use Rattle.floor.specs.Promises.{PhasePromise}
-use Rattle.kept.specs.Kept.{deskAt, Holds, Act, floorJoin, floorLeave, floorStart, floorStop, floorPacket, floorMedia, floorTimer, Call, Promised, ActFits, readAs, timerAs, meant, done, settingsOn, joinsOf, seatedFrom, joinsOn}
+use Rattle.kept.specs.Kept.{deskAt, Holds, Act, floorJoin, floorLeave, floorStart, floorStop, floorPacket, floorMedia, floorTimer, Call, Promised, ActFits, readAs, timerAs, meant, done, settingsOn, joinsOn}
 use Rattle.kept.proofs.Desks.{in-range}
 use Rattle.kept.proofs.Refusals.{not-made, not-loaded}
 use Rattle.kept.proofs.Steps.{told-as, step-in-form}
@@ -92,15 +90,6 @@ module _ (d : List ℕ) (rows : List Row) (k : Reached d rows) (d′ : List ℕ)
         same = row-same y (t .0);
       }
 
--- a desk that is loaded is fresh
-joined-fresh : (d : Desk) → Fresh d → (xs : List Seat) → Fresh (afterAll d (joinsOf xs))
-joined-fresh d f [] = f
-joined-fresh d f (x ∷ xs) = joined-fresh _ (andJoined d (x .identity) (x .who) f) xs
-
-seated-fresh : (d : Desk) → Fresh d → (xs : Seats) → Fresh (afterAll d (seatedFrom xs))
-seated-fresh d f (whole xs) = joined-fresh d f xs
-seated-fresh d f fault = f
-
 calls-on : (d : List ℕ) (rows : List Row) → Reached d rows → (x : Call) → Promised d x → ActFits (x .act) → Reached (x .desk) (rowsBy d x ++ rows)
 calls-on d rows k x p w =
     goes-on d rows k (x .desk) (reportBy (x .act) (take 24 (x .report))) (done x) (done-short x)
@@ -112,14 +101,7 @@ reached d rows (made room g room′ p b) =
     record { start = madeWith g; isFresh = justMade g (in-range g (h .0)); past = []; holds = h .1; same = refl }
 reached d rows (loaded room sheet room′ p o) =
     let l = loaded-in-form room sheet room′ p o in
-    let g = settingsOn sheet in
-    record {
-      start = afterAll (madeWith g) (joinsOn sheet);
-      isFresh = seated-fresh (madeWith g) (justMade g (in-range g (l .settings))) (readSeats (seatCount sheet) sheet 0);
-      past = [];
-      holds = l .holds;
-      same = refl;
-    }
+    record { start = afterAll (madeWith (settingsOn sheet)) (joinsOn sheet); isFresh = l .isFresh; past = []; holds = l .holds; same = refl }
 reached d rows (called {d = c} {rows = rs} r x p w) = calls-on c rs (reached c rs r) x p w
 reached d rows (notMade {d = c} {rows = rs} r g n d′ p z) =
     subst (λ (s : List ℕ). Reached s rs) (sym (not-made c g n d′ p z)) (reached c rs r)
