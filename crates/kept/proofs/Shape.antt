@@ -30,7 +30,7 @@ use Rattle.ways.proofs.Walk.{every-way}
 use Rattle.reach.specs.Sound.{HallOk}
 use Rattle.reach.proofs.Hall.{hall-ok}
 use Rattle.reach.proofs.InLine.{present-below}
-use Rattle.report.specs.Reported.{KindFits, MessageFits, MarksFit, Shaped}
+use Rattle.reports.specs.Reported.{KindFits, MessageFits, MarksFit, Shaped}
 use Rattle.kept.specs.Kept.{deskAt, reportOf, StepShaped}
 use Rattle.kept.proofs.All.{All, all-at}
 use Rattle.kept.proofs.Narrow.{Small, none-small, waiting-small, line-small, enter-small, without-small, asker-small}

@@ -28,7 +28,7 @@ use Rattle.sheet.specs.Layout.{Seat, seatsOf}
 use Rattle.sheet.specs.Loading.{Load, Seats, whole, fault, settingsAt, settingsPlace, seatCount, readSeats}
 use Rattle.sheets.specs.Sheets.{IsDesk}
 use Rattle.form.specs.Form.{octetsOf, coreAt, hallAt, namesAt}
-use Rattle.report.specs.Reported.{Reported, Shaped}
+use Rattle.reports.specs.Reported.{Reported, Shaped}
 use Rattle.floor.specs.declared.Named.{Named}
 use Rattle.floor.specs.declared.Named.the-variants.{Known, Unknown}
 use Rattle.floor.specs.Floor.{formed, newcomer, seatNumbered, timerNamed, notRunning, settable, signed, looks, screened}

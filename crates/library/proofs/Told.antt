@@ -22,8 +22,8 @@ use Rattle.history.specs.Doing.{Desk, Doing, event, leaves as leaving, joins as
 use Rattle.call.specs.Call.{eventOf, byReading, hears}
 use Rattle.demands.specs.Demands.{Report, ofDoing}
 use Rattle.form.specs.Form.{coreAt, hallAt, namesAt}
-use Rattle.report.specs.Reported.{octetsFor, Shaped}
-use Rattle.report.proofs.Reported.{says-the-report, twenty-four}
+use Rattle.reports.specs.Reported.{octetsFor, Shaped}
+use Rattle.reports.proofs.Reported.{says-the-report, twenty-four}
 use Rattle.floor.specs.declared.Named.{Named}
 use Rattle.floor.specs.declared.Named.the-variants.{Known, Unknown}
 use Rattle.floor.specs.Floor.{formed, Leaves, leaves, settles, calledOn, eventOn, firedOn, leftOn, leaveOn, seatNumbered, timerNamed, newcomer, joinOn}

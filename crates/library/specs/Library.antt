@@ -30,7 +30,7 @@ use Rattle.marks.specs.Marks.{isSeat}
 use Rattle.demands.specs.Demands.{happens, History, deskAfter, Report, Row, log, isPlaced, isStruck, isGivenOut, isGivenAny, isEnded, times, standing, lineFrom, holderFrom, placeOf, inLine, reasonOf, ComesFirst}
 use Rattle.form.specs.Form.{hallAt}
 use Rattle.form.specs.Columns.{column}
-use Rattle.report.specs.Reported.{reportIn}
+use Rattle.reports.specs.Reported.{reportIn}
 use Rattle.floor.specs.Promises.{LoadPromise, ScreenPromise, PhasePromise, HolderPromise}
 use Rattle.kept.specs.Kept.{Holds, deskIn, FloorMake, Act, floorJoin, floorLeave, floorStart, floorStop, floorPacket, floorMedia, floorTimer, Call, Promised, ActFits, done}
 

@@ -1,3 +1,2 @@
--- The laws of a set as a number, and of a report and its octets.
+-- The laws of a set as a number.
 pub mod Masks
-pub mod Reported

@@ -20,11 +20,11 @@ use Rattle.rules.specs.declared.Mark.the-variants.{NoSeat, Seat}
 use Rattle.rules.specs.declared.Given.{Given}
 use Rattle.rules.specs.declared.Given.the-variants.{NotGiven, AtOnce, OutOfLine}
 use Rattle.rules.specs.declared.Marks.{Marks}
 use Rattle.report.specs.declared.Particulars.{Particulars}
 use Rattle.report.specs.declared.Told.the-variants.{Says}
 use Rattle.report.specs.Report.{maskOf, seatOctet, givenOctet, howOctet, with, particulars, messageOctets, marksOctets, reportOctets, particularsAt, kindOf, alike, saidBy, messageIn}
-use Rattle.report.specs.Reported.{Reported, octetsFor, seatsIn, setOf, markOf, givenOf, marksIn, messageAt, reportIn, isMark, isHow, areMarks, isMessage, isMessageAt, isReport, MarkFits, GivenFits, KindFits, MessageFits, MarksFit, Shaped, SaysTheReport, WrittenBack, HasOctets, SaysAReport, SameMessages}
+use Rattle.reports.specs.Reported.{Reported, octetsFor, seatsIn, setOf, markOf, givenOf, marksIn, messageAt, reportIn, isMark, isHow, areMarks, isMessage, isMessageAt, isReport, MarkFits, GivenFits, KindFits, MessageFits, MarksFit, Shaped, SaysTheReport, WrittenBack, HasOctets, SaysAReport, SameMessages}
 use Rattle.report.proofs.Masks.{mask-fits}
 
 same : (n : ℕ) → eqb n n ≡ true
 same n = eq-eqb n n refl
