@@ -1,5 +1,6 @@
 -- Loading (document 01, "The sheet", 41 to 45), for any octets whatever. Assumes nothing.
 use Prim.Native.Nat.{ℕ, zero, suc, _+_, _-_, _/_, _%_}
+use mathlib.Core.Path.{_≡_}
 use mathlib.Core.Bool.{Bool, not, _&&_, _||_}
 use mathlib.Core.List.{List, [], _∷_}
 use lib.Dec.{ltb, leb, eqb}
@@ -148,3 +149,7 @@ number SeatAtFault = 45
 
 abbrev pub told : Loading → Load
 told l = record { number = number (l .verdict); core = l .core; hall = l .hall; names = l .names }
+
+-- what `sheet::load` promises of its answer r
+abbrev pub Loads : List ℕ → Loading → Type 0
+Loads s r = told r ≡ loading s

@@ -1,5 +1,6 @@
 -- Saving (document 01, "The sheet", and 13): its answer, and the room once it has answered. Assumes nothing.
 use Prim.Native.Nat.{ℕ}
+use mathlib.Core.Path.{_≡_}
 use mathlib.Core.Bool.{Bool}
 use mathlib.Core.List.{List}
 use lib.Dec.{ltb}
@@ -33,3 +34,7 @@ roomAfter h ns room = if tooShort h ns room then room else over room 0 (sheetOf 
 abbrev pub told : Saving → Save
 told (Saved n) = record { number = 0; written = n }
 told NoRoom = record { number = 13; written = 0 }
+
+-- what `sheet::save` promises of its answer r
+abbrev pub Saves : Hall → Names → List ℕ → Saving → Type 0
+Saves h ns room r = told r ≡ saving h ns room

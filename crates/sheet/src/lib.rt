@@ -14,9 +14,9 @@ ghost use Rattle.octets.specs.Octets.{over};
 ghost use Rattle.hall.specs.Seats.{emptyHall};
 ghost use Rattle.hall.specs.Identity.{octetsOf, noNames};
 ghost use Rattle.sheet.specs.Layout.{Seat, flags, whoSits, seatOctets, seatsOctets, seatsOf, settingsOctets, trailer};
-ghost use Rattle.sheet.specs.Saving.{saving, roomAfter};
+ghost use Rattle.sheet.specs.Saving.{roomAfter, Saves};
 ghost use Rattle.sheet.specs.Saving as saves;
-ghost use Rattle.sheet.specs.Loading.{refused, loaded, settingsAt, whoIs, laidOut, readSeats, seatAll, settled, loading, number};
+ghost use Rattle.sheet.specs.Loading.{refused, loaded, settingsAt, whoIs, laidOut, readSeats, seatAll, settled, number, Loads};
 ghost use Rattle.sheet.specs.Loading as loads;
 ghost use Rattle.sheet.specs.Walk.{octetsAt, countAt, Measured, turnAt, Framed};
 
@@ -202,7 +202,7 @@ fn put_trailer(room: &mut [u8], at: usize, offset: u16, count: u8)
 
 // Saves the seats and settings into the room; with too little room it writes nothing.
 pub fn save(hall: Hall, names: Names, room: &mut [u8]) -> Saving
-    ensures { λ r. ⌜ saves.told r ≡ saving hall names (now (room .entry)) ⌝ }
+    ensures { λ r. ⌜ Saves hall names (now (room .entry)) r ⌝ }
     ensures { λ _. ⌜ now (room .exit) ≡ roomAfter hall names (now (room .entry)) ⌝ }
     ensures { λ r. ⌜ saves.told r .written ≤ 1124 ⌝ }
 {
@@ -401,7 +401,7 @@ fn settle(s: &[u8]) -> Loading
 
 // Loads a sheet: a fresh desk with its settings and its seats, numbered from 0 in sheet order, or the first refusal that applies.
 pub fn load(s: &[u8]) -> Loading
-    ensures { λ r. ⌜ loads.told r ≡ loading (now (s .entry)) ⌝ }
+    ensures { λ r. ⌜ Loads (now (s .entry)) r ⌝ }
 {
     let verdict = judge_trailer(s);
     match verdict {

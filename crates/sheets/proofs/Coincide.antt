@@ -49,4 +49,4 @@ saving-again (Saved n) = refl
 saving-again NoRoom = refl
 
 pub savings-coincide : SavingsCoincide
-savings-coincide a b e = sym (saving-again a) ∙ ap savingOf e ∙ saving-again b
+savings-coincide h ns room a b e f = sym (saving-again a) ∙ ap savingOf (e ∙ sym f) ∙ saving-again b

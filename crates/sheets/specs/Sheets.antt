@@ -17,8 +17,8 @@ use Rattle.reach.specs.Sound.{SeatsOk}
 use Rattle.sheet.specs.declared.Loading.{Loading}
 use Rattle.sheet.specs.declared.Saving.{Saving}
 use Rattle.sheet.specs.Layout.{Seat, seatsOf, sheetOf}
-use Rattle.sheet.specs.Loading.{Load, loading, told as toldByLoad}
-use Rattle.sheet.specs.Saving.{told as toldBySave}
+use Rattle.sheet.specs.Loading.{Load, loading, Loads}
+use Rattle.sheet.specs.Saving.{Saves}
 
 -- a fresh desk with these seats, numbered from 0 in this order, and these settings
 pub record IsDesk (l : Load) (xs : List Seat) (st : Settings) : Type 0 where
@@ -56,9 +56,9 @@ pub record Lengths : Type 0 where
   pub shortest : (h : Hall) (ns : Names) → 20 ≤ length (sheetOf h ns)
   pub longest : (h : Hall) (ns : Names) → SeatsOk h ns → length (sheetOf h ns) ≤ 1124
 
--- Loading is a function of the octets alone, and no promise leaves a choice (proofs/Coincide): two answers told alike are the same answer.
+-- No promise leaves a choice (proofs/Coincide): two answers that `sheet::load` or `sheet::save` may give are the same answer.
 abbrev pub LoadingsCoincide : Type 0
-LoadingsCoincide = (s : List ℕ) (a b : Loading) → toldByLoad a ≡ loading s → toldByLoad b ≡ loading s → a ≡ b
+LoadingsCoincide = (s : List ℕ) (a b : Loading) → Loads s a → Loads s b → a ≡ b
 
 abbrev pub SavingsCoincide : Type 0
-SavingsCoincide = (a b : Saving) → toldBySave a ≡ toldBySave b → a ≡ b
+SavingsCoincide = (h : Hall) (ns : Names) (room : List ℕ) (a b : Saving) → Saves h ns room a → Saves h ns room b → a ≡ b
