@@ -27,7 +27,7 @@ use Rattle.call.specs.Call.{eventOf, ofStep, unread, byReading, hears}
 use Rattle.form.specs.Form.{coreAt, hallAt, namesAt}
 use Rattle.floor.specs.declared.Named.{Named}
 use Rattle.floor.specs.declared.Named.the-variants.{Known, Unknown}
-use Rattle.floor.specs.Floor.{formed, Leaves, leaves, settles, calledOn, eventOn, notRunning, firedOn, leftOn, leaveOn, seatNumbered, timerNamed, newcomer, written, joinOn, settable, looks, answers, screenOn, saveOn, messageOn}
+use Rattle.floor.specs.Floor.{formed, Leaves, leaves, settles, calledOn, eventOn, notRunning, firedOn, leftOn, leaveOn, seatNumbered, timerNamed, newcomer, written, joinOn, settable, signed, looks, answers, screenOn, saveOn, messageOn}
 use Rattle.floor.proofs.Desks.{has-room, no-desk-so}
 use Rattle.kept.specs.Kept.{deskAt, Act, floorJoin, floorLeave, floorStart, floorStop, floorPacket, floorMedia, floorTimer, PromisedBy, ruledOn, readRuled, timerRuled, ruled, RefusalWritesNothing, NotMade, NotLoaded, NotADesk, NotLookedAt, Unread, NotWrittenFrom, RulesAnswer}
 
@@ -108,9 +108,22 @@ join-no-desk : (d o : List ℕ) (w : Newcomer) → formed d ≡ false → joinOn
 unfolding if_then_else_
 join-no-desk d o w q = rw q
 
-pub not-looked-at : NotLookedAt
+no-look : (d : List ℕ) (a : Answer ℕ) → formed d ≡ false → looks d a ≡ signed (refused 20)
 unfolding looks if_then_else_
-not-looked-at d a q = rw q
+no-look d a q = rw q
+
+pub not-looked-at : NotLookedAt
+not-looked-at d n q = (
+  λ p. p ∙ no-look d _ q,
+  λ p. p ∙ no-look d _ q,
+  λ p. p ∙ no-look d _ q,
+  λ p. p ∙ no-look d _ q,
+  λ p. p ∙ no-look d _ q,
+  λ p. p ∙ no-look d _ q,
+  λ p. p ∙ no-look d _ q,
+  λ x p. p ∙ no-look d _ q,
+  λ o p. p ∙ no-look d _ q,
+)
 
 no-screen : (d room : List ℕ) → formed d ≡ false → screenOn d room ≡ answers (refused 20) room
 unfolding if_then_else_

@@ -31,8 +31,8 @@ use Rattle.form.specs.Form.{octetsOf, coreAt, hallAt, namesAt}
 use Rattle.reports.specs.Reported.{Reported, Shaped}
 use Rattle.floor.specs.declared.Named.{Named}
 use Rattle.floor.specs.declared.Named.the-variants.{Known, Unknown}
-use Rattle.floor.specs.Floor.{formed, newcomer, seatNumbered, timerNamed, notRunning, settable, signed, looks, screened}
-use Rattle.floor.specs.Promises.{MakePromise, JoinPromise, LeavePromise, StartPromise, StopPromise, PacketPromise, MediaPromise, TimerPromise, MessagePromise, SavePromise, LoadPromise, ScreenPromise}
+use Rattle.floor.specs.Floor.{formed, newcomer, seatNumbered, timerNamed, notRunning, settable, signed, screened}
+use Rattle.floor.specs.Promises.{MakePromise, JoinPromise, LeavePromise, StartPromise, StopPromise, PacketPromise, MediaPromise, TimerPromise, MessagePromise, SavePromise, LoadPromise, ScreenPromise, PhasePromise, HolderPromise, RunningPromise, SequencePromise, C7Promise, C20Promise, SeatsPromise, SeatBySsrcPromise, SeatByIdentityPromise}
 
 -- WHAT A C PROGRAM HAS
 
@@ -169,11 +169,17 @@ abbrev pub NotADesk : Type 0
 NotADesk = (d : List ℕ) (x : Call) → Promised d x → formed d ≡ false → x .answer ≡ 20
 
 -- the functions that look at a desk answer minus 20, and those with a room leave it as it was
+abbrev pub Minus20 : ℤ → Type 0
+Minus20 answer = answer ≡ signed (refused 20)
+
 abbrev pub NotLookedAt : Type 0
-NotLookedAt = (d : List ℕ) (a : Answer ℕ) → formed d ≡ false → looks d a ≡ signed (refused 20)
+NotLookedAt = (d : List ℕ) (n : ℤ) → formed d ≡ false →
+    (PhasePromise d n → Minus20 n) × (HolderPromise d n → Minus20 n) × (RunningPromise d n → Minus20 n)
+    × (SequencePromise d n → Minus20 n) × (C7Promise d n → Minus20 n) × (C20Promise d n → Minus20 n) × (SeatsPromise d n → Minus20 n)
+    × ((ssrc : ℕ) → SeatBySsrcPromise d ssrc n → Minus20 n) × ((identity : List ℕ) → SeatByIdentityPromise d identity n → Minus20 n)
 
 abbrev pub Unread : ℤ → List ℕ → List ℕ → Type 0
-Unread answer room room′ = (answer ≡ signed (refused 20)) × (room′ ≡ room)
+Unread answer room room′ = Minus20 answer × (room′ ≡ room)
 
 abbrev pub NotWrittenFrom : Type 0
 NotWrittenFrom = (d room : List ℕ) (n : ℤ) (room′ : List ℕ) → formed d ≡ false →
