@@ -3,20 +3,19 @@ use Prim.Native.Nat.{ℕ, _<_}
 use mathlib.Core.Path.{_≡_, refl, ap, sym, _∙_}
 use mathlib.Core.Bool.{Bool, true, false, not, _&&_, _||_, or-true}
 use mathlib.Core.List.{List, [], _∷_}
-use native.Mathlib.Omega.{arith}
 use lib.Dec.{eqb}
 use lib.ListN.{getD}
 use borrow.Author.Tests.{eqb-true, eq-eqb, ne-eqb}
 use Rattle.words.specs.Choice.{if_then_else_, if-yes, if-no, by-test, by-if}
 use Rattle.words.specs.Table.{getD-fill}
-use Rattle.words.proofs.Tests.{clash, and-no, or-left, or-right, neither}
+use Rattle.words.proofs.Tests.{clash, and-no, or-left, or-right}
 use Rattle.line.specs.declared.Entry.{Entry}
-use Rattle.line.specs.Line.{waiting, isIn, enter, without, seatsOf, nobody as no-one, priorityOf}
+use Rattle.line.specs.Line.{waiting, isIn, without, seatsOf, nobody as no-one, priorityOf}
 use Rattle.hall.specs.declared.Hall.{Hall}
 use Rattle.hall.specs.Seats.{only, receivesOnly}
 use Rattle.rules.specs.declared.Core.{Core}
 use Rattle.rules.specs.declared.Mark.{Mark}
-use Rattle.rules.specs.declared.Mark.the-variants.{NoSeat, Seat}
+use Rattle.rules.specs.declared.Mark.the-variants.{NoSeat}
 use Rattle.rules.specs.declared.Given.the-variants.{OutOfLine}
 use Rattle.rules.specs.declared.Marks.{Marks}
 use Rattle.rules.specs.Floor.{holds}
@@ -30,7 +29,7 @@ use Rattle.ways.specs.Ways.{Unmoved, quiet, holder, listener, outside, samePrio
 use Rattle.ways.proofs.Walk.{idle-quiet}
 use Rattle.ways.proofs.Laws.{idle-none}
 use Rattle.marks.specs.Marks.{isSeat}
-use Rattle.marks.proofs.InLine.{in-nil, in-cons, in-without, only-at, in-added}
+use Rattle.marks.proofs.InLine.{in-nil, in-cons, first-in, only-at, gone-out, in-added}
 use Rattle.marks.proofs.Did.{Did, rests, gives, places, shifts, strikes, passes, frees, halts, closes}
 use Rattle.reach.specs.Sound.{Sound}
 use Rattle.reach.proofs.Reach.{fits}
@@ -50,7 +49,7 @@ without-all : (seats : List Bool) (es : List Entry) → ((s : ℕ) → isIn s es
 unfolding without
 without-all seats [] f = refl
 without-all seats (e ∷ es) f =
-    if-yes _ _ _ (f (e .seat) (in-cons (e .seat) e es ∙ rw (eq-eqb (e .seat) (e .seat) refl)))
+    if-yes _ _ _ (f (e .seat) (first-in e es))
     ∙ without-all seats es (λ s q. f s (in-cons s e es ∙ rw q (or-true (eqb (e .seat) s))))
 
 all-struck : (es : List Entry) → ((s : ℕ) → isIn s es ≡ true → s < 16) → without (seatsOf es) es ≡ []
@@ -257,7 +256,7 @@ module _ (d : Desk) (x : Doing) (new : Core) (m : Marks) where
         (λ z. other-place s t p a z (unstruck s (struckOf e)) (ap (isGivenOut s) e) (ap (isPlaced s) e ∙ z) ∙ sym (ap (placeIn s) l ∙ n ∙ if-no _ _ _ z))
     place-changed (shifts t p b a w o l f e) s =
         let y = without (only t) before in
-        let n = place-enter s (entry t p) y (in-without t (only t) before ∙ and-no (isIn t before) _ (ap not (only-at t t b ∙ eq-eqb t t refl))) in
+        let n = place-enter s (entry t p) y (gone-out t before b) in
         by-test (eqb t s)
         (λ z.
         let i : isIn s before ≡ true = ap (λ (v : ℕ). isIn v before) (sym (eqb-true t s z)) ∙ w in

@@ -1,14 +1,14 @@
 -- Statement 3: of two who wait at one priority, the one in front was placed or moved before the other. Assumes nothing.
 use Prim.Native.Nat.{ℕ, suc, _≤_, _<_}
 use mathlib.Core.Path.{_≡_, refl, ap, sym, _∙_}
-use mathlib.Core.Bool.{Bool, true, false, not, _&&_, _||_, or-true}
+use mathlib.Core.Bool.{Bool, true, false, _&&_, _||_, or-true}
 use mathlib.Core.List.{List, [], _∷_}
 use native.Mathlib.Omega.{arith}
 use lib.Dec.{eqb, leb}
 use lib.ListN.{length, getD}
 use borrow.Author.Tests.{eqb-true, eq-eqb, ne-eqb, leb-false}
 use Rattle.words.specs.Choice.{if_then_else_, if-yes, if-no, by-test, by-if}
-use Rattle.words.proofs.Tests.{clash, and-no, or-left, or-right, or-else, neither}
+use Rattle.words.proofs.Tests.{clash, or-left, or-right, or-else, neither}
 use Rattle.line.specs.declared.Entry.{Entry}
 use Rattle.line.specs.Line.{waiting, isIn, enter, without, priorityOf}
 use Rattle.line.proofs.Laws.{enter-nil, enter-cons}
@@ -22,7 +22,7 @@ use Rattle.history.specs.Doing.{Desk, Doing, does, Fresh}
 use Rattle.history.specs.Asking.{Asking, nobody, asks, asking}
 use Rattle.ways.specs.Ways.{Unmoved, quiet}
 use Rattle.ways.proofs.Walk.{idle-quiet}
-use Rattle.marks.proofs.InLine.{in-nil, in-cons, in-without, only-at}
+use Rattle.marks.proofs.InLine.{in-nil, in-cons, first-in, gone-out}
 use Rattle.marks.proofs.Did.{Did, rests, gives, places, shifts, strikes, passes, frees, halts, closes}
 use Rattle.reach.specs.Sound.{AtMost, Sorted, Sound}
 use Rattle.reach.proofs.InLine.{without-ok}
@@ -40,9 +40,6 @@ Later at e (x ∷ xs) = (x .priority ≡ e .priority → at (e .seat) < at (x .s
 abbrev pub InOrder : (ℕ → ℕ) → List Entry → Type 0
 InOrder at [] = Unit
 InOrder at (e ∷ es) = Later at e es × InOrder at es
-
-first-in : (x : Entry) (xs : List Entry) → isIn (x .seat) (x ∷ xs) ≡ true
-first-in x xs = in-cons (x .seat) x xs ∙ rw (eq-eqb (x .seat) (x .seat) refl)
 
 behind-in : (s : ℕ) (x : Entry) (xs : List Entry) → isIn s xs ≡ true → isIn s (x ∷ xs) ≡ true
 behind-in s x xs q = in-cons s x xs ∙ rw q (or-true (eqb (x .seat) s))
@@ -134,7 +131,7 @@ module _ (d : Desk) (x : Doing) (new : Core) (m : Marks) (at : ℕ → ℕ) (n :
       (λ s z. kept s (ap (isPlaced s) e ∙ z) (other t p s q z)) (ok .core .line .list .sorted) k)
   order-kept (shifts t p b q w o l f e) =
       rw l (comes t p (without (only t) line)
-      (in-without t (only t) line ∙ and-no (isIn t line) _ (ap not (only-at t t b ∙ eq-eqb t t refl)))
+      (gone-out t line b)
       (if-yes (isPlaced t m || isMoved t a (placeIn t line)) (suc n) (at t)
       (or-right (isPlaced t m) (isMoved t a (placeIn t line)) (ap (λ (y : Asking). isMoved t y (placeIn t line)) q ∙ moved-by t t p line ∙ rw (eq-eqb t t refl, moves-so t p line w o))))
       (λ s z. kept s (ap (isPlaced s) e) (other t p s q z))

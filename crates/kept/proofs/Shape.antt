@@ -5,12 +5,12 @@ use mathlib.Core.Bool.{Bool, true, false}
 use mathlib.Core.List.{List, [], _∷_}
 use native.Mathlib.Omega.{arith}
 use lib.ListN.{length, set, length-take, length-set}
-use borrow.Author.Tests.{eq-eqb, ltb-true}
-use Rattle.words.specs.Choice.{if_then_else_, by-if}
+use borrow.Author.Tests.{ltb-true}
+use Rattle.words.specs.Choice.{by-if}
 use Rattle.line.specs.declared.Entry.{Entry}
 use Rattle.line.specs.declared.Line.{Line}
 use Rattle.line.specs.Line.{waiting, lineOf, empty, before, priorityOf, isIn, enter, without, added, seatsOf, nobody}
-use Rattle.marks.proofs.InLine.{in-cons}
+use Rattle.marks.proofs.InLine.{first-in}
 use Rattle.hall.specs.declared.Hall.{Hall}
 use Rattle.hall.specs.Seats.{isPresent, queues, only, everybody, others}
 use Rattle.rules.specs.declared.Phase.the-variants.{Taken}
@@ -82,9 +82,6 @@ line-short es = simp length-take (omega arith)
 lined-small : (es : List Entry) → All Small es → All Small (waiting (lineOf es))
 lined-small es k = waiting-small (lineOf es) (line-small es k)
 
-head-in : (e : Entry) (es : List Entry) → isIn (e .seat) (e ∷ es) ≡ true
-head-in e es = in-cons (e .seat) e es ∙ rw (eq-eqb (e .seat) (e .seat) refl)
-
 -- marks
 unmarked : MarksFit noMarks
 unmarked = record { placed = tt; struck = refl; ended = tt; given = tt }
@@ -142,7 +139,7 @@ module _ (d : Desk) (k : Right d) where
         rw m (record { first = y .0; second = y .1; marks = record { placed = s .below; struck = refl; ended = tt; given = tt } })
     shaped (way.passes t e es a f n w q m) =
         let y : All Small (e ∷ es) = rw w at there in
-        let b : e .seat < 16 = seat-below (e .seat) (k .sound .core .line .list .here (e .seat) (rw w (head-in e es))) in
+        let b : e .seat < 16 = seat-below (e .seat) (k .sound .core .line .list .here (e .seat) (rw w (first-in e es))) in
         rw m (record {
           first = to-one (say.Granted (e .priority)) (y .0 .1) (e .seat);
           second = takes (e .seat) (next (d .core .sequence)) b (next-small (d .core .sequence));

@@ -1,5 +1,5 @@
 -- The two accounts of a step, by the nine things that it can do. Assumes nothing.
-use Prim.Native.Nat.{ℕ, _+_, _<_}
+use Prim.Native.Nat.{ℕ, _+_}
 use mathlib.Core.Path.{_≡_, refl, ap, sym, _∙_}
 use mathlib.Core.Bool.{Bool, true, false, not, _&&_, _||_}
 use mathlib.Core.List.{List, [], _∷_}
@@ -15,7 +15,6 @@ use Rattle.line.specs.Line.{waiting, isIn, without, seatsOf, nobody}
 use Rattle.hall.specs.Seats.{only}
 use Rattle.rules.specs.declared.Core.{Core}
 use Rattle.rules.specs.declared.Marks.{Marks}
-use Rattle.rules.specs.Floor.{holds}
 use Rattle.rules.specs.Request.{entry, waits}
 use Rattle.history.specs.Doing.{Desk, Doing, does}
 use Rattle.ways.proofs.Walk.{every-way}

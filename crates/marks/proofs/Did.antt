@@ -1,37 +1,36 @@
 -- What a step can do to the line and the floor is one of nine things, each with its marks. Assumes nothing.
 use Prim.Native.Nat.{ℕ, _≤_, _<_}
 use mathlib.Core.Path.{_≡_, refl, ap, sym, _∙_}
-use mathlib.Core.Bool.{Bool, true, false}
+use mathlib.Core.Bool.{true, false}
 use mathlib.Core.List.{List, [], _∷_}
 use native.Mathlib.Omega.{arith}
 use lib.Dec.{eqb}
 use lib.ListN.{length}
-use borrow.Author.Tests.{eqb-false, eq-eqb, leb-false}
-use Rattle.words.specs.Choice.{by-test}
+use borrow.Author.Tests.{leb-false}
 use Rattle.line.specs.declared.Entry.{Entry}
 use Rattle.line.specs.declared.Line.{Line}
 use Rattle.line.specs.Line.{waiting, lineOf, isIn, enter, without, seatsOf, nobody as no-one, priorityOf}
 use Rattle.line.proofs.Laws.{waiting-lineOf, without-le, enter-length}
 use Rattle.hall.specs.Seats.{only, receivesOnly}
 use Rattle.rules.specs.declared.Phase.{Phase}
-use Rattle.rules.specs.declared.Phase.the-variants.{Stopped, Idle, Taken, Revoking}
+use Rattle.rules.specs.declared.Phase.the-variants.{Stopped}
 use Rattle.rules.specs.declared.Core.{Core}
 use Rattle.rules.specs.declared.Mark.the-variants.{NoSeat, Seat}
 use Rattle.rules.specs.declared.Given.the-variants.{NotGiven, AtOnce, OutOfLine}
 use Rattle.rules.specs.declared.Marks.{Marks}
 use Rattle.rules.specs.declared.Report.{Report}
-use Rattle.rules.specs.Words.{noMarks, _withLine_}
+use Rattle.rules.specs.Words.{noMarks}
 use Rattle.rules.specs.Floor.{holds}
-use Rattle.rules.specs.Request.{isIdle, entry, waits, full, priorityIn, moved}
+use Rattle.rules.specs.Request.{isIdle, entry, waits, full, priorityIn}
 use Rattle.desk.specs.declared.Left.{Left}
 use Rattle.history.specs.Doing.{Desk, Doing, event, deskOf}
 use Rattle.history.specs.Asking.{nobody, asks, asking, givesUp, stopsCall}
-use Rattle.ways.specs.Ways.{marks, Sits, Unmoved, samePriority, holder}
+use Rattle.ways.specs.Ways.{marks, Unmoved, samePriority, holder}
 use Rattle.ways.specs.Ways as way
 use Rattle.ways.proofs.Apart.{this-one, not-asked}
 use Rattle.ways.proofs.Laws.{six-line, six-holds, idle-none}
 use Rattle.marks.specs.Marks.{Fit}
-use Rattle.marks.proofs.InLine.{in-cons, only-at, without-less}
+use Rattle.marks.proofs.InLine.{first-in, one-less}
 
 -- `new` is the core that the step leaves, and `m` its marks
 pub data Did (d : Desk) (x : Doing) (new : Core) (m : Marks) : Type 0 where
@@ -95,7 +94,7 @@ module _ (d : Desk) (x : Doing) (l : Left) (f : Fit (d .core) (d .hall)) where
   emptied q r = short (core-line q) r (omega arith)
 
   head-in : (e : Entry) (es : List Entry) → line ≡ e ∷ es → isIn (e .seat) line ≡ true
-  head-in e es w = ap (isIn (e .seat)) w ∙ in-cons (e .seat) e es ∙ rw (eq-eqb (e .seat) (e .seat) refl)
+  head-in e es w = ap (isIn (e .seat)) w ∙ first-in e es
 
   pub did : way.Way d x l → Did d x (l .core) (l .report .marks)
   unfolding waits full priorityIn
@@ -106,7 +105,7 @@ module _ (d : Desk) (x : Doing) (l : Left) (f : Fit (d .core) (d .hall)) where
   did (way.asksAgain t p g o a s k z m) = same (this t p a (samePriority k)) (six-line z) (six-holds z) (report-marks m)
   did (way.moves t p g o a s b n w k z m) =
       let y = without (only t) line in
-      let r : length y < length line = without-less t (only t) line (only-at t t (s .below) ∙ eq-eqb t t refl) w in
+      let r : length y < length line = one-less t line (s .below) w in
       shifts t p (s .below) a w k (short (six-line z) refl (rw (enter-length (entry t p) y) (omega (arith, f .room)))) (six-holds z) (report-marks m)
   did (way.places t p g o a s b n r w k z m) =
       let y : length line < d .hall .settings .limit = leb-false _ _ k in

@@ -26,6 +26,10 @@ in-cons s e es =
     (λ q. rw q (lt-ltb 0 (suc (length es)) (omega arith)))
     (λ q. rw q (leb·suc-suc (suc (leading (isOther s) es)) (length es)))
 
+-- the head of a line is in it
+pub first-in : (e : Entry) (es : List Entry) → isIn (e .seat) (e ∷ es) ≡ true
+first-in e es = in-cons (e .seat) e es ∙ rw (eq-eqb (e .seat) (e .seat) refl)
+
 pub in-append : (s : ℕ) (a b : List Entry) → isIn s (a ++ b) ≡ (isIn s a || isIn s b)
 in-append s [] b = rw (in-nil s)
 in-append s (e ∷ a) b = rw (in-cons s e (a ++ b), in-cons s e a, in-append s a b) (sym (or-assoc (eqb (e .seat) s) (isIn s a) (isIn s b)))
@@ -85,11 +89,18 @@ without-less t seats (e ∷ es) h i =
         (λ x. let z : _≡_ {A = ℕ} 0 1 = (let y : getD seats t false ≡ false = ap (λ (n : ℕ). getD seats n false) (sym (eqb-true (e .seat) t x)) ∙ q in cc) in absurd (omega arith))
         (λ x. rw x at (sym (in-cons t e es) ∙ i))
 
+-- so of one seat alone: it is not in line any more, and the line is shorter by it
+pub gone-out : (t : ℕ) (es : List Entry) → t < 16 → isIn t (without (only t) es) ≡ false
+gone-out t es b = in-without t (only t) es ∙ rw (only-at t t b, eq-eqb t t refl) (and-false (isIn t es))
+
+pub one-less : (t : ℕ) (es : List Entry) → t < 16 → isIn t es ≡ true → length (without (only t) es) < length es
+one-less t es b w = without-less t (only t) es (only-at t t b ∙ eq-eqb t t refl) w
+
 -- the set of those in line, where all sit below 16
 pub in-added : (s : ℕ) (seats : List Bool) (es : List Entry) → length seats ≡ 16 → ((t : ℕ) → isIn t es ≡ true → t < 16) → getD (added seats es) s false ≡ (getD seats s false || isIn s es)
 in-added s seats [] h f = rw (in-nil s) (sym (or-false (getD seats s false)))
 in-added s seats (e ∷ es) h f =
-    let i : e .seat < length seats = rw h (f (e .seat) (in-cons (e .seat) e es ∙ rw (eq-eqb (e .seat) (e .seat) refl))) in
+    let i : e .seat < length seats = rw h (f (e .seat) (first-in e es)) in
     in-added s (set seats (e .seat) true) es (length-set seats (e .seat) true ∙ h) (λ t q. f t (in-cons t e es ∙ rw q (or-true (eqb (e .seat) t))))
     ∙ by-test (eqb (e .seat) s)
     (λ q. let x : e .seat ≡ s = eqb-true (e .seat) s q in

@@ -1,14 +1,14 @@
 -- Whatever way a step goes, it keeps a core right; and who leaves neither holds the floor nor waits any more. Assumes nothing.
-use Prim.Native.Nat.{ℕ, _+_, _<_}
+use Prim.Native.Nat.{ℕ, _<_}
 use mathlib.Core.Path.{_≡_, refl, ap, sym, _∙_}
 use mathlib.Core.Bool.{Bool, true, false, not, _&&_, _||_}
 use mathlib.Core.List.{List, [], _∷_}
 use native.Mathlib.Omega.{arith}
 use lib.Dec.{eqb}
 use lib.ListN.{length, getD}
-use borrow.Author.Tests.{eqb-true, eq-eqb, leb-false}
+use borrow.Author.Tests.{eqb-true, leb-false}
 use Rattle.words.specs.Choice.{by-test}
-use Rattle.words.proofs.Tests.{clash, and-no, neither-left}
+use Rattle.words.proofs.Tests.{clash, neither-left}
 use Rattle.line.specs.declared.Entry.{Entry}
 use Rattle.line.specs.Line.{waiting, lineOf, isIn, enter, without}
 use Rattle.line.proofs.Laws.{waiting-lineOf, without-le}
@@ -25,12 +25,12 @@ use Rattle.rules.specs.Floor.{holds}
 use Rattle.rules.specs.Request.{entry, waits, full}
 use Rattle.desk.specs.declared.Left.{Left}
 use Rattle.history.specs.Doing.{Desk, Doing, leaves}
-use Rattle.marks.proofs.InLine.{in-nil, in-cons, in-enter, in-without, only-at, without-less}
+use Rattle.marks.proofs.InLine.{in-nil, in-cons, first-in, in-enter, in-without, gone-out, one-less}
 use Rattle.ways.specs.Ways.{isBusy, Six, informs, presses, informsAndPresses}
 use Rattle.ways.specs.Ways as way
 use Rattle.ways.proofs.Apart.{no-event, asks-nobody}
 use Rattle.ways.proofs.Walk.{idle-quiet}
-use Rattle.reach.specs.Sound.{ListOk, LineOk, FloorOk, NumbersOk, HallOk, CoreOk, causeOk}
+use Rattle.reach.specs.Sound.{ListOk, FloorOk, HallOk, CoreOk, causeOk}
 use Rattle.reach.proofs.InLine.{none-ok, without-ok, enter-ok, line-ok, present-below}
 
 next-below : (n : ℕ) → next n < 65536
@@ -44,10 +44,7 @@ without-nil : (seats : List Bool) → without seats [] ≡ []
 unfolding without
 without-nil seats = refl
 
--- who was struck off, or was not in line, is not in line
-gone-out : (t : ℕ) (es : List Entry) → t < 16 → isIn t (without (only t) es) ≡ false
-gone-out t es b = in-without t (only t) es ∙ and-no (isIn t es) _ (ap not (only-at t t b ∙ eq-eqb t t refl))
-
+-- who was not in line is not in line when others are struck off
 still-out : (s : ℕ) (seats : List Bool) (es : List Entry) → isIn s es ≡ false → isIn s (without seats es) ≡ false
 still-out s seats es q = in-without s seats es ∙ ap (λ (b : Bool). b && not (getD seats s false)) q
 
@@ -130,7 +127,7 @@ module _ (d : Desk) (x : Doing) (l : Left) (k : HallOk (d .hall)) (o : CoreOk (d
       ∙ by-test (eqb t s) (λ z. clash q (ap (λ (y : ℕ). holds (c .phase) y) (sym (eqb-true t s z)) ∙ n)) (λ z. rw z (f s q))
 
   head-here : (e : Entry) (es : List Entry) → line ≡ e ∷ es → isPresent h (e .seat) ≡ true
-  head-here e es w = o .line .list .here (e .seat) (ap (isIn (e .seat)) w ∙ in-cons (e .seat) e es ∙ rw (eq-eqb (e .seat) (e .seat) refl))
+  head-here e es w = o .line .list .here (e .seat) (ap (isIn (e .seat)) w ∙ first-in e es)
 
   pub keeps : way.Way d x l → CoreOk h (l .core)
   unfolding waits full
@@ -146,7 +143,7 @@ module _ (d : Desk) (x : Doing) (l : Left) (k : HallOk (d .hall)) (o : CoreOk (d
   keeps (way.asksAgain t p f g a s w z m) = six h k o z
   keeps (way.moves t p f g a s b n w r z m) =
       let y = without (only t) line in
-      let u : length y < length line = without-less t (only t) line (only-at t t (s .below) ∙ eq-eqb t t refl) w in
+      let u : length y < length line = one-less t line (s .below) w in
       let v : ListOk h (enter (entry t p) y) = enter-ok h (entry t p) y (gone-out t line (s .below)) (omega (arith, o .line .list .within)) (s .present) (without-ok h (only t) line (o .line .list)) in
       six h k (relined h k c o (enter (entry t p) y) v (not-holder t y n (λ i q. still-out i (only t) line (o .floor .out i q)) p) (λ q. clash b q)) z
   keeps (way.places t p f g a s b n r w u z m) =

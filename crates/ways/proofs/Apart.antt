@@ -5,7 +5,7 @@ use native.Mathlib.Omega.{arith}
 use Rattle.hall.specs.declared.Hall.{Hall}
 use Rattle.rules.specs.declared.Core.{Core}
 use Rattle.desk.specs.declared.Event.{Event}
-use Rattle.history.specs.Doing.{Doing, event, leaves}
+use Rattle.history.specs.Doing.{event, leaves}
 use Rattle.history.specs.Asking.{Asking, nobody, asks}
 use Rattle.ways.specs.Ways.{Unmoved}
 

@@ -1,6 +1,6 @@
 -- What is refused, and what is denied, changes nothing: by the ways in which it can go. Assumes nothing.
 use Prim.Native.Nat.{ℕ}
-use mathlib.Core.Path.{_≡_, refl, ap, sym, _∙_}
+use mathlib.Core.Path.{_≡_, refl, ap, _∙_}
 use mathlib.Core.Bool.{Bool, true, false, _||_}
 use Rattle.words.specs.Choice.{by-if}
 use Rattle.words.proofs.Tests.{clash, neither}
@@ -18,7 +18,7 @@ use Rattle.desk.specs.declared.Left.{Left}
 use Rattle.history.specs.Doing.{Desk, Doing, deskOf, does}
 use Rattle.ways.specs.Ways.{reports, Six, informs, presses, informsAndPresses}
 use Rattle.ways.specs.Ways as way
-use Rattle.ways.specs.Refusals.{Unchanged, RefusalsChangeNothing, isDeny, Denied, DenyChangesNothing}
+use Rattle.ways.specs.Refusals.{RefusalsChangeNothing, isDeny, DenyChangesNothing}
 use Rattle.ways.proofs.Walk.{every-way}
 
 -- Info is no Deny

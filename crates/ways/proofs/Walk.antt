@@ -1,5 +1,5 @@
 -- The rules, taken apart once: whatever happens to whatever desk goes one of the ways of specs/Ways. Assumes nothing.
-use Prim.Native.Nat.{ℕ, _+_, _<_}
+use Prim.Native.Nat.{ℕ, _<_}
 use mathlib.Core.Path.{_≡_, refl, ap, sym, _∙_}
 use mathlib.Core.Bool.{Bool, true, false, not, _&&_}
 use mathlib.Core.List.{List, [], _∷_}
@@ -11,12 +11,11 @@ use Rattle.words.specs.Below.{and-left}
 use Rattle.words.proofs.Tests.{clash}
 use Rattle.line.specs.declared.Entry.{Entry}
 use Rattle.line.specs.declared.Line.{Line}
-use Rattle.line.specs.Line.{waiting, lineOf, enter, without}
+use Rattle.line.specs.Line.{waiting, lineOf, enter}
 use Rattle.hall.specs.declared.Hall.{Hall}
 use Rattle.hall.specs.declared.Names.{Names}
 use Rattle.hall.specs.declared.Answer.{Answer}
 use Rattle.hall.specs.declared.Answer.the-variants.{Done, CallStopped, NoSuchSeat, NotExpected}
-use Rattle.hall.specs.declared.Asked.{Asked}
 use Rattle.hall.specs.declared.Found.{Found}
 use Rattle.hall.specs.declared.Found.the-variants.{At, Nowhere}
 use Rattle.hall.specs.declared.Joined.{Joined}
@@ -31,26 +30,24 @@ use Rattle.rules.specs.declared.Beside.{Beside}
 use Rattle.rules.specs.declared.Beside.the-variants.{NoMore, T2, T20}
 use Rattle.rules.specs.declared.Kind.{Kind}
 use Rattle.rules.specs.declared.Report.{Report}
-use Rattle.rules.specs.declared.Marks.{Marks}
 use Rattle.rules.specs.declared.Mark.the-variants.{Seat}
 use Rattle.rules.specs.declared.Phase.{Phase}
 use Rattle.rules.specs.declared.Phase.the-variants.{Stopped, Idle, Taken, Revoking}
 use Rattle.rules.specs.declared.Core.{Core}
 use Rattle.rules.specs.declared.Step.{Step}
-use Rattle.rules.specs.Words.{isNothing, noMarks, answered, refused, _withLine_, _countingC20_, _marksEnded_}
+use Rattle.rules.specs.Words.{isNothing, noMarks, answered, refused, _withLine_, _marksEnded_}
 use Rattle.rules.specs.Floor.{holds, given, givenAtOnce, givenOutOfLine, entersIdle, passesOn, floorEnds, revokes}
-use Rattle.rules.specs.Request.{isIdle, entry, waits, full, presses, priorityIn, denied, infoOf, holderAsks, informed, pressed, rule6, moved, asksAgain, placed, grantedAgain, request}
+use Rattle.rules.specs.Request.{isIdle, entry, waits, full, presses, priorityIn, denied, infoOf, holderAsks, informed, pressed, rule6, moved, asksAgain, placed, request}
 use Rattle.desk.specs.declared.Event.{Event}
 use Rattle.desk.specs.declared.Event.the-variants.{Start, Stop, Expiry, Request, Release, Position, Media, Other}
-use Rattle.desk.specs.declared.Left.{Left}
 use Rattle.desk.specs.declared.Caller.{Caller}
-use Rattle.desk.specs.declared.Caller.the-variants.{Sits, Refused}
+use Rattle.desk.specs.declared.Caller.the-variants.{Sits}
 use Rattle.desk.specs.declared.Timer.{Timer}
 use Rattle.desk.specs.declared.Timer.the-variants as timer
 use Rattle.desk.specs.Timers.{halted, stops, endsIn, revokesIn, idleAgain, revokesAgain, grantsOrEnds, grantsAgain, fires, isStopped, runs, running, expires}
 use Rattle.desk.specs.Events.{starts, sitting, callerOf, heard, struckOff, releases, asksPlace, talks, step, left, leaves, leave}
 use Rattle.history.specs.Doing.{Desk, Doing, event, leaves as leaves-now, joins, joined, does}
-use Rattle.history.specs.Asking.{Asking, nobody, asks, fromSeat, asking, givesUp, stopsCall}
+use Rattle.history.specs.Asking.{nobody, asks, fromSeat, asking, givesUp, stopsCall}
 use Rattle.ways.specs.Ways as way
 use Rattle.ways.proofs.Apart.{no-leave, asks-nobody, this-one, not-asked}
 

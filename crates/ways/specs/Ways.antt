@@ -3,7 +3,7 @@
 -- apart once. Counting, what reached desks keep, what fits octets and the demands follow from it by cases. Assumes nothing.
 use Prim.Native.Nat.{ℕ, _+_, _<_}
 use mathlib.Core.Path.{_≡_}
-use mathlib.Core.Bool.{Bool, true, false, not}
+use mathlib.Core.Bool.{Bool, true, false}
 use mathlib.Core.List.{List, [], _∷_}
 use Rattle.line.specs.declared.Entry.{Entry}
 use Rattle.line.specs.Line.{waiting, lineOf, enter, without, seatsOf, nobody as no-one}
@@ -28,11 +28,10 @@ use Rattle.rules.specs.Words.{_inPhase_, _withLine_, _countingC7_, _countingC20
 use Rattle.rules.specs.Floor.{holds}
 use Rattle.rules.specs.Request.{isIdle, entry, waits, full, priorityIn, moved, infoOf, infoFor}
 use Rattle.desk.specs.declared.Event.the-variants.{Start, Expiry, Media, Position}
-use Rattle.desk.specs.declared.Timer.{Timer}
 use Rattle.desk.specs.declared.Timer.the-variants as timer
 use Rattle.desk.specs.declared.Left.{Left}
 use Rattle.history.specs.Doing.{Desk, Doing, event, leaves, deskOf, does}
-use Rattle.history.specs.Asking.{Asking, nobody, asks, asking, givesUp, stopsCall}
+use Rattle.history.specs.Asking.{nobody, asks, asking, givesUp, stopsCall}
 
 -- a report of what is done: two messages and four marks; and of what is refused: its number alone
 abbrev pub marks : Mark → List Bool → Mark → Given → Marks
