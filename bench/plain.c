@@ -5,6 +5,7 @@
 #include "plain.h"
 #include <string.h>
 
+enum { QUEUEING = 1, RECEIVE_ONLY = 2 };                                                               /* a seat's flags */
 enum { NO_MORE = 0, T2_TOO = 1, T20_TOO = 2 };                                                         /* what runs beside T1 in Taken */
 enum { ONLY_RECEIVES = 5, ALONE = 3, OTHER_HAS_THE_FLOOR = 1, LINE_FULL = 7, TALKED_TOO_LONG = 2, PRE_EMPTED = 4 }; /* causes */
 enum { LARGEST_PACKET = 1024, HEADER = 12, SETTINGS = 12, TRAILER = 8, SEAT_HEAD = 7, SHORTEST_SHEET = SETTINGS + TRAILER };
@@ -59,6 +60,7 @@ static int head_fits(const struct plain_desk *d)
 {
     return d->letters[0] == 'F' && d->letters[1] == 'D' && d->form == 1 && d->zero == 0 && d->zero_behind_waiting == 0
         && d->zero_behind_line == 0 && d->zero_behind_priorities == 0 && is_zero(d->zeros, sizeof d->zeros)
+        && is_zero(d->zeros_behind_flags, sizeof d->zeros_behind_flags)
         && settings_in_range(d->level, d->limit, d->c7_limit, d->c20_limit, two(d->duration)) && d->c7 <= d->c7_limit
         && d->c20 <= d->c20_limit;
 }
@@ -97,10 +99,12 @@ static int line_fits(const struct plain_desk *d)
 
 static int flags_fit(const struct plain_desk *d)
 {
-    unsigned all = 0;
-    for (int s = 0; s < FLOOR_SEATS; s++)
-        all |= d->taken[s] | d->queueing[s] | d->receive_only[s];
-    return all <= 1;
+    unsigned taken = 0, flags = 0;
+    for (int s = 0; s < FLOOR_SEATS; s++) {
+        taken |= d->taken[s];
+        flags |= d->flags[s];
+    }
+    return taken <= 1 && flags <= (QUEUEING | RECEIVE_ONLY);
 }
 
 static int seat_fits(const struct plain_desk *d, int s)
@@ -108,7 +112,7 @@ static int seat_fits(const struct plain_desk *d, int s)
     unsigned n = d->length[s];
     if (d->taken[s])
         return n >= 1 && n <= FLOOR_IDENTITY && memcmp(d->ssrc[s], d->own_ssrc, 4) != 0 && is_zero(d->identity[s] + n, FLOOR_IDENTITY - n);
-    return n == 0 && four(d->ssrc[s]) == 0 && d->highest[s] == 0 && d->queueing[s] == 0 && d->receive_only[s] == 0
+    return n == 0 && four(d->ssrc[s]) == 0 && d->highest[s] == 0 && d->flags[s] == 0
         && is_zero(d->identity[s], FLOOR_IDENTITY);
 }
 
@@ -555,7 +559,7 @@ static void queue(struct plain_desk *d, struct plain_report *r, unsigned seat, u
 {
     int press = presses(d, seat, priority), at = place_of(d, seat);
     if (at < 0) {
-        if (!press && !d->queueing[seat]) {
+        if (!press && !(d->flags[seat] & QUEUEING)) {
             sends(r, FLOOR_DENY, 0, OTHER_HAS_THE_FLOOR, 0, 1u << seat);
             return;
         }
@@ -569,7 +573,7 @@ static void queue(struct plain_desk *d, struct plain_report *r, unsigned seat, u
         strike(d, at);
         at = place(d, seat, priority);
     }
-    if (d->queueing[seat])
+    if (d->flags[seat] & QUEUEING)
         sends(r, FLOOR_QUEUE_POSITION_INFO, 0, (unsigned)at + 1, priority, 1u << seat);
     if (press && d->phase == FLOOR_PHASE_TAKEN)
         revoke(d, r, PRE_EMPTED);
@@ -580,7 +584,7 @@ static void request(struct plain_desk *d, struct plain_report *r, unsigned seat,
     unsigned priority = asked < d->highest[seat] ? asked : d->highest[seat];
     if (holds(d, seat)) {
         grant_again(d, r);
-    } else if (d->receive_only[seat]) {
+    } else if (d->flags[seat] & RECEIVE_ONLY) {
         sends(r, FLOOR_DENY, 0, ONLY_RECEIVES, 0, 1u << seat);
     } else if (d->phase == FLOOR_PHASE_IDLE) {
         unsigned in_call = all_seats(d);
@@ -798,11 +802,13 @@ uint32_t plain_media(uint8_t *desk, size_t desk_len, uint32_t ssrc, uint8_t *rep
 
 /* ---- Who sits there ---- */
 
-static void put_seat(struct plain_desk *d, int s, const uint8_t *ssrc, unsigned highest, const uint8_t *identity, size_t identity_len)
+static void put_seat(struct plain_desk *d, int s, const uint8_t *ssrc, unsigned highest, unsigned flags, const uint8_t *identity,
+                     size_t identity_len)
 {
     d->taken[s] = 1;
     memcpy(d->ssrc[s], ssrc, 4);
     d->highest[s] = (uint8_t)highest;
+    d->flags[s] = (uint8_t)flags;
     d->length[s] = (uint8_t)identity_len;
     memcpy(d->identity[s], identity, identity_len);
 }
@@ -812,8 +818,7 @@ static void clear_seat(struct plain_desk *d, unsigned s)
     d->taken[s] = 0;
     memset(d->ssrc[s], 0, 4);
     d->highest[s] = 0;
-    d->queueing[s] = 0;
-    d->receive_only[s] = 0;
+    d->flags[s] = 0;
     d->length[s] = 0;
     memset(d->identity[s], 0, FLOOR_IDENTITY);
 }
@@ -844,9 +849,7 @@ uint32_t plain_join(uint8_t *desk, size_t desk_len, const uint8_t *identity, siz
     if (!free_seat)
         return FLOOR_ALL_SEATS_TAKEN;
     int s = (int)(free_seat - d->taken);
-    put_seat(d, s, own, highest, identity, identity_len);
-    d->queueing[s] = queueing != 0;
-    d->receive_only[s] = receive_only != 0;
+    put_seat(d, s, own, highest, (queueing ? QUEUEING : 0u) | (receive_only ? RECEIVE_ONLY : 0u), identity, identity_len);
     return 0;
 }
 
@@ -996,7 +999,7 @@ int32_t plain_save(const uint8_t *desk, size_t desk_len, uint8_t *room, size_t r
     for (int s = 0; s < FLOOR_SEATS; s++) {
         if (!d->taken[s])
             continue;
-        to[0] = (uint8_t)(d->queueing[s] | d->receive_only[s] << 1);
+        to[0] = d->flags[s];
         to[1] = d->highest[s];
         memcpy(to + 2, d->ssrc[s], 4);
         to[6] = d->length[s];
@@ -1069,9 +1072,7 @@ uint32_t plain_load(uint8_t *desk, size_t desk_len, const uint8_t *sheet, size_t
     memcpy(d->own_ssrc, settings, 4 + 4 + 2);
     for (int i = 0; i < sheet[sheet_len - 4]; i++) {
         const uint8_t *seat = sheet + seats[i];
-        put_seat(d, i, seat + 2, seat[1], seat + SEAT_HEAD, seat[6]);
-        d->queueing[i] = seat[0] & 1;
-        d->receive_only[i] = seat[0] >> 1;
+        put_seat(d, i, seat + 2, seat[1], seat[0], seat + SEAT_HEAD, seat[6]);
     }
     return 0;
 }

@@ -46,7 +46,7 @@ struct plain_desk {
     uint8_t phase, timers, holder, given_at;
     uint8_t cause[2], sequence[2], c7, c20, waiting, zero_behind_waiting;
     uint8_t line[15], zero_behind_line, priorities[15], zero_behind_priorities;
-    uint8_t taken[16], ssrc[16][4], highest[16], queueing[16], receive_only[16];
+    uint8_t taken[16], ssrc[16][4], highest[16], flags[16], zeros_behind_flags[16];
     uint8_t own_ssrc[4], level, limit, c7_limit, c20_limit, duration[2], zeros[6];
     uint8_t length[16], identity[16][62];
 };

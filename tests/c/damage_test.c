@@ -19,7 +19,7 @@ struct damage {
 };
 
 enum { PHASE = 4, TIMERS = 5, HOLDER = 6, GIVEN_AT = 7, CAUSE = 8, SEQUENCE = 10, C7 = 12, C20 = 13, WAITING = 14, LINE = 16, PRIORITIES = 32,
-       SEATS = 48, SSRCS = 64, HIGHEST = 128, QUEUEING = 144, RECEIVE_ONLY = 160, OWN_SSRC = 176, LEVEL = 180, LIMIT = 181, C7_LIMIT = 182,
+       SEATS = 48, SSRCS = 64, HIGHEST = 128, FLAGS = 144, FLAG_ZEROS = 160, OWN_SSRC = 176, LEVEL = 180, LIMIT = 181, C7_LIMIT = 182,
        C20_LIMIT = 183, DURATION = 184, ZEROS = 186, LENGTHS = 192, NAMES = 208 };
 
 /* In REVOKING seat 0 holds the floor at 5, seat 3 waits at 200 and seat 1 at 6; seats 0 to 3 are taken, line limit 2, counters' limits 2. */
@@ -77,13 +77,15 @@ static const struct damage damages[] = {
     {STOPPED, {SSRCS + 4 * 4, 9}, "a free seat has an SSRC"},
     {STOPPED, {SSRCS + 4 * 15 + 3, 9}, "a free seat has an SSRC"},
     {STOPPED, {HIGHEST + 5, 1}, "a free seat has a priority"},
-    {STOPPED, {QUEUEING + 6, 1}, "a free seat queues"},
-    {STOPPED, {RECEIVE_ONLY + 7, 1}, "a free seat receives"},
+    {STOPPED, {FLAGS + 6, 1}, "a free seat queues"},
+    {STOPPED, {FLAGS + 7, 2}, "a free seat receives"},
     {STOPPED, {LENGTHS + 8, 1}, "a free seat has an identity"},
     {STOPPED, {NAMES + 62 * 9, 1}, "a free seat has octets of an identity"},
     {STOPPED, {NAMES + 62 * 15 + 61, 1}, "a free seat has octets of an identity"},
-    {STOPPED, {QUEUEING, 2}, "neither queueing nor not"},
-    {STOPPED, {RECEIVE_ONLY, 2}, "neither receive only nor not"},
+    {STOPPED, {FLAGS, 4}, "a flag that no seat has"},
+    {STOPPED, {FLAGS + 3, 128}, "a flag that no seat has"},
+    {STOPPED, {FLAG_ZEROS, 1}, "zeros behind the flags"},
+    {STOPPED, {FLAG_ZEROS + 15, 1}, "zeros behind the flags"},
     {STOPPED, {SSRCS + 4 * 1 + 3, FIRST_SSRC}, "two seats with one SSRC"},
     {STOPPED, {SSRCS + 4 * 3 + 3, FIRST_SSRC + 2}, "two seats with one SSRC"},
     {STOPPED, {SSRCS + 3, DESK_SSRC}, "a seat with the desk's SSRC"},
@@ -126,8 +128,8 @@ static const struct damage changes[] = {
     {STOPPED, {LIMIT, 0}, "line limit"},
     {STOPPED, {SSRCS + 3, 0}, "SSRC 0"},
     {STOPPED, {HIGHEST, 0}, "highest priority"},
-    {STOPPED, {QUEUEING, 0}, "queueing"},
-    {STOPPED, {RECEIVE_ONLY, 1}, "receive only"},
+    {STOPPED, {FLAGS, 0}, "queueing"},
+    {STOPPED, {FLAGS, 3}, "receive only"},
     {STOPPED, {OWN_SSRC, 255}, "the desk's SSRC"},
     {STOPPED, {LEVEL, 1}, "level"},
     {STOPPED, {C7_LIMIT, 255}, "C7 limit"},

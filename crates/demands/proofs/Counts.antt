@@ -1,4 +1,6 @@
--- Statements 1, 4 and the first half of 5. Assumes nothing.
+-- Over any history of any fresh desk: every desk that it leads to is sound; each seat was placed as often as it was given the floor out of
+-- the line, struck off, or waits (statement 1), and given the floor as often as it ended or holds it (4); nobody enters the line, leaves
+-- it, gets the floor or loses it without its mark (the first half of 5). Assumes nothing.
 use Prim.Native.Nat.{ℕ, _+_}
 use mathlib.Core.Path.{_≡_, refl, ap, sym, _∙_}
 use mathlib.Core.Bool.{Bool, true, false, _||_}
@@ -7,41 +9,26 @@ use native.Mathlib.Omega.{arith}
 use lib.Dec.{eqb}
 use borrow.Author.Tests.{eqb-true}
 use Rattle.words.specs.Choice.{by-test, one}
-use Rattle.words.specs.Table.{getD-fill}
 use Rattle.line.specs.declared.Entry.{Entry}
 use Rattle.line.specs.Line.{waiting, isIn}
-use Rattle.rules.specs.declared.Core.{Core}
-use Rattle.rules.specs.Floor.{holds}
-use Rattle.rules.specs.Request.{waits}
-use Rattle.desk.specs.Events.{fresh}
-use Rattle.history.specs.Doing.{Desk, Fresh, justMade, andJoined, does}
-use Rattle.marks.specs.Marks.{LineCounts, FloorCounts}
-use Rattle.marks.proofs.InLine.{in-nil, in-cons}
-use Rattle.ways.proofs.Laws.{holds-one}
+use Rattle.steps.specs.declared.Core.{Core}
+use Rattle.giving.specs.Floor.{holds}
+use Rattle.request.specs.Request.{waits}
+use Rattle.events.specs.Events.{fresh}
+use Rattle.events.specs.declared.Desk.{Desk}
+use Rattle.history.specs.Doing.{Fresh, justMade, andJoined, does}
+use Rattle.marks.proofs.InLine.{in-nil, none-in, in-cons}
+use Rattle.ways.proofs.Phases.{holds-one}
 use Rattle.reach.specs.Sound.{Sound, Once}
 use Rattle.reach.proofs.Reach.{sound-fresh, sound-kept, marks-counted}
 use Rattle.line.proofs.Laws.{waiting-lineOf}
-use Rattle.demands.specs.Demands.{Happening, Heard, unread, doing, heard, happens, outcome, History, deskAfter, log, times, standing, isPlaced, isStruck, isGivenOut, isGivenAny, isEnded, NobodyDropsOut, GivenAndEnded, NothingUnseen}
+use Rattle.demands.specs.Demands.{History, deskAfter, log, times, standing, isPlaced, isStruck, isGivenOut, isGivenAny, isEnded}
+use Rattle.demands.specs.Demands.{NobodyDropsOut, GivenAndEnded, NothingUnseen}
 
 -- every desk that a history leads to is sound
-pub sound-after : (start : Desk) → Fresh start → (past : History) → Sound (deskAfter happens start past)
-unfolding happens
+pub sound-after : (start : Desk) → Fresh start → (past : History) → Sound (deskAfter does start past)
 sound-after start f [] = sound-fresh start f
-sound-after start f (x ∷ past) = go (deskAfter happens start past) (heard x) (sound-after start f past)
-  where
-    go : (d : Desk) (x : Heard) → Sound d → Sound (outcome d x .desk)
-    go d (unread n) k = k
-    go d (doing x) k = sound-kept d x k
-
--- in each step the marks are what the line and the holder did; a packet that was not read has no mark, and did nothing
-pub counted : (d : Desk) (x : Happening) (s : ℕ) → Sound d →
-    LineCounts (d .core) (happens d x .desk .core) (happens d x .report .marks) s × FloorCounts (d .core) (happens d x .desk .core) (happens d x .report .marks) s
-unfolding happens
-counted d x s k = go (heard x)
-  where
-    go : (x : Heard) → LineCounts (d .core) (outcome d x .desk .core) (outcome d x .report .marks) s × FloorCounts (d .core) (outcome d x .desk .core) (outcome d x .report .marks) s
-    go (unread n) = (rw (getD-fill false 16 s) (omega arith), refl)
-    go (doing x) = marks-counted d x s k
+sound-after start f (x ∷ past) = sound-kept (deskAfter does start past) x (sound-after start f past)
 
 -- 1
 -- nothing has happened to a fresh core
@@ -59,10 +46,13 @@ unfolding fresh
 fresh-holder d k s = ap (λ (c : Core). holds (c .phase) s) (fresh-core d k)
 
 line-account : (start : Desk) → Fresh start → (past : History) (s : ℕ) →
-    times (isPlaced s) (log happens start past) ≡ times (isGivenOut s) (log happens start past) + times (isStruck s) (log happens start past) + one (waits (deskAfter happens start past .core) s)
+    times (isPlaced s) (log does start past)
+    ≡ times (isGivenOut s) (log does start past) + times (isStruck s) (log does start past)
+    + one (waits (deskAfter does start past .core) s)
 unfolding waits
-line-account start f [] s = rw (ap (isIn s) (fresh-line start f) ∙ in-nil s)
-line-account start f (x ∷ past) s = omega (arith, line-account start f past s, counted (deskAfter happens start past) x s (sound-after start f past) .0)
+line-account start f [] s = rw (none-in s (fresh-line start f))
+line-account start f (x ∷ past) s =
+    omega (arith, line-account start f past s, marks-counted (deskAfter does start past) x s (sound-after start f past) .0)
 
 stands-once : (s : ℕ) (es : List Entry) → Once es → standing s es ≡ one (isIn s es)
 stands-once s [] k = rw (in-nil s)
@@ -72,19 +62,21 @@ stands-once s (e ∷ es) k =
     (λ q. rw (q, sym (eqb-true (e .seat) s q), k .0))
     (λ q. rw q (omega arith)))
 
-pub nobody-drops-out : NobodyDropsOut happens
+pub nobody-drops-out : NobodyDropsOut does
 unfolding waits
 nobody-drops-out start f past s = (line-account start f past s, stands-once s _ (sound-after start f past .core .line .list .once))
 
 -- 4
 floor-account : (start : Desk) → Fresh start → (past : History) (s : ℕ) →
-    times (isGivenAny s) (log happens start past) ≡ times (isEnded s) (log happens start past) + one (holds (deskAfter happens start past .core .phase) s)
+    times (isGivenAny s) (log does start past)
+    ≡ times (isEnded s) (log does start past) + one (holds (deskAfter does start past .core .phase) s)
 floor-account start f [] s = rw (fresh-holder start f s)
-floor-account start f (x ∷ past) s = omega (arith, floor-account start f past s, counted (deskAfter happens start past) x s (sound-after start f past) .1)
+floor-account start f (x ∷ past) s =
+    omega (arith, floor-account start f past s, marks-counted (deskAfter does start past) x s (sound-after start f past) .1)
 
-pub given-and-ended : GivenAndEnded happens
+pub given-and-ended : GivenAndEnded does
 given-and-ended start f past s =
-    (floor-account start f past s, λ t a b. eqb-true s t (sym (holds-one (deskAfter happens start past .core .phase) s t a) ∙ b))
+    (floor-account start f past s, λ t a b. eqb-true s t (sym (holds-one (deskAfter does start past .core .phase) s t a) ∙ b))
 
 -- 5, first half: a seat's account in one step leaves no change without a mark
 pub comes-by : (old mark new a b : Bool) → one old + one mark ≡ one new + one a + one b → old ≡ false → new ≡ true → mark ≡ true
@@ -104,14 +96,14 @@ loses-by : (old mark new a : Bool) → one old + one mark ≡ one new + one a �
 loses-by old mark new true q o n = refl
 loses-by old mark new false q o n = absurd (let z = rw (o, n) at q in omega arith)
 
-pub nothing-unseen : NothingUnseen happens
+pub nothing-unseen : NothingUnseen does
 nothing-unseen start f past now s =
-    let k = counted (deskAfter happens start past) now s (sound-after start f past) in
-    let new = happens (deskAfter happens start past) now in
+    let k = marks-counted (deskAfter does start past) now s (sound-after start f past) in
+    let new = does (deskAfter does start past) now in
     let m = new .report .marks in
-    let w = waits (deskAfter happens start past .core) s in
+    let w = waits (deskAfter does start past .core) s in
     let v = waits (new .desk .core) s in
-    let h = holds (deskAfter happens start past .core .phase) s in
+    let h = holds (deskAfter does start past .core .phase) s in
     let o = holds (new .desk .core .phase) s in
     record {
       enters = comes-by w (isPlaced s m) v (isStruck s m) (isGivenOut s m) (k .0);

@@ -1,4 +1,6 @@
--- What the nine things that a step can do say of one seat, of the line and of the holder. Assumes nothing.
+-- Of each of the nine things that a step can do: who is placed asked for it; who is struck off has a reason; a floor that ends goes to the
+-- head of the line; and the line, the holder and each seat's place afterwards are what the marks and the request make of them. Assumes
+-- nothing.
 use Prim.Native.Nat.{ℕ, _<_}
 use mathlib.Core.Path.{_≡_, refl, ap, sym, _∙_}
 use mathlib.Core.Bool.{Bool, true, false, not, _&&_, _||_, or-true}
@@ -10,35 +12,37 @@ use Rattle.words.specs.Choice.{if_then_else_, if-yes, if-no, by-test, by-if}
 use Rattle.words.specs.Table.{getD-fill}
 use Rattle.words.proofs.Tests.{clash, and-no, or-left, or-right}
 use Rattle.line.specs.declared.Entry.{Entry}
-use Rattle.line.specs.Line.{waiting, isIn, without, seatsOf, nobody as no-one, priorityOf}
+use Rattle.line.specs.Line.{waiting, isIn, without, seatsOf, nobody as no-one, priorityOf, entryOf}
 use Rattle.hall.specs.declared.Hall.{Hall}
 use Rattle.hall.specs.Seats.{only, receivesOnly}
-use Rattle.rules.specs.declared.Core.{Core}
-use Rattle.rules.specs.declared.Mark.{Mark}
-use Rattle.rules.specs.declared.Mark.the-variants.{NoSeat}
-use Rattle.rules.specs.declared.Given.the-variants.{OutOfLine}
-use Rattle.rules.specs.declared.Marks.{Marks}
-use Rattle.rules.specs.Floor.{holds}
-use Rattle.rules.specs.Request.{isIdle, entry, waits, priorityIn}
-use Rattle.desk.specs.declared.Event.{Event}
-use Rattle.desk.specs.declared.Event.the-variants.{Start, Stop, Expiry, Request, Release, Position, Media, Other}
-use Rattle.desk.specs.Timers.{isStopped}
-use Rattle.history.specs.Doing.{Desk, Doing, event, leaves, joins}
-use Rattle.history.specs.Asking.{Asking, nobody, asks, askedBy, asking, givesUp, stopsBy, stopsCall}
-use Rattle.ways.specs.Ways.{Unmoved, quiet, holder, listener, outside, samePriority}
-use Rattle.ways.proofs.Walk.{idle-quiet}
-use Rattle.ways.proofs.Laws.{idle-none}
+use Rattle.steps.specs.declared.Core.{Core}
+use Rattle.steps.specs.declared.Mark.{Mark}
+use Rattle.steps.specs.declared.Mark.the-variants.{NoSeat}
+use Rattle.steps.specs.declared.Given.the-variants.{OutOfLine}
+use Rattle.steps.specs.declared.Marks.{Marks}
+use Rattle.giving.specs.Floor.{holds}
+use Rattle.request.specs.Request.{isIdle, waits, priorityIn}
+use Rattle.events.specs.declared.Event.{Event}
+use Rattle.events.specs.declared.Event.the-variants.{Start, Stop, Expiry, Request, Release, Position, Media, Other}
+use Rattle.timers.specs.Timers.{isStopped}
+use Rattle.events.specs.declared.Desk.{Desk}
+use Rattle.history.specs.Doing.{Doing}
+use Rattle.history.specs.Asking.{Becoming, noEvent, anEvent, becomes, Asking, nobody, asks, askedBy, askedIn, asking, givesUp, stopsBy}
+use Rattle.history.specs.Asking.{stopsIn, stopsCall}
+use Rattle.ways.specs.Ways.{Unmoved, quiet, holder, onlyReceives, outside, samePriority}
+use Rattle.ways.proofs.Phases.{idle-quiet, idle-none}
 use Rattle.marks.specs.Marks.{isSeat}
-use Rattle.marks.proofs.InLine.{in-nil, in-cons, first-in, only-at, gone-out, in-added}
+use Rattle.marks.proofs.InLine.{none-in, first-in, behind-in, only-at, gone-out, in-added}
 use Rattle.marks.proofs.Did.{Did, rests, gives, places, shifts, strikes, passes, frees, halts, closes}
 use Rattle.reach.specs.Sound.{Sound}
 use Rattle.reach.proofs.Reach.{fits}
-use Rattle.demands.specs.Demands.{moves, comesIn, goesOut, heldAfter, isPlaced, isStruck, isGivenOut, isEnded, reasonOf, Place, away, inLine, placedAt, askedAgain, placeAfter, isMoved}
+use Rattle.demands.specs.Demands.{moves, comesIn, goesOut, heldAfter, isPlaced, isStruck, isGivenOut, isEnded, reason, Place, away}
+use Rattle.demands.specs.Demands.{inLine, placedAt, askedAgain, placeAfter, isMoved}
 use Rattle.demands.proofs.Places.{placeIn, place-out, place-at, place-enter, place-without}
 
 -- nobody in line is receive only
-abbrev pub Deaf : Desk → Type 0
-Deaf d = (s : ℕ) → isIn s (waiting (d .core .line)) ≡ true → receivesOnly (d .hall) s ≡ false
+abbrev pub NoneReceivesOnly : Desk → Type 0
+NoneReceivesOnly d = (s : ℕ) → isIn s (waiting (d .core .line)) ≡ true → receivesOnly (d .hall) s ≡ false
 
 pub without-none : (es : List Entry) → without no-one es ≡ es
 unfolding without
@@ -50,14 +54,14 @@ unfolding without
 without-all seats [] f = refl
 without-all seats (e ∷ es) f =
     if-yes _ _ _ (f (e .seat) (first-in e es))
-    ∙ without-all seats es (λ s q. f s (in-cons s e es ∙ rw q (or-true (eqb (e .seat) s))))
+    ∙ without-all seats es (λ s q. f s (behind-in s e es q))
 
 all-struck : (es : List Entry) → ((s : ℕ) → isIn s es ≡ true → s < 16) → without (seatsOf es) es ≡ []
 unfolding seatsOf
 all-struck es f = without-all (seatsOf es) es (λ s q. in-added s no-one es refl f ∙ rw q (or-true (getD no-one s false)))
 
 -- a request that does not move
-module _ (d : Desk) (k : Sound d) (f : Deaf d) (t p : ℕ) where
+module _ (d : Desk) (k : Sound d) (f : NoneReceivesOnly d) (t p : ℕ) where
   abbrev line : List Entry
   line = waiting (d .core .line)
 
@@ -67,9 +71,9 @@ module _ (d : Desk) (k : Sound d) (f : Deaf d) (t p : ℕ) where
 
   pub unmoved : Unmoved (d .core) (d .hall) t p → moves t p line ≡ false
   unfolding moves waits priorityIn
-  unmoved (quiet b) = not-in (ap (isIn t) (k .core .floor .still b) ∙ in-nil t)
+  unmoved (quiet b) = not-in (none-in t (k .core .floor .still b))
   unmoved (holder h) = not-in (k .core .floor .out t h)
-  unmoved (listener r) = not-in (by-test (isIn t line) (λ w. clash r (f t w)) (λ w. w))
+  unmoved (onlyReceives r) = not-in (by-test (isIn t line) (λ w. clash r (f t w)) (λ w. w))
   unmoved (outside w) = not-in w
   unmoved (samePriority q) = and-no (isIn t line) _ (ap not (eq-eqb (priorityOf t line) p q))
 
@@ -78,7 +82,8 @@ pub moved-by : (s t p : ℕ) (es : List Entry) → isMoved s (asks t p) (placeIn
 unfolding moves
 moved-by s t p es =
     by-test (eqb t s)
-    (λ q. let i : t ≡ s = eqb-true t s q in by-test (isIn s es) (λ w. rw (place-at s es w, i, eq-eqb s s refl, w)) (λ w. rw (place-out s es w, i, eq-eqb s s refl, w)))
+    (λ q. let i : t ≡ s = eqb-true t s q in
+    by-test (isIn s es) (λ w. rw (place-at s es w, i, eq-eqb s s refl, w)) (λ w. rw (place-out s es w, i, eq-eqb s s refl, w)))
     (λ q. by-test (isIn s es) (λ w. rw (place-at s es w, q)) (λ w. rw (place-out s es w, q)))
 
 -- so asking again leaves a place as it is, but for one who moves
@@ -92,7 +97,8 @@ asked-still s t p es n =
     same : eqb t s ≡ true → isIn s es ≡ true → p ≡ priorityOf s es
     same q w =
         let i : t ≡ s = eqb-true t s q in
-        by-test (eqb (priorityOf s es) p) (λ z. sym (eqb-true (priorityOf s es) p z)) (λ z. clash {b = true} refl (sym (rw (i, eq-eqb s s refl, w, z)) ∙ n))
+        by-test (eqb (priorityOf s es) p) (λ z. sym (eqb-true (priorityOf s es) p z))
+        (λ z. clash {b = true} refl (sym (rw (i, eq-eqb s s refl, w, z)) ∙ n))
 
 -- who asks for nothing, or does not move, leaves the line and every place as they are
 module _ (es : List Entry) (s : ℕ) where
@@ -123,10 +129,12 @@ stops-by h (Position n) y = refl
 stops-by h (Media n) y = refl
 stops-by h (Other n) y = refl
 
+stops-in : (h : Hall) (b : Becoming) → stopsIn b ≡ true → askedIn h b ≡ nobody
+stops-in h noEvent y = refl
+stops-in h (anEvent e) y = stops-by h e y
+
 pub stops-nobody : (h : Hall) (x : Doing) → stopsCall x ≡ true → asking h x ≡ nobody
-stops-nobody h (event e) y = stops-by h e y
-stops-nobody h (leaves t) y = refl
-stops-nobody h (joins o n) y = refl
+stops-nobody h x y = stops-in h (becomes x) y
 
 -- a seat's place after its marks
 module _ (s : ℕ) (a : Asking) (m : Marks) (w : Place) where
@@ -162,7 +170,7 @@ module _ (d : Desk) (x : Doing) (new : Core) (m : Marks) where
   placed-why (closes y i l f e) s z = clash z (ap (isPlaced s) e)
 
   -- 2: who is struck off has a reason
-  pub struck-why : Did d x new m → (s : ℕ) → isStruck s m ≡ true → reasonOf (d .hall) x s ≡ true
+  pub struck-why : Did d x new m → (s : ℕ) → isStruck s m ≡ true → reason (d .hall) x s ≡ true
   struck-why (rests u l f e) s z = clash z (ap (isStruck s) e ∙ getD-fill false 16 s)
   struck-why (gives t p a i l f e) s z = clash z (ap (isStruck s) e ∙ getD-fill false 16 s)
   struck-why (places t p a w r l f e) s z = clash z (ap (isStruck s) e ∙ getD-fill false 16 s)
@@ -183,12 +191,13 @@ module _ (d : Desk) (x : Doing) (new : Core) (m : Marks) where
   goes-to-head (shifts s p b a w o l f e) t u z i n = clash z (ap (isEnded t) e)
   goes-to-head (strikes s b a g w l f e) t u z i n = clash z (ap (isEnded t) e)
   goes-to-head (passes s y es a h b w l f e) t u z i n = (y, es, w, ap (λ (o : Marks). o .given) e)
-  goes-to-head (frees s a h w l f e) t u z i n = clash i (ap (isIn u) w ∙ in-nil u)
+  goes-to-head (frees s a h w l f e) t u z i n = clash i (none-in u w)
   goes-to-head (halts s y h l f e) t u z i n = clash (ap isStopped f) n
   goes-to-head (closes y j l f e) t u z i n = clash (ap isStopped f) n
 
   -- 5: the holder afterwards
-  pub holder-changed : Did d x new m → (b : Mark) → ((s : ℕ) → holds (d .core .phase) s ≡ isSeat b s) → (s : ℕ) → holds (new .phase) s ≡ isSeat (heldAfter (m .given) (m .ended) b) s
+  pub holder-changed : Did d x new m → (b : Mark) → ((s : ℕ) → holds (d .core .phase) s ≡ isSeat b s) → (s : ℕ) →
+      holds (new .phase) s ≡ isSeat (heldAfter (m .given) (m .ended) b) s
   holder-changed (rests u l f e) b g s = rw e (f s ∙ g s)
   holder-changed (gives t p a i l f e) b g s = rw e (f s)
   holder-changed (places t p a w r l f e) b g s = rw e (f s ∙ g s)
@@ -199,12 +208,12 @@ module _ (d : Desk) (x : Doing) (new : Core) (m : Marks) where
   holder-changed (halts t y h l f e) b g s = rw (e, f)
   holder-changed (closes y i l f e) b g s = rw (e, f) (sym (sym (g s) ∙ idle-none (d .core .phase) s i))
 
-  module _ (k : Sound d) (deaf : Deaf d) where
+  module _ (k : Sound d) (none : NoneReceivesOnly d) where
     still : ((t p : ℕ) → what ≡ asks t p → Unmoved (d .core) (d .hall) t p) → (t p : ℕ) → what ≡ asks t p → moves t p before ≡ false
-    still u t p q = unmoved d k deaf t p (u t p q)
+    still u t p q = unmoved d k none t p (u t p q)
 
     idle-still : isIdle (d .core .phase) ≡ true → (t p : ℕ) → what ≡ asks t p → moves t p before ≡ false
-    idle-still i t p q = unmoved d k deaf t p (quiet (idle-quiet (d .core .phase) i))
+    idle-still i t p q = unmoved d k none t p (quiet (idle-quiet (d .core .phase) i))
 
     -- 5: the line afterwards
     pub line-changed : Did d x new m → comesIn what (m .placed) (goesOut (m .given) (without (m .struck) before)) ≡ waiting (new .line)
@@ -227,40 +236,50 @@ module _ (d : Desk) (x : Doing) (new : Core) (m : Marks) where
 
     everyone : (s : ℕ) → m .struck ≡ seatsOf before → isStruck s m ≡ isIn s before
     unfolding seatsOf
-    everyone s q = ap (λ (b : List Bool). getD b s false) q ∙ in-added s no-one before refl (fits d k .seats) ∙ ap (λ (b : Bool). b || isIn s before) (getD-fill false 16 s)
+    everyone s q =
+        ap (λ (b : List Bool). getD b s false) q ∙ in-added s no-one before refl (fits d k .seats)
+        ∙ ap (λ (b : Bool). b || isIn s before) (getD-fill false 16 s)
 
-    quiet-place : (s : ℕ) → what ≡ nobody → isStruck s m ≡ false → isGivenOut s m ≡ false → isPlaced s m ≡ false → placeAfter s what m (placeIn s before) ≡ placeIn s before
+    quiet-place : (s : ℕ) → what ≡ nobody → isStruck s m ≡ false → isGivenOut s m ≡ false → isPlaced s m ≡ false →
+        placeAfter s what m (placeIn s before) ≡ placeIn s before
     quiet-place s a p q r = place-stays s what m (placeIn s before) p q r ∙ ap (λ (y : Asking). askedAgain s y (placeIn s before)) a
 
-    other-place : (s t p : ℕ) → what ≡ asks t p → eqb t s ≡ false → isStruck s m ≡ false → isGivenOut s m ≡ false → isPlaced s m ≡ false → placeAfter s what m (placeIn s before) ≡ placeIn s before
+    other-place : (s t p : ℕ) → what ≡ asks t p → eqb t s ≡ false → isStruck s m ≡ false → isGivenOut s m ≡ false → isPlaced s m ≡ false →
+        placeAfter s what m (placeIn s before) ≡ placeIn s before
     other-place s t p a z i j r =
         place-stays s what m (placeIn s before) i j r ∙ ap (λ (y : Asking). askedAgain s y (placeIn s before)) a
         ∙ asked-still s t p before (ap (λ (b : Bool). b && moves t p before) z)
 
-    emptied : (s : ℕ) → what ≡ nobody → m .struck ≡ seatsOf before → isGivenOut s m ≡ false → isPlaced s m ≡ false → waiting (new .line) ≡ [] →
+    emptied : (s : ℕ) → what ≡ nobody → m .struck ≡ seatsOf before → isGivenOut s m ≡ false → isPlaced s m ≡ false →
+        waiting (new .line) ≡ [] →
         placeAfter s what m (placeIn s before) ≡ placeIn s (waiting (new .line))
     emptied s a q i r l =
         by-test (isIn s before)
-        (λ w. place-goes s what m (placeIn s before) (or-left _ _ (everyone s q ∙ w)) ∙ sym (ap (placeIn s) l ∙ place-out s [] (in-nil s)))
-        (λ w. quiet-place s a (everyone s q ∙ w) i r ∙ place-out s before w ∙ sym (ap (placeIn s) l ∙ place-out s [] (in-nil s)))
+        (λ w. place-goes s what m (placeIn s before) (or-left _ _ (everyone s q ∙ w)) ∙ sym (place-out s _ (none-in s l)))
+        (λ w. quiet-place s a (everyone s q ∙ w) i r ∙ place-out s before w ∙ sym (place-out s _ (none-in s l)))
 
     pub place-changed : Did d x new m → (s : ℕ) → placeAfter s what m (placeIn s before) ≡ placeIn s (waiting (new .line))
     place-changed (rests u l f e) s =
-        place-stays s what m (placeIn s before) (unstruck s (struckOf e)) (ap (isGivenOut s) e) (ap (isPlaced s) e) ∙ still-place before s what (still u) ∙ ap (placeIn s) (sym l)
+        place-stays s what m (placeIn s before) (unstruck s (struckOf e)) (ap (isGivenOut s) e) (ap (isPlaced s) e)
+        ∙ still-place before s what (still u) ∙ ap (placeIn s) (sym l)
     place-changed (gives t p a i l f e) s =
-        place-stays s what m (placeIn s before) (unstruck s (struckOf e)) (ap (isGivenOut s) e) (ap (isPlaced s) e) ∙ still-place before s what (idle-still i) ∙ ap (placeIn s) (sym l)
+        place-stays s what m (placeIn s before) (unstruck s (struckOf e)) (ap (isGivenOut s) e) (ap (isPlaced s) e)
+        ∙ still-place before s what (idle-still i) ∙ ap (placeIn s) (sym l)
     place-changed (places t p a w r l f e) s =
-        let n = place-enter s (entry t p) before w in
+        let n = place-enter s (entryOf t p) before w in
         by-test (eqb t s)
-        (λ z. place-comes s what m (placeIn s before) (unstruck s (struckOf e)) (ap (isGivenOut s) e) (ap (isPlaced s) e ∙ z) ∙ ap placedAt a ∙ sym (ap (placeIn s) l ∙ n ∙ if-yes _ _ _ z))
-        (λ z. other-place s t p a z (unstruck s (struckOf e)) (ap (isGivenOut s) e) (ap (isPlaced s) e ∙ z) ∙ sym (ap (placeIn s) l ∙ n ∙ if-no _ _ _ z))
+        (λ z. place-comes s what m (placeIn s before) (unstruck s (struckOf e)) (ap (isGivenOut s) e) (ap (isPlaced s) e ∙ z)
+        ∙ ap placedAt a ∙ sym (ap (placeIn s) l ∙ n ∙ if-yes _ _ _ z))
+        (λ z. other-place s t p a z (unstruck s (struckOf e)) (ap (isGivenOut s) e) (ap (isPlaced s) e ∙ z)
+        ∙ sym (ap (placeIn s) l ∙ n ∙ if-no _ _ _ z))
     place-changed (shifts t p b a w o l f e) s =
         let y = without (only t) before in
-        let n = place-enter s (entry t p) y (gone-out t before b) in
+        let n = place-enter s (entryOf t p) y (gone-out t before b) in
         by-test (eqb t s)
         (λ z.
         let i : isIn s before ≡ true = ap (λ (v : ℕ). isIn v before) (sym (eqb-true t s z)) ∙ w in
-        place-stays s what m (placeIn s before) (unstruck s (struckOf e)) (ap (isGivenOut s) e) (ap (isPlaced s) e) ∙ rw (a, place-at s before i) (if-yes _ _ _ z) ∙ sym (ap (placeIn s) l ∙ n ∙ if-yes _ _ _ z))
+        place-stays s what m (placeIn s before) (unstruck s (struckOf e)) (ap (isGivenOut s) e) (ap (isPlaced s) e)
+        ∙ rw (a, place-at s before i) (if-yes _ _ _ z) ∙ sym (ap (placeIn s) l ∙ n ∙ if-yes _ _ _ z))
         (λ z. other-place s t p a z (unstruck s (struckOf e)) (ap (isGivenOut s) e) (ap (isPlaced s) e)
         ∙ sym (ap (placeIn s) l ∙ n ∙ if-no _ _ _ z ∙ place-without s (only t) before ∙ if-no _ _ _ (only-at t s b ∙ z)))
     place-changed (strikes t b a g w l f e) s =
@@ -268,11 +287,13 @@ module _ (d : Desk) (x : Doing) (new : Core) (m : Marks) where
         let n = place-without s (only t) before in
         by-test (eqb t s)
         (λ z. place-goes s what m (placeIn s before) (or-left _ _ (i ∙ z)) ∙ sym (ap (placeIn s) l ∙ n ∙ if-yes _ _ _ (only-at t s b ∙ z)))
-        (λ z. quiet-place s a (i ∙ z) (ap (isGivenOut s) e) (ap (isPlaced s) e) ∙ sym (ap (placeIn s) l ∙ n ∙ if-no _ _ _ (only-at t s b ∙ z)))
+        (λ z. quiet-place s a (i ∙ z) (ap (isGivenOut s) e) (ap (isPlaced s) e)
+        ∙ sym (ap (placeIn s) l ∙ n ∙ if-no _ _ _ (only-at t s b ∙ z)))
     place-changed (passes t y es a h b w l f e) s =
         let n = place-without s (only (y .seat)) (y ∷ es) in
         by-test (eqb (y .seat) s)
-        (λ z. place-goes s what m (placeIn s before) (or-right (isStruck s m) (isGivenOut s m) (ap (isGivenOut s) e ∙ z)) ∙ sym (ap (placeIn s) l ∙ n ∙ if-yes _ _ _ (only-at (y .seat) s b ∙ z)))
+        (λ z. place-goes s what m (placeIn s before) (or-right (isStruck s m) (isGivenOut s m) (ap (isGivenOut s) e ∙ z))
+        ∙ sym (ap (placeIn s) l ∙ n ∙ if-yes _ _ _ (only-at (y .seat) s b ∙ z)))
         (λ z. quiet-place s a (unstruck s (struckOf e)) (ap (isGivenOut s) e ∙ z) (ap (isPlaced s) e) ∙ ap (placeIn s) w
         ∙ sym (ap (placeIn s) l ∙ n ∙ if-no _ _ _ (only-at (y .seat) s b ∙ z)))
     place-changed (frees t a h w l f e) s =

@@ -1,94 +1,63 @@
--- Statement 3: of two who wait at one priority, the one in front was placed or moved before the other. Assumes nothing.
+-- Over any history of any fresh desk: of two who wait at one priority, the one in front was placed or moved before the other; so a floor
+-- that ends goes to the highest priority, and among equals to the earliest (statement 3). Assumes nothing.
 use Prim.Native.Nat.{ℕ, suc, _≤_, _<_}
 use mathlib.Core.Path.{_≡_, refl, ap, sym, _∙_}
-use mathlib.Core.Bool.{Bool, true, false, _&&_, _||_, or-true}
+use mathlib.Core.Bool.{Bool, true, false, _&&_, _||_}
 use mathlib.Core.List.{List, [], _∷_}
 use native.Mathlib.Omega.{arith}
-use lib.Dec.{eqb, leb}
-use lib.ListN.{length, getD}
-use borrow.Author.Tests.{eqb-true, eq-eqb, ne-eqb, leb-false}
+use lib.Dec.{eqb}
+use lib.ListN.{length}
+use borrow.Author.Tests.{eqb-true, eq-eqb, ne-eqb}
 use Rattle.words.specs.Choice.{if_then_else_, if-yes, if-no, by-test, by-if}
 use Rattle.words.proofs.Tests.{clash, or-left, or-right, or-else, neither}
 use Rattle.line.specs.declared.Entry.{Entry}
-use Rattle.line.specs.Line.{waiting, isIn, enter, without, priorityOf}
-use Rattle.line.proofs.Laws.{enter-nil, enter-cons}
+use Rattle.line.specs.Line.{waiting, isIn, enter, without, priorityOf, entryOf}
 use Rattle.hall.specs.Seats.{only}
-use Rattle.rules.specs.declared.Core.{Core}
-use Rattle.rules.specs.declared.Marks.{Marks}
-use Rattle.rules.specs.declared.Given.the-variants.{OutOfLine}
-use Rattle.rules.specs.Request.{entry}
-use Rattle.desk.specs.Timers.{isStopped}
-use Rattle.history.specs.Doing.{Desk, Doing, does, Fresh}
+use Rattle.steps.specs.declared.Core.{Core}
+use Rattle.steps.specs.declared.Marks.{Marks}
+use Rattle.events.specs.declared.Desk.{Desk}
+use Rattle.history.specs.Doing.{Doing, does, Fresh}
 use Rattle.history.specs.Asking.{Asking, nobody, asks, asking}
 use Rattle.ways.specs.Ways.{Unmoved, quiet}
-use Rattle.ways.proofs.Walk.{idle-quiet}
-use Rattle.marks.proofs.InLine.{in-nil, in-cons, first-in, gone-out}
+use Rattle.ways.proofs.Phases.{idle-quiet}
+use Rattle.marks.proofs.InLine.{in-nil, in-cons, first-in, behind-in, gone-out}
 use Rattle.marks.proofs.Did.{Did, rests, gives, places, shifts, strikes, passes, frees, halts, closes}
-use Rattle.reach.specs.Sound.{AtMost, Sorted, Sound}
-use Rattle.reach.proofs.InLine.{without-ok}
-use Rattle.demands.specs.Demands.{Heard, unread, doing, heard, outcome, Row, happens, History, deskAfter, asked, log, isPlaced, isEnded, moves, isMoved, inLine, placeOf, latest, ComesFirst, GoesToTheFirst}
+use Rattle.reach.specs.Sound.{All, Along, Sorted, Sound}
+use Rattle.reach.proofs.InLine.{along-without, along-enter, all-in, without-ok}
+use Rattle.demands.specs.Demands.{Row, History, deskAfter, log, isPlaced, moves, isMoved, inLine, placeOf, latest, ComesFirst}
+use Rattle.demands.specs.Demands.{GoesToTheFirst}
 use Rattle.demands.proofs.Places.{priority-cons, priority-most, placeIn, place-at, in-place}
 use Rattle.demands.proofs.Counts.{fresh-line, sound-after}
-use Rattle.demands.proofs.OfEach.{Deaf, unmoved, moved-by, still-moved, moves-so, goes-to-head}
-use Rattle.demands.proofs.Steps.{step-does, deaf-after, place-worked-out}
+use Rattle.demands.proofs.OfEach.{NoneReceivesOnly, unmoved, moved-by, still-moved, moves-so, goes-to-head}
+use Rattle.demands.proofs.Steps.{step-does, none-after, place-worked-out}
 
--- all that stand behind an entry at its priority have a later time
-abbrev pub Later : (ℕ → ℕ) → Entry → List Entry → Type 0
-Later at e [] = Unit
-Later at e (x ∷ xs) = (x .priority ≡ e .priority → at (e .seat) < at (x .seat)) × Later at e xs
+-- `at` is a time for each seat: who stands behind at the same priority has a later one
+abbrev pub Later : (ℕ → ℕ) → Entry → Entry → Type 0
+Later at e x = x .priority ≡ e .priority → at (e .seat) < at (x .seat)
 
 abbrev pub InOrder : (ℕ → ℕ) → List Entry → Type 0
-InOrder at [] = Unit
-InOrder at (e ∷ es) = Later at e es × InOrder at es
+InOrder at es = Along (Later at) es
 
-behind-in : (s : ℕ) (x : Entry) (xs : List Entry) → isIn s xs ≡ true → isIn s (x ∷ xs) ≡ true
-behind-in s x xs q = in-cons s x xs ∙ rw q (or-true (eqb (x .seat) s))
-
-module _ (at : ℕ → ℕ) where
-  -- who is not in the line any more leaves the others in order
-  later-without : (seats : List Bool) (e : Entry) (es : List Entry) → Later at e es → Later at e (without seats es)
-  unfolding without
-  later-without seats e [] k = tt
-  later-without seats e (x ∷ xs) k =
-      by-if (Later at e) (getD seats (x .seat) false) (λ _. later-without seats e xs (k .1)) (λ _. (k .0, later-without seats e xs (k .1)))
-
-  order-without : (seats : List Bool) (es : List Entry) → InOrder at es → InOrder at (without seats es)
-  unfolding without
-  order-without seats [] k = tt
-  order-without seats (x ∷ xs) k =
-      by-if (InOrder at) (getD seats (x .seat) false) (λ _. order-without seats xs (k .1)) (λ _. (later-without seats x xs (k .0), order-without seats xs (k .1)))
-
-  -- who comes in last of all stands behind all of its priority
-  later-enter : (e x : Entry) (xs : List Entry) → at (x .seat) < at (e .seat) → Later at x xs → Later at x (enter e xs)
-  later-enter e x [] h k = rw (enter-nil e) ((λ _. h), tt)
-  later-enter e x (y ∷ ys) h k =
-      rw (enter-cons e y ys)
-      (by-if (Later at x) (leb (e .priority) (y .priority)) (λ _. (k .0, later-enter e x ys h (k .1))) (λ _. ((λ _. h), k)))
-
-  lower-later : (e : Entry) (p : ℕ) (es : List Entry) → p < e .priority → AtMost p es → Later at e es
-  lower-later e p [] h k = tt
-  lower-later e p (x ∷ xs) h k = ((λ q. absurd (let z = k .0 in omega arith)), lower-later e p xs h (k .1))
-
-  order-enter : (e : Entry) (es : List Entry) → Sorted es → ((s : ℕ) → isIn s es ≡ true → at s < at (e .seat)) → InOrder at es → InOrder at (enter e es)
-  order-enter e [] s h k = rw (enter-nil e) (tt, tt)
-  order-enter e (x ∷ xs) s h k =
-      rw (enter-cons e x xs)
-      (by-if (InOrder at) (leb (e .priority) (x .priority))
-      (λ _. (later-enter e x xs (h (x .seat) (first-in x xs)) (k .0), order-enter e xs (s .1) (λ t q. h t (behind-in t x xs q)) (k .1)))
-      (λ q.
-      let b : x .priority < e .priority = leb-false (e .priority) (x .priority) q in
-      (((λ z. absurd (omega arith)), lower-later e (x .priority) xs b (s .0)), k)))
+-- who comes in last of all stands behind all of its priority
+order-enter : (at : ℕ → ℕ) (e : Entry) (es : List Entry) → Sorted es → ((s : ℕ) → isIn s es ≡ true → at s < at (e .seat)) → InOrder at es →
+    InOrder at (enter e es)
+order-enter at e es s h k =
+    along-enter (Later at) e es s (all-in (λ x. e .priority ≤ x .priority → Later at x e) es (λ x i _ _. h (x .seat) i))
+    (λ x l q. absurd (omega arith)) k
 
 -- the times of those in line are all that counts
-later-same : (at to : ℕ → ℕ) (e : Entry) (es : List Entry) → to (e .seat) ≡ at (e .seat) → ((s : ℕ) → isIn s es ≡ true → to s ≡ at s) → Later at e es → Later to e es
+later-same : (at to : ℕ → ℕ) (e : Entry) (es : List Entry) → to (e .seat) ≡ at (e .seat) → ((s : ℕ) → isIn s es ≡ true → to s ≡ at s) →
+    All (Later at e) es → All (Later to e) es
 later-same at to e [] h f k = tt
 later-same at to e (x ∷ xs) h f k =
     ((λ q. rw (h, f (x .seat) (first-in x xs)) (k .0 q)), later-same at to e xs h (λ s i. f s (behind-in s x xs i)) (k .1))
 
 order-same : (at to : ℕ → ℕ) (es : List Entry) → ((s : ℕ) → isIn s es ≡ true → to s ≡ at s) → InOrder at es → InOrder to es
 order-same at to [] f k = tt
-order-same at to (x ∷ xs) f k =
-    (later-same at to x xs (f (x .seat) (first-in x xs)) (λ s i. f s (behind-in s x xs i)) (k .0), order-same at to xs (λ s i. f s (behind-in s x xs i)) (k .1))
+order-same at to (x ∷ xs) f k = (
+  later-same at to x xs (f (x .seat) (first-in x xs)) (λ s i. f s (behind-in s x xs i)) (k .0),
+  order-same at to xs (λ s i. f s (behind-in s x xs i)) (k .1),
+)
 
 -- the times after a step
 abbrev stamp : Marks → Asking → List Entry → ℕ → (ℕ → ℕ) → ℕ → ℕ
@@ -97,7 +66,8 @@ stamp m a es n at s = if isPlaced s m || isMoved s a (placeIn s es) then suc n e
 apart : (t s : ℕ) (es : List Entry) → isIn t es ≡ false → isIn s es ≡ true → eqb t s ≡ false
 apart t s es w i = by-test (eqb t s) (λ z. clash i (ap (λ (x : ℕ). isIn x es) (sym (eqb-true t s z)) ∙ w)) (λ z. z)
 
-module _ (d : Desk) (x : Doing) (new : Core) (m : Marks) (at : ℕ → ℕ) (n : ℕ) (past : (s : ℕ) → at s ≤ n) (ok : Sound d) (deaf : Deaf d) (k : InOrder at (waiting (d .core .line))) where
+module _ (d : Desk) (x : Doing) (new : Core) (m : Marks) (at : ℕ → ℕ) (n : ℕ) (past : (s : ℕ) → at s ≤ n) (ok : Sound d)
+    (none : NoneReceivesOnly d) (k : InOrder at (waiting (d .core .line))) where
   abbrev line : List Entry
   line = waiting (d .core .line)
 
@@ -110,15 +80,17 @@ module _ (d : Desk) (x : Doing) (new : Core) (m : Marks) (at : ℕ → ℕ) (n :
   kept : (s : ℕ) → isPlaced s m ≡ false → isMoved s a (placeIn s line) ≡ false → to s ≡ at s
   kept s p q = if-no _ _ _ (neither _ _ p q)
 
-  comes : (t p : ℕ) (es : List Entry) → isIn t es ≡ false → to t ≡ suc n → ((s : ℕ) → eqb t s ≡ false → to s ≡ at s) → Sorted es → InOrder at es → InOrder to (enter (entry t p) es)
+  comes : (t p : ℕ) (es : List Entry) → isIn t es ≡ false → to t ≡ suc n → ((s : ℕ) → eqb t s ≡ false → to s ≡ at s) → Sorted es →
+      InOrder at es → InOrder to (enter (entryOf t p) es)
   comes t p es w z f o i =
-      order-enter to (entry t p) es o (λ s j. rw (f s (apart t s es w j), z) (let b = past s in omega arith)) (order-same at to es (λ s j. f s (apart t s es w j)) i)
+      order-enter to (entryOf t p) es o (λ s j. rw (f s (apart t s es w j), z) (let b = past s in omega arith))
+      (order-same at to es (λ s j. f s (apart t s es w j)) i)
 
   quiet-order : (es : List Entry) → a ≡ nobody → ((s : ℕ) → isPlaced s m ≡ false) → InOrder at es → InOrder to es
   quiet-order es q p i = order-same at to es (λ s _. kept s (p s) (ap (λ (y : Asking). isMoved s y (placeIn s line)) q)) i
 
   still-order : ((t p : ℕ) → a ≡ asks t p → Unmoved (d .core) (d .hall) t p) → ((s : ℕ) → isPlaced s m ≡ false) → InOrder to line
-  still-order u p = order-same at to line (λ s _. kept s (p s) (still-moved line s a (λ t v q. unmoved d ok deaf t v (u t v q)))) k
+  still-order u p = order-same at to line (λ s _. kept s (p s) (still-moved line s a (λ t v q. unmoved d ok none t v (u t v q)))) k
 
   other : (t p s : ℕ) → a ≡ asks t p → eqb t s ≡ false → isMoved s a (placeIn s line) ≡ false
   other t p s q z = ap (λ (y : Asking). isMoved s y (placeIn s line)) q ∙ moved-by s t p line ∙ ap (λ (b : Bool). b && moves t p line) z
@@ -133,12 +105,15 @@ module _ (d : Desk) (x : Doing) (new : Core) (m : Marks) (at : ℕ → ℕ) (n :
       rw l (comes t p (without (only t) line)
       (gone-out t line b)
       (if-yes (isPlaced t m || isMoved t a (placeIn t line)) (suc n) (at t)
-      (or-right (isPlaced t m) (isMoved t a (placeIn t line)) (ap (λ (y : Asking). isMoved t y (placeIn t line)) q ∙ moved-by t t p line ∙ rw (eq-eqb t t refl, moves-so t p line w o))))
+      (or-right (isPlaced t m) (isMoved t a (placeIn t line))
+      (ap (λ (y : Asking). isMoved t y (placeIn t line)) q ∙ moved-by t t p line ∙ rw (eq-eqb t t refl, moves-so t p line w o))))
       (λ s z. kept s (ap (isPlaced s) e) (other t p s q z))
-      (without-ok (d .hall) (only t) line (ok .core .line .list) .sorted) (order-without at (only t) line k))
-  order-kept (strikes t b q g w l f e) = rw l (quiet-order (without (only t) line) q (λ s. ap (isPlaced s) e) (order-without at (only t) line k))
+      (without-ok (d .hall) (only t) line (ok .core .line .list) .sorted) (along-without (Later at) (only t) line k))
+  order-kept (strikes t b q g w l f e) =
+      rw l (quiet-order (without (only t) line) q (λ s. ap (isPlaced s) e) (along-without (Later at) (only t) line k))
   order-kept (passes t y es q h b w l f e) =
-      rw l (quiet-order (without (only (y .seat)) (y ∷ es)) q (λ s. ap (isPlaced s) e) (rw w at (order-without at (only (y .seat)) line k)))
+      rw l (quiet-order (without (only (y .seat)) (y ∷ es)) q (λ s. ap (isPlaced s) e)
+      (rw w at (along-without (Later at) (only (y .seat)) line k)))
   order-kept (frees t q h w l f e) = rw l tt
   order-kept (halts t y h l f e) = rw l tt
   order-kept (closes y i l f e) = rw l tt
@@ -147,33 +122,36 @@ latest-past : (s : ℕ) (rows : List Row) → latest s rows ≤ length rows
 latest-past s [] = omega arith
 latest-past s (r ∷ past) =
     let z = latest-past s past in
-    by-if (λ (n : ℕ). n ≤ suc (length past)) (isPlaced s (r .report .marks) || isMoved s (r .asked) (placeOf s past)) (λ _. omega arith) (λ _. omega arith)
+    by-if (λ (n : ℕ). n ≤ suc (length past)) (isPlaced s (r .report .marks) || isMoved s (r .asked) (placeOf s past)) (λ _. omega arith)
+    (λ _. omega arith)
 
-in-order : (start : Desk) → Fresh start → (past : History) → InOrder (λ s. latest s (log happens start past)) (waiting (deskAfter happens start past .core .line))
-unfolding happens
+in-order : (start : Desk) → Fresh start → (past : History) →
+    InOrder (λ s. latest s (log does start past)) (waiting (deskAfter does start past .core .line))
 in-order start f [] = rw (fresh-line start f) tt
 in-order start f (x ∷ past) =
-    let rows = log happens start past in
-    let d = deskAfter happens start past in
-    order-same (λ s. stamp (happens d x .report .marks) (asked (d .hall) (heard x)) (waiting (d .core .line)) (length rows) (λ t. latest t rows) s) (λ s. latest s (log happens start (x ∷ past)))
-    (waiting (happens d x .desk .core .line))
+    let rows = log does start past in
+    let d = deskAfter does start past in
+    let m = does d x .report .marks in
+    let k = sound-after start f past in
+    order-same (λ s. stamp m (asking (d .hall) x) (waiting (d .core .line)) (length rows) (λ t. latest t rows) s)
+    (λ s. latest s (log does start (x ∷ past)))
+    (waiting (does d x .desk .core .line))
     (λ s _. rw (place-worked-out start f past s))
-    (go d (heard x) (sound-after start f past) (deaf-after start f past) (λ s. latest s rows) (length rows) (λ s. latest-past s rows) (in-order start f past))
-  where
-    go : (d : Desk) (x : Heard) → Sound d → Deaf d → (at : ℕ → ℕ) (n : ℕ) → ((s : ℕ) → at s ≤ n) → InOrder at (waiting (d .core .line)) →
-        InOrder (stamp (outcome d x .report .marks) (asked (d .hall) x) (waiting (d .core .line)) n at) (waiting (outcome d x .desk .core .line))
-    go d (unread m) k v at n p o = order-same at _ (waiting (d .core .line)) (λ s _. if-no _ _ _ refl) o
-    go d (doing x) k v at n p o = order-kept d x (does d x .core) (does d x .report .marks) at n p k v o (step-does d x k)
+    (order-kept d x (does d x .desk .core) m (λ s. latest s rows) (length rows) (λ s. latest-past s rows) k (none-after start f past)
+    (in-order start f past) (step-does d x k))
 
-later-at : (at : ℕ → ℕ) (e : Entry) (s : ℕ) (es : List Entry) → Later at e es → isIn s es ≡ true → priorityOf s es ≡ e .priority → at (e .seat) < at s
+later-at : (at : ℕ → ℕ) (e : Entry) (s : ℕ) (es : List Entry) → All (Later at e) es → isIn s es ≡ true → priorityOf s es ≡ e .priority →
+    at (e .seat) < at s
 later-at at e s [] k i q = clash i (in-nil s)
 later-at at e s (x ∷ xs) k i q =
     by-test (eqb (x .seat) s)
     (λ z. rw (sym (eqb-true (x .seat) s z)) (k .0 (sym (if-yes _ _ _ z) ∙ sym (priority-cons s x xs) ∙ q)))
-    (λ z. later-at at e s xs (k .1) (sym (ap (λ (b : Bool). b || isIn s xs) z) ∙ sym (in-cons s x xs) ∙ i) (sym (if-no _ _ _ z) ∙ sym (priority-cons s x xs) ∙ q))
+    (λ z. later-at at e s xs (k .1) (sym (ap (λ (b : Bool). b || isIn s xs) z) ∙ sym (in-cons s x xs) ∙ i)
+    (sym (if-no _ _ _ z) ∙ sym (priority-cons s x xs) ∙ q))
 
 -- 3
-module _ (rows : List Row) (e : Entry) (es : List Entry) (s : Sorted (e ∷ es)) (k : InOrder (λ s. latest s rows) (e ∷ es)) (f : (t : ℕ) → placeOf t rows ≡ placeIn t (e ∷ es)) where
+module _ (rows : List Row) (e : Entry) (es : List Entry) (s : Sorted (e ∷ es)) (k : InOrder (λ s. latest s rows) (e ∷ es))
+    (f : (t : ℕ) → placeOf t rows ≡ placeIn t (e ∷ es)) where
   head-priority : priorityOf (e .seat) (e ∷ es) ≡ e .priority
   head-priority = priority-cons (e .seat) e es ∙ if-yes _ _ _ (eq-eqb (e .seat) (e .seat) refl)
 
@@ -182,26 +160,25 @@ module _ (rows : List Row) (e : Entry) (es : List Entry) (s : Sorted (e ∷ es))
       record {
         priority = e .priority;
         waits = f (e .seat) ∙ place-at (e .seat) (e ∷ es) (first-in e es) ∙ ap inLine head-priority;
-        highest = λ t p q. let z = in-place t p (e ∷ es) (sym (f t) ∙ q) in rw (sym (z .1)) (priority-most (e .priority) t (e ∷ es) (omega arith, s .0) (z .0));
+        highest =
+            λ t p q. let z = in-place t p (e ∷ es) (sym (f t) ∙ q) in
+            rw (sym (z .1)) (priority-most (e .priority) t (e ∷ es) (omega arith, s .0) (z .0));
         earliest = λ t q n.
             let z = in-place t (e .priority) (e ∷ es) (sym (f t) ∙ q) in
             let y : eqb (e .seat) t ≡ false = ne-eqb (e .seat) t (λ x. n (sym x)) in
-            later-at (λ x. latest x rows) e t es (k .0) (or-else _ _ y (sym (in-cons t e es) ∙ z .0)) (sym (if-no _ _ _ y) ∙ sym (priority-cons t e es) ∙ z .1);
+            later-at (λ x. latest x rows) e t es (k .0) (or-else _ _ y (sym (in-cons t e es) ∙ z .0))
+            (sym (if-no _ _ _ y) ∙ sym (priority-cons t e es) ∙ z .1);
       }
 
-pub goes-to-the-first : GoesToTheFirst happens
-unfolding happens
+pub goes-to-the-first : GoesToTheFirst does
 goes-to-the-first start f past now t u p z i n =
-    let d = deskAfter happens start past in
-    let rows = log happens start past in
+    let d = deskAfter does start past in
+    let rows = log does start past in
+    let k = sound-after start f past in
     let y = in-place u p (waiting (d .core .line)) (sym (place-worked-out start f past u) ∙ i) in
-    let x = go d (heard now) (sound-after start f past) z (y .0) n in (
+    let x = goes-to-head d now (does d now .desk .core) (does d now .report .marks) (step-does d now k) t u z (y .0) n in (
       x .0 .seat,
       x .3,
-      head-first rows (x .0) (x .1) (rw (x .2) at (sound-after start f past .core .line .list .sorted)) (rw (x .2) at (in-order start f past)) (λ s. place-worked-out start f past s ∙ ap (placeIn s) (x .2)),
+      head-first rows (x .0) (x .1) (rw (x .2) at (k .core .line .list .sorted)) (rw (x .2) at (in-order start f past))
+          (λ s. place-worked-out start f past s ∙ ap (placeIn s) (x .2)),
     )
-  where
-    go : (d : Desk) (x : Heard) → Sound d → isEnded t (outcome d x .report .marks) ≡ true → isIn u (waiting (d .core .line)) ≡ true → isStopped (outcome d x .desk .core .phase) ≡ false →
-        (e : Entry) × (es : List Entry) × (waiting (d .core .line) ≡ e ∷ es) × (outcome d x .report .marks .given ≡ OutOfLine (e .seat))
-    go d (unread m) k z i n = clash z refl
-    go d (doing x) k z i n = goes-to-head d x (does d x .core) (does d x .report .marks) (step-does d x k) t u z i n

@@ -1,10 +1,12 @@
--- The mission's third demand: over any sequence of events from any fresh desk, made or loaded, nobody drops out unseen. First what a history
--- is, then how it is counted, then the five statements. Nothing is assumed but a fresh desk.
+-- The mission's third demand: over any sequence of events from any fresh desk, made or loaded, nobody drops out unseen. First what a
+-- history is, then how it is counted, then the five statements. Nothing is assumed but a fresh desk.
 --
 -- Where the demands are proved:
---   1, 2  of each call and each step: the promises above the functions, each proved in its crate. Packets: reading, writing, and again for what
---         is written and read back. The desk: rules, desk, call; Thursday's exercise and the idle versions: exercise.
---   3     of any sequence of steps: the statements below. 1, 4 and the first half of 5 in proofs/Counts, 2 and the rest of 5 in proofs/Steps,
+-- 1, 2 of each call and each step: the promises above the functions, each proved in its crate. Packets: reading, writing, and again for
+-- what
+-- is written and read back. The desk: request, giving, timers, firing, events, packet_events; Thursday's exercise and the idle versions:
+-- exercise.
+-- 3 of any sequence of steps: the statements below. 1, 4 and the first half of 5 in proofs/Counts, 2 and the rest of 5 in proofs/Steps,
 --         3 in proofs/Order. The same of the library that C programs call, from its promises: crate library.
 use Prim.Native.Nat.{ℕ, suc, _+_, _≤_, _<_}
 use mathlib.Core.Path.{_≡_}
@@ -13,83 +15,35 @@ use mathlib.Core.List.{List, [], _∷_}
 use lib.Dec.{eqb}
 use lib.ListN.{length, getD}
 use Rattle.words.specs.Choice.{if_then_else_, one}
-use Rattle.message.specs.Answers.{Answer, refused, result}
-use Rattle.message.specs.declared.Message as read
-use Rattle.reading.specs.Reading.{reading}
-use Rattle.call.specs.Call.{eventOf}
 use Rattle.line.specs.declared.Entry.{Entry}
-use Rattle.line.specs.Line.{waiting, isIn, enter, without, priorityOf}
+use Rattle.line.specs.Line.{waiting, isIn, enter, without, priorityOf, entryOf}
 use Rattle.hall.specs.declared.Hall.{Hall}
-use Rattle.hall.specs.Answers.{number}
 use Rattle.hall.specs.Seats.{only}
-use Rattle.rules.specs.declared.Core.{Core}
-use Rattle.rules.specs.declared.Message.{Message}
-use Rattle.rules.specs.declared.Mark.{Mark}
-use Rattle.rules.specs.declared.Mark.the-variants.{NoSeat, Seat}
-use Rattle.rules.specs.declared.Given.{Given}
-use Rattle.rules.specs.declared.Given.the-variants.{NotGiven, AtOnce, OutOfLine}
-use Rattle.rules.specs.declared.Marks.{Marks}
-use Rattle.rules.specs.Words.{silence, noMarks}
-use Rattle.rules.specs.Floor.{holds}
-use Rattle.rules.specs.Request.{entry, waits}
-use Rattle.desk.specs.declared.Left.{Left}
-use Rattle.desk.specs.Timers.{isStopped}
-use Rattle.history.specs.Doing.{Desk, Doing, event, does, deskOf, Fresh}
+use Rattle.steps.specs.declared.Core.{Core}
+use Rattle.steps.specs.declared.Mark.{Mark}
+use Rattle.steps.specs.declared.Mark.the-variants.{NoSeat, Seat}
+use Rattle.steps.specs.declared.Given.{Given}
+use Rattle.steps.specs.declared.Given.the-variants.{NotGiven, AtOnce, OutOfLine}
+use Rattle.steps.specs.declared.Marks.{Marks}
+use Rattle.steps.specs.declared.Report.{Report}
+use Rattle.giving.specs.Floor.{holds}
+use Rattle.request.specs.Request.{waits}
+use Rattle.events.specs.declared.Outcome.{Outcome}
+use Rattle.timers.specs.Timers.{isStopped}
+use Rattle.events.specs.declared.Desk.{Desk}
+use Rattle.history.specs.Doing.{Doing, Fresh}
 use Rattle.history.specs.Asking.{Asking, nobody, asks, asking, givesUp, stopsCall}
 use Rattle.marks.specs.Marks.{isSeat, isGiven, isOut}
 
 -- WHAT HAPPENS
-
--- Octets come in as a packet, whatever they are; or anything else happens: media, a join, a leave, start, stop, a timer.
-pub data Happening : Type 0 where
-  packet : List ℕ → Happening
-  other : Doing → Happening
-
--- "Only a packet that was read becomes an event"; of any other there is the number of its refusal.
-pub data Heard : Type 0 where
-  unread : ℕ → Heard
-  doing : Doing → Heard
-
-abbrev pub byReading : Answer read.Message → Heard
-byReading (refused n) = unread n
-byReading (result m) = doing (event (eventOf m))
-
-unfoldable pub heard : Happening → Heard
-heard (packet octets) = byReading (reading octets)
-heard (other x) = doing x
-
--- What comes of it: the desk afterwards, and what is reported.
-pub record Report : Type 0 where
-  pub answer : ℕ
-  pub first : Message
-  pub second : Message
-  pub marks : Marks
-
-pub record Outcome : Type 0 where
-  pub desk : Desk
-  pub report : Report
-
-abbrev pub ofDoing : Left → Outcome
-ofDoing l =
-    record {
-      desk = deskOf l;
-      report = record { answer = number (l .report .answer); first = l .report .first; second = l .report .second; marks = l .report .marks };
-    }
-
-abbrev pub outcome : Desk → Heard → Outcome
-outcome d (unread n) = record { desk = d; report = record { answer = n; first = silence; second = silence; marks = noMarks } }
-outcome d (doing x) = ofDoing (does d x)
-
-unfoldable pub happens : Desk → Happening → Outcome
-happens d x = outcome d (heard x)
-
--- A server is whatever makes an outcome of what happens; the rules' own is `happens`.
+-- Octets come in as a packet, whatever they are and whether they are read or not; or anything else happens: media, a join, a leave, start,
+-- stop, a timer. A server is whatever makes of it an answer, the desk afterwards and a report; the rules' own is `does`.
 abbrev pub Server : Type 0
-Server = Desk → Happening → Outcome
+Server = Desk → Doing → Outcome
 
 -- A history is what happened, the latest first, to a desk that was fresh.
 abbrev pub History : Type 0
-History = List Happening
+History = List Doing
 
 abbrev pub deskAfter : Server → Desk → History → Desk
 deskAfter server start [] = start
@@ -98,16 +52,12 @@ deskAfter server start (x ∷ past) = server (deskAfter server start past) x .de
 -- THE LOG OF AN EVENING
 -- A row for each step, the latest first: what was asked, and what was reported. The rest of the desk is not on it.
 
-abbrev pub asked : Hall → Heard → Asking
-asked h (unread n) = nobody
-asked h (doing x) = asking h x
-
 pub record Row : Type 0 where
   pub asked : Asking
   pub report : Report
 
-abbrev pub rowOf : Server → Desk → Happening → Row
-rowOf server d x = record { asked = asked (d .hall) (heard x); report = server d x .report }
+abbrev pub rowOf : Server → Desk → Doing → Row
+rowOf server d x = record { asked = asking (d .hall) x; report = server d x .report }
 
 abbrev pub log : Server → Desk → History → List Row
 log server start [] = []
@@ -148,8 +98,8 @@ moves s p es = isIn s es && not (eqb (priorityOf s es) p)
 -- who is placed comes in; who is moved goes out and comes in
 abbrev pub comesIn : Asking → Mark → List Entry → List Entry
 comesIn nobody m es = es
-comesIn (asks s p) (Seat t) es = enter (entry s p) es
-comesIn (asks s p) NoSeat es = if moves s p es then enter (entry s p) (without (only s) es) else es
+comesIn (asks s p) (Seat t) es = enter (entryOf s p) es
+comesIn (asks s p) NoSeat es = if moves s p es then enter (entryOf s p) (without (only s) es) else es
 
 -- who is given the floor out of the line goes out
 abbrev pub goesOut : Given → List Entry → List Entry
@@ -213,17 +163,13 @@ latest s (r ∷ past) =
 
 -- WHY A SEAT MAY BE STRUCK OFF: its own release, its own leave, or the call stops
 
-abbrev pub reasonOf : Hall → Doing → ℕ → Bool
-reasonOf h x s = givesUp h x s || stopsCall x
-
-abbrev pub reason : Hall → Heard → ℕ → Bool
-reason h (unread n) s = false
-reason h (doing x) s = reasonOf h x s
+abbrev pub reason : Hall → Doing → ℕ → Bool
+reason h x s = givesUp h x s || stopsCall x
 
 -- THE FIVE STATEMENTS
--- Each is of a server, any fresh desk, any history and any seat number: proved of the rules' server `happens`, and refuted of faulty ones
--- (crate `faults`). `desk` and `rows` are the desk and the log after the history; in 2, 3 and the first half of 5, `now` is what happens next
--- and `new` what comes of it.
+-- Each is of a server, any fresh desk, any history and any seat number: proved of the rules' server `does`, and refuted of faulty ones
+-- (crate `faults`). `desk` and `rows` are the desk and the log after the history; in 2, 3 and the first half of 5, `now` is what happens
+-- next and `new` what comes of it.
 
 -- 1. "times placed in line = times given the floor out of the line + times struck off + 1 if it waits now"; and it waits at most once
 abbrev pub NobodyDropsOut : Server → Type 0
@@ -235,13 +181,13 @@ NobodyDropsOut server = (start : Desk) → Fresh start → (past : History) (s :
 
 -- 2. "Struck off only in a step where it releases, leaves, or the call stops."
 abbrev pub StruckForAReason : Server → Type 0
-StruckForAReason server = (start : Desk) → Fresh start → (past : History) (now : Happening) (s : ℕ) →
+StruckForAReason server = (start : Desk) → Fresh start → (past : History) (now : Doing) (s : ℕ) →
     let desk = deskAfter server start past in
     let new = server desk now in
-    isStruck s (new .report .marks) ≡ true → reason (desk .hall) (heard now) s ≡ true
+    isStruck s (new .report .marks) ≡ true → reason (desk .hall) now s ≡ true
 
--- 3. "A floor that ends with a line waiting, the call going on, goes to the highest priority, and among equals to the one whose latest placing
--- or move came first." Who waits, and at which priority, is read off the log.
+-- 3. "A floor that ends with a line waiting, the call going on, goes to the highest priority, and among equals to the one whose latest
+-- placing or move came first." Who waits, and at which priority, is read off the log.
 pub record ComesFirst (rows : List Row) (s : ℕ) : Type 0 where
   pub priority : ℕ
   pub waits : placeOf s rows ≡ inLine priority
@@ -249,7 +195,7 @@ pub record ComesFirst (rows : List Row) (s : ℕ) : Type 0 where
   pub earliest : (t : ℕ) → placeOf t rows ≡ inLine priority → (t ≡ s → ⊥) → latest s rows < latest t rows
 
 abbrev pub GoesToTheFirst : Server → Type 0
-GoesToTheFirst server = (start : Desk) → Fresh start → (past : History) (now : Happening) (t u p : ℕ) →
+GoesToTheFirst server = (start : Desk) → Fresh start → (past : History) (now : Doing) (t u p : ℕ) →
     let rows = log server start past in
     let new = server (deskAfter server start past) now in
     isEnded t (new .report .marks) ≡ true → placeOf u rows ≡ inLine p → isStopped (new .desk .core .phase) ≡ false →
@@ -272,7 +218,7 @@ pub record Marked (old new : Core) (m : Marks) (s : ℕ) : Type 0 where
   pub loses : holds (old .phase) s ≡ true → holds (new .phase) s ≡ false → isEnded s m ≡ true
 
 abbrev pub NothingUnseen : Server → Type 0
-NothingUnseen server = (start : Desk) → Fresh start → (past : History) (now : Happening) (s : ℕ) →
+NothingUnseen server = (start : Desk) → Fresh start → (past : History) (now : Doing) (s : ℕ) →
     let desk = deskAfter server start past in
     let new = server desk now in
     Marked (desk .core) (new .desk .core) (new .report .marks) s

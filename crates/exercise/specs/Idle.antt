@@ -1,7 +1,7 @@
--- The idle versions of document 01, "How strictly it is stated": desks that do nothing, or nothing right, and the row of Thursday's table where
--- each is stopped. A version is any function from a desk and what happens to it to the desk afterwards and its report. It plays the table by
--- itself: each row on the desk that it left after the rows before. It keeps a row if what is seen of its step there is the table's.
--- Assumes nothing.
+-- The idle versions of document 01, "How strictly it is stated": desks that do nothing, or nothing right, and the row of Thursday's table
+-- where each is stopped. A version is any function from a desk and what happens to it to the desk afterwards and its report. It plays the
+-- table by itself: each row on the desk that it left after the rows before. It keeps a row if what is seen of its step there is the
+-- table's. Assumes nothing.
 use Prim.Native.Nat.{ℕ, zero, suc, _<_}
 use mathlib.Core.Path.{_≡_, refl, ap, sym, _∙_}
 use mathlib.Core.Bool.{Bool, true, false}
@@ -12,27 +12,28 @@ use Rattle.words.proofs.Tests.{clash}
 use Rattle.hall.specs.declared.Asked.{Asked}
 use Rattle.hall.specs.declared.Asked.the-variants.{Priority}
 use Rattle.hall.specs.declared.Answer.the-variants.{Done}
-use Rattle.rules.specs.declared.Core.{Core}
-use Rattle.rules.specs.declared.Phase.{Phase}
-use Rattle.rules.specs.declared.Mark.{Mark}
-use Rattle.rules.specs.declared.Mark.the-variants.{NoSeat, Seat}
-use Rattle.rules.specs.declared.Marks.{Marks}
-use Rattle.rules.specs.Words.{done, noMarks, isNothing}
-use Rattle.desk.specs.declared.Event.the-variants.{Start, Request}
-use Rattle.desk.specs.declared.Left.{Left}
-use Rattle.desk.specs.Events.{fresh, left}
-use Rattle.history.specs.Doing.{Desk, Doing, event, deskOf, after, does, stepsOf}
+use Rattle.steps.specs.declared.Core.{Core}
+use Rattle.steps.specs.declared.Phase.{Phase}
+use Rattle.steps.specs.declared.Mark.{Mark}
+use Rattle.steps.specs.declared.Mark.the-variants.{NoSeat, Seat}
+use Rattle.steps.specs.declared.Marks.{Marks}
+use Rattle.steps.specs.Words.{done, noMarks, isNothing}
+use Rattle.events.specs.declared.Event.the-variants.{Start, Request}
+use Rattle.events.specs.declared.Outcome.{Outcome}
+use Rattle.events.specs.Events.{fresh, outcome}
+use Rattle.events.specs.declared.Desk.{Desk}
+use Rattle.history.specs.Doing.{Doing, event, after, does, stepsOf}
 use Rattle.ways.specs.Refusals.{isDeny}
 use Rattle.exercise.specs.Thursday.{start, Seen, seen, Row, row-b, table, events, outcomes, seenAll, thursday}
 
 abbrev pub Version : Type 0
-Version = Desk → Doing → Left
+Version = Desk → Doing → Outcome
 
 -- row n of some rows, counted from 0, is kept
 abbrev pub keepsIn : Version → Desk → List Row → ℕ → Type 0
 keepsIn v d [] n = ⊥
 keepsIn v d (r ∷ rs) zero = seen (v d (r .happens)) ≡ r .comes
-keepsIn v d (r ∷ rs) (suc n) = keepsIn v (deskOf (v d (r .happens))) rs n
+keepsIn v d (r ∷ rs) (suc n) = keepsIn v (v d (r .happens) .desk) rs n
 
 abbrev pub Keeps : Version → ℕ → Type 0
 Keeps v n = keepsIn v start table n
@@ -61,7 +62,7 @@ abbrev ask-b : Doing
 ask-b = event (Request 10 (Priority 5))
 
 abbrev desk-b : Version → Desk
-desk-b v = deskOf (v start (event Start))
+desk-b v = v start (event Start) .desk
 
 -- the rules keep every row: that is the statement of Thursday's exercise
 abbrev firstOf : List Seen → Seen
@@ -85,7 +86,7 @@ keeps-a : (v : Version) → v start (event Start) ≡ does start (event Start) �
 keeps-a v e = ap seen e ∙ ap firstOf thursday
 
 -- a desk that refuses all
-pub refuses-all : (v : Version) → ((d : Desk) (x : Doing) → v d x .report .answer ≡ Done → ⊥) → KeepsB v → ⊥
+pub refuses-all : (v : Version) → ((d : Desk) (x : Doing) → v d x .answer ≡ Done → ⊥) → KeepsB v → ⊥
 refuses-all v f k = f (desk-b v) ask-b (ap (λ (s : Seen). s .answer) k)
 
 -- a desk that always denies: it starts as the rules say, so it keeps row a, and whoever asks is told a Deny
@@ -95,31 +96,35 @@ always-denies v s f =
     (keeps-a v (s start), λ k. clash (f (desk-b v) 10 (Priority 5)) (ap (λ (s : Seen). isDeny (s .first .kind)) k))
 
 -- a desk that never changes: the sequence number is 0 at the start and 2 after b
-number-0 : start .core .sequence ≡ 0
+sequence-0 : start .core .sequence ≡ 0
 unfolding fresh does
-number-0 = refl
+sequence-0 = refl
 
-pub never-changes : (v : Version) → ((d : Desk) (x : Doing) → v d x .core ≡ d .core) → KeepsB v → ⊥
+pub never-changes : (v : Version) → ((d : Desk) (x : Doing) → v d x .desk .core ≡ d .core) → KeepsB v → ⊥
 never-changes v f k =
-    let p : v (desk-b v) ask-b .core .sequence ≡ 0 = ap (λ (c : Core). c .sequence) (f (desk-b v) ask-b ∙ f start (event Start)) ∙ number-0 in
-    let q : v (desk-b v) ask-b .core .sequence ≡ 2 = ap (λ (s : Seen). s .sequence) k in
+    let p : v (desk-b v) ask-b .desk .core .sequence ≡ 0 =
+    ap (λ (c : Core). c .sequence) (f (desk-b v) ask-b ∙ f start (event Start)) ∙ sequence-0 in
+    let q : v (desk-b v) ask-b .desk .core .sequence ≡ 2 = ap (λ (s : Seen). s .sequence) k in
     omega arith
 
 -- one that works for the first event, and then only answers 0
-abbrev pub onlyDone : Desk → Left
-onlyDone d = left (done (d .core)) (d .hall) (d .names)
+abbrev pub onlyDone : Desk → Outcome
+onlyDone d = outcome (done (d .core)) (d .hall) (d .names)
 
 pub works-once : (v : Version) → v start (event Start) ≡ does start (event Start)
     → ((x : Doing) → v (after start (event Start)) x ≡ onlyDone (after start (event Start))) → KeepsA v × (KeepsB v → ⊥)
 works-once v e f =
-    let silent : Left → Bool = λ l. isNothing (l .report .first .kind) in
-    (keeps-a v e, λ k. clash (ap (λ (l : Left). silent (v (deskOf l) ask-b)) e ∙ ap silent (f ask-b)) (ap (λ (s : Seen). isNothing (s .first .kind)) k))
+    let silent : Outcome → Bool = λ l. isNothing (l .report .first .kind) in (
+      keeps-a v e,
+      λ k. clash (ap (λ (l : Outcome). silent (v (l .desk) ask-b)) e ∙ ap silent (f ask-b))
+          (ap (λ (s : Seen). isNothing (s .first .kind)) k),
+    )
 
 -- Marks that are invented. Those of a step that is the table's are the table's, at every row.
 abbrev pub marksBy : Version → Desk → List Row → ℕ → Marks
 marksBy v d [] n = noMarks
 marksBy v d (r ∷ rs) zero = v d (r .happens) .report .marks
-marksBy v d (r ∷ rs) (suc n) = marksBy v (deskOf (v d (r .happens))) rs n
+marksBy v d (r ∷ rs) (suc n) = marksBy v (v d (r .happens) .desk) rs n
 
 abbrev pub marksIn : List Row → ℕ → Marks
 marksIn [] n = noMarks
@@ -129,19 +134,19 @@ marksIn (r ∷ rs) (suc n) = marksIn rs n
 invents-in : (v : Version) (d : Desk) (rs : List Row) (n : ℕ) → (marksBy v d rs n ≡ marksIn rs n → ⊥) → keepsIn v d rs n → ⊥
 invents-in v d [] n f k = k
 invents-in v d (r ∷ rs) zero f k = f (ap (λ (s : Seen). s .marks) k)
-invents-in v d (r ∷ rs) (suc n) f k = invents-in v (deskOf (v d (r .happens))) rs n f k
+invents-in v d (r ∷ rs) (suc n) f k = invents-in v (v d (r .happens) .desk) rs n f k
 
 pub invents-marks : (v : Version) (n : ℕ) → (marksBy v start table n ≡ marksIn table n → ⊥) → Keeps v n → ⊥
 invents-marks v n f k = invents-in v start table n f k
 
-abbrev isSeat : Mark → Bool
-isSeat NoSeat = false
-isSeat (Seat s) = true
+abbrev hasSeat : Mark → Bool
+hasSeat NoSeat = false
+hasSeat (Seat s) = true
 
 -- Marks made up from what happens alone, one mark for all among them: g and i are the same request, denied at g and placed at i.
 pub marks-of-the-event : (v : Version) (f : Doing → Marks) → ((d : Desk) (x : Doing) → v d x .report .marks ≡ f x) → KeepsG v → KeepsI v → ⊥
 marks-of-the-event v f m g i =
-    let placed : Marks → Bool = λ x. isSeat (x .placed) in
+    let placed : Marks → Bool = λ x. hasSeat (x .placed) in
     let p = sym (m _ _) ∙ ap (λ (s : Seen). s .marks) g in
     let q = sym (m _ _) ∙ ap (λ (s : Seen). s .marks) i in
     clash (ap placed q) (ap placed p)
@@ -151,12 +156,13 @@ alike : (f : Phase → ℕ → Doing → Marks) (p q : Phase) (m n : ℕ) (x : D
 alike f p q m n x e o = rw (e, o)
 
 pub marks-without-the-line : (v : Version) (f : Phase → ℕ → Doing → Marks)
-    → ((d : Desk) (x : Doing) → v d x .report .marks ≡ f (d .core .phase) (d .core .sequence) x) → KeepsF v → KeepsG v → KeepsH v → KeepsI v → ⊥
+    → ((d : Desk) (x : Doing) → v d x .report .marks ≡ f (d .core .phase) (d .core .sequence) x) → KeepsF v → KeepsG v → KeepsH v →
+    KeepsI v → ⊥
 marks-without-the-line v f m kf kg kh ki =
-    let placed : Marks → Bool = λ x. isSeat (x .placed) in
+    let placed : Marks → Bool = λ x. hasSeat (x .placed) in
     let phase : Seen → Phase = λ s. s .phase in
-    let number : Seen → ℕ = λ s. s .sequence in
+    let sequence : Seen → ℕ = λ s. s .sequence in
     let p = sym (m _ _) ∙ ap (λ (s : Seen). s .marks) kg in
     let q = sym (m _ _) ∙ ap (λ (s : Seen). s .marks) ki in
-    let e = alike f _ _ _ _ _ (ap phase kh ∙ sym (ap phase kf)) (ap number kh ∙ sym (ap number kf)) in
+    let e = alike f _ _ _ _ _ (ap phase kh ∙ sym (ap phase kf)) (ap sequence kh ∙ sym (ap sequence kf)) in
     clash (ap placed q) (ap placed (e ∙ p))

@@ -1,30 +1,19 @@
--- What one field's step answers, case by case, and what is known where it found a field. Assumes nothing.
-use Prim.Native.Nat.{ℕ, _+_, _*_, _/_, _≤_, _<_}
-use native.Mathlib.Omega.{arith}
+-- What one field's step answers, case by case, and what is known by each answer (`step-tells`). Assumes nothing.
+use Prim.Native.Nat.{ℕ, _+_, _≤_, _<_}
 use mathlib.Core.Bool.{true, false}
 use mathlib.Core.List.{List}
-use mathlib.Core.Path.{_≡_, refl, sym, _∙_}
+use mathlib.Core.Logic.{_⊎_, inl, inr}
+use mathlib.Core.Path.{_≡_, refl, sym, subst}
 use lib.Dec.{leb, ltb}
-use lib.ListN.{length, getD}
+use lib.ListN.{length}
 use borrow.Author.Tests.{le-leb, lt-leb, le-ltb, lt-ltb, leb-true, leb-false, ltb-true, ltb-false}
 use Rattle.words.specs.Choice.{if_then_else_, by-test}
 use Rattle.octets.specs.Octets.{be16}
-use Rattle.message.specs.Table.{against, padded, padding}
+use Rattle.message.specs.Table.{against, padded}
 use Rattle.field.specs.declared.Found.{Found}
 use Rattle.field.specs.declared.Step.{Step}
 use Rattle.field.specs.declared.Step.the-variants.{Field, End, PastTheEnd, AgainstTheTable}
 use Rattle.field.specs.Fields.{idAt, lengthAt, fieldAt, stepAt}
-
--- the padded length as the code works it out, and that it is at least 4
-pub padded-is : (l : ℕ) → (l + 5) / 4 * 4 ≡ padded l
-unfolding padded padding
-padded-is l = omega arith
-
-pub padded-least : (l : ℕ) → 4 ≤ padded l
-padded-least l = omega (arith, padded-is l)
-
-pub padded-holds : (l : ℕ) → l + 2 ≤ padded l
-padded-holds l = omega (arith, padded-is l)
 
 module _ (s : List ℕ) (at : ℕ) where
   pub step-end : length s ≤ at → stepAt s at ≡ End
@@ -48,33 +37,44 @@ module _ (s : List ℕ) (at : ℕ) where
     unfolding stepAt if_then_else_
     step-field a = rw (lt-leb (length s) at h, lt-leb 192 (idAt s at) i, le-ltb (length s) (at + padded (lengthAt s at)) p, a)
 
--- what is known where a field was found
+-- what is known where a step gave each of its answers: this taken apart the other way round, once for all who walk
 pub record Sound (s : List ℕ) (at : ℕ) (f : Found) : Type 0 where
   pub inside : at < length s
+  pub below : idAt s at < 192
   pub fits : at + padded (lengthAt s at) ≤ length s
   pub fine : against (idAt s at) (lengthAt s at) (be16 s (at + 2)) ≡ false
   pub is : f ≡ fieldAt s at
 
-pub step-sound : (s : List ℕ) (at : ℕ) (f : Found) → stepAt s at ≡ Field f → Sound s at f
-step-sound s at f e =
-    by-test (leb (length s) at) (λ t. not-so End (step-end s at (leb-true (length s) at t)) (λ q. differ (cc)))
+abbrev pub Tells : List ℕ → ℕ → Step → Type 0
+Tells s at (Field f) = Sound s at f
+Tells s at End = length s ≤ at
+Tells s at PastTheEnd = (at < length s) × (idAt s at < 192) × (length s < at + padded (lengthAt s at))
+Tells s at AgainstTheTable =
+    (at < length s)
+    × ((192 ≤ idAt s at)
+    ⊎ (at + padded (lengthAt s at) ≤ length s) × (against (idAt s at) (lengthAt s at) (be16 s (at + 2)) ≡ true))
+
+pub step-tells : (s : List ℕ) (at : ℕ) → Tells s at (stepAt s at)
+step-tells s at =
+    by-test (leb (length s) at)
+    (λ t. let h = leb-true (length s) at t in tells End (step-end s at h) h)
     (λ t.
     let h : at < length s = leb-false (length s) at t in
-    by-test (leb 192 (idAt s at)) (λ u. not-so AgainstTheTable (step-high s at h (leb-true 192 (idAt s at) u)) (λ q. differ (cc)))
+    by-test (leb 192 (idAt s at))
+    (λ u. let i = leb-true 192 (idAt s at) u in tells AgainstTheTable (step-high s at h i) (h, inl i))
     (λ u.
     let i : idAt s at < 192 = leb-false 192 (idAt s at) u in
     by-test (ltb (length s) (at + padded (lengthAt s at)))
-    (λ v. not-so PastTheEnd (step-past s at h i (ltb-true (length s) (at + padded (lengthAt s at)) v)) (λ q. differ (cc)))
+    (λ v. let p = ltb-true (length s) (at + padded (lengthAt s at)) v in tells PastTheEnd (step-past s at h i p) (h, i, p))
     (λ v.
     let p : at + padded (lengthAt s at) ≤ length s = ltb-false (length s) (at + padded (lengthAt s at)) v in
     by-test (against (idAt s at) (lengthAt s at) (be16 s (at + 2)))
-    (λ w. not-so AgainstTheTable (step-against s at h i p w) (λ q. differ (cc)))
+    (λ w. tells AgainstTheTable (step-against s at h i p w) (h, inr (p, w)))
     (λ w.
-    let found : stepAt s at ≡ Field (fieldAt s at) = step-field s at h i p w in
-    record { inside = h; fits = p; fine = w; is = cc }))))
+    tells (Field (fieldAt s at)) (step-field s at h i p w) (record { inside = h; below = i; fits = p; fine = w; is = refl })))))
   where
-    differ : _≡_ {A = ℕ} 0 1 → ⊥
-    differ z = omega arith
+    tells : (x : Step) → stepAt s at ≡ x → Tells s at x → Tells s at (stepAt s at)
+    tells x e t = subst (Tells s at) (sym e) t
 
-    not-so : (y : Step) → stepAt s at ≡ y → (Field f ≡ y → ⊥) → Sound s at f
-    not-so y q no-such = absurd (no-such (sym e ∙ q))
+pub step-sound : (s : List ℕ) (at : ℕ) (f : Found) → stepAt s at ≡ Field f → Sound s at f
+step-sound s at f e = subst (Tells s at) e (step-tells s at)

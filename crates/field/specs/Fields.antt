@@ -8,6 +8,7 @@ use Rattle.words.specs.Choice.{if_then_else_}
 use Rattle.octets.specs.Octets.{be16}
 use Rattle.message.specs.Table.{against, padded}
 use Rattle.message.specs.Answers.{number}
+use Rattle.header.specs.Header.{headerSize}
 use Rattle.message.specs.declared.Refusal.{Refusal}
 use Rattle.field.specs.declared.Found.{Found}
 use Rattle.field.specs.declared.Step.{Step}
@@ -55,4 +56,4 @@ fieldsFrom (suc steps) s at = stepThen (stepAt s at) (λ next. fieldsFrom steps 
 
 -- the fields stand behind the name
 unfoldable pub fieldsIn : List ℕ → Fields
-fieldsIn s = fieldsFrom (length s) s 12
+fieldsIn s = fieldsFrom (length s) s headerSize

@@ -20,12 +20,12 @@ pub enum Step {
     AgainstTheTable,
 }
 
-// Where the next field starts: four octets further for each word that a field has, counted from its ID.
+// Where the next field starts: behind all that this one takes, counted from its ID.
 fn after(at: usize, len: u8) -> usize
     requires { ⌜ at < 2 ^ 63 ⌝ }
     ensures { λ r. ⌜ r ≡ at + padded len ⌝ }
 {
-    at + (len as usize + 5) / 4 * 4
+    at + message::padded(len as usize)
 }
 
 // Judges the field that starts at a place.

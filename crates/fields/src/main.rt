@@ -2,26 +2,27 @@
 // the paper's number.
 use field::Found;
 use field::Step;
-use libc::STDOUT_FILENO;
 
-fn text(s: &[u8]) {
-    io::write_all(STDOUT_FILENO, s);
-}
-
-fn number(n: usize) {
-    io::print_decimal(STDOUT_FILENO, n as u64);
+// A field, the end, or a refusal.
+fn show(k: usize, numbers: [u64; 4]) {
+    printing::row(
+        b"  ID % from %, length %, then %\n^  end\n^  refusal 9\n^  refusal 10\n^",
+        k,
+        numbers,
+    );
 }
 
 fn field(f: Found) {
-    text(b"  ID ");
-    io::print_decimal(STDOUT_FILENO, f.id as u64);
-    text(b" from ");
-    number(f.start);
-    text(b", length ");
-    number(f.len);
-    text(b", then ");
-    number(f.next);
-    text(b"\n");
+    show(
+        0,
+        [f.id as u64, f.start as u64, f.len as u64, f.next as u64],
+    );
+}
+
+// Where no field follows the next place is 0.
+fn stop(k: usize) -> usize {
+    show(k, [0; 4]);
+    0
 }
 
 // Prints what a reader hands out at a place; where the next field stands, and 0 where it was none.
@@ -31,24 +32,15 @@ fn printed(packet: &[u8], at: usize) -> usize {
             field(f);
             f.next
         }
-        Step::End => {
-            text(b"  end\n");
-            0
-        }
-        Step::PastTheEnd => {
-            text(b"  refusal 9\n");
-            0
-        }
-        Step::AgainstTheTable => {
-            text(b"  refusal 10\n");
-            0
-        }
+        Step::End => stop(1),
+        Step::PastTheEnd => stop(2),
+        Step::AgainstTheTable => stop(3),
     }
 }
 
 // A packet has fewer fields than octets, so that the walk ends of itself before the count does.
 fn walk(title: &[u8], packet: &[u8]) {
-    text(title);
+    printing::text(title);
     let mut at = 12;
     let mut n = 0;
     while n < packet.len() {

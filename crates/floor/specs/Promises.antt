@@ -1,27 +1,29 @@
 -- What each exported function promises, one definition for each, in the order of include/floor.h: what it is lent, its answer, and what it
 -- leaves in every buffer that it may write. The function's `ensures` cites it (src/lib.rt), and laws on what C programs see stand on these
--- definitions and on nothing else of the functions (crates kept and library). What they cite is in specs/Floor. Assumes nothing.
+-- definitions and on nothing else of the functions (crates floor_laws and library). What they cite is in specs/Floor. Assumes nothing.
 use Prim.Native.Nat.{ℕ}
 use mathlib.Core.List.{List}
 use mathlib.Core.Path.{_≡_}
 use lib.IntN.{ℤ}
 use Rattle.message.specs.Answers.{result}
-use Rattle.hall.specs.Seats.{seatOf}
-use Rattle.hall.specs.Identity.{seatNamed}
-use Rattle.desk.specs.declared.Event.the-variants.{Start, Stop, Media}
-use Rattle.desk.specs.Timers.{running}
-use Rattle.form.specs.Form.{kindOctet, coreAt, hallAt, namesAt}
-use Rattle.report.specs.Report.{maskOf}
-use Rattle.floor.specs.Floor.{leaves, settings, makeOn, newcomer, joinOn, seatNumbered, leaveOn, eventOn, packetOn, timerNamed, firedOn, messageOn, readOn, writeOn, saveOn, loadOn, screenOn, looks, holderAnswer, timerSet, seatAnswer}
+use Rattle.hall.specs.Seats.{settingsOf as settings, seatOf}
+use Rattle.identities.specs.Identity.{seatNamed}
+use Rattle.events.specs.declared.Event.the-variants.{Start, Stop, Media}
+use Rattle.timers.specs.Timers.{timerNamed, running}
+use Rattle.desk_octets.specs.Form.{kindOctet, coreAt, hallAt, namesAt}
+use Rattle.report_octets.specs.Report.{maskOf}
+use Rattle.desk_steps.specs.Steps.{leaves, seatNumbered, leaveOn, eventOn, packetOn, firedOn}
+use Rattle.desk_making.specs.Making.{makeOn, newcomer, joinOn, loadOn}
+use Rattle.desk_looking.specs.Looking.{messageOn, readOn, writeOn, saveOn, screenOn, looks, holderAnswer, timerSet, seatAnswer}
 
 -- A DESK AND ITS SEATS
 
 abbrev pub MakePromise : (desk : List ℕ) (ssrc level limit c7 c20 duration : ℕ) (answer : ℕ) (desk′ : List ℕ) → Type 0
 MakePromise desk ssrc level limit c7 c20 duration answer desk′ = (answer, desk′) ≡ makeOn desk (settings ssrc level limit c7 c20 duration)
 
-abbrev pub JoinPromise : (desk identity : List ℕ) (ssrc highest queueing listener : ℕ) (answer : ℕ) (desk′ : List ℕ) → Type 0
-JoinPromise desk identity ssrc highest queueing listener answer desk′ =
-    (answer, desk′) ≡ joinOn desk identity (newcomer ssrc highest queueing listener)
+abbrev pub JoinPromise : (desk identity : List ℕ) (ssrc highest queueing receiveOnly : ℕ) (answer : ℕ) (desk′ : List ℕ) → Type 0
+JoinPromise desk identity ssrc highest queueing receiveOnly answer desk′ =
+    (answer, desk′) ≡ joinOn desk identity (newcomer ssrc highest queueing receiveOnly)
 
 abbrev pub LeavePromise : (desk : List ℕ) (seat : ℕ) (report : List ℕ) (answer : ℕ) (desk′ report′ : List ℕ) → Type 0
 LeavePromise desk seat report answer desk′ report′ = leaves answer desk′ report′ ≡ leaveOn desk report (seatNumbered seat)

@@ -1,5 +1,2 @@
 pub mod Seats
-pub mod Identity
-pub mod Join
-pub mod Joins
 pub mod Answers

@@ -6,6 +6,7 @@ use lib.Dec.{leb, eqb}
 use lib.ListN.{getD, set, replicate}
 use Rattle.words.specs.Choice.{if_then_else_}
 use Rattle.hall.specs.declared.Settings.{Settings}
+use Rattle.hall.specs.declared.Flags.{Flags}
 use Rattle.hall.specs.declared.Hall.{Hall}
 use Rattle.hall.specs.declared.Newcomer.{Newcomer}
 use Rattle.hall.specs.declared.Asked.{Asked}
@@ -13,25 +14,39 @@ use Rattle.hall.specs.declared.Asked.the-variants.{Priority, NoField}
 use Rattle.hall.specs.declared.Found.{Found}
 use Rattle.hall.specs.declared.Found.the-variants.{At, Nowhere}
 
--- 28: level 1..255, line limit 0..15, C7 and C20 limits 1..255, duration 1..65535. The upper ends that a setting's own type has are not asked
--- again.
+-- the settings of a desk, and what a newcomer says of itself, from their parts
+abbrev pub settingsOf : ℕ → ℕ → ℕ → ℕ → ℕ → ℕ → Settings
+settingsOf ssrc level limit c7 c20 duration =
+    record { ssrc = ssrc; level = level; limit = limit; c7 = c7; c20 = c20; duration = duration }
+
+abbrev pub newcomerOf : ℕ → ℕ → Flags → Newcomer
+newcomerOf ssrc highest flags = record { ssrc = ssrc; highest = highest; flags = flags }
+
+abbrev pub noFlags : Flags
+noFlags = record { queueing = false; «receive_only» = false }
+
+-- 28: level 1..255, line limit 0..15, C7 and C20 limits 1..255, duration 1..65535. The upper ends that a setting's own type has are not
+-- asked again.
 unfoldable pub inRange : Settings → Bool
 inRange s = leb 1 (s .level) && leb (s .limit) 15 && leb 1 (s .c7) && leb 1 (s .c20) && leb 1 (s .duration)
 
 -- a hall with no seat taken; a free seat has zeros throughout
 unfoldable pub emptyHall : Settings → Hall
 emptyHall s =
-    record { present = replicate 16 false; ssrcs = replicate 16 0; highest = replicate 16 0; queueing = replicate 16 false; listener = replicate 16 false; settings = s }
+    record { present = replicate 16 false; ssrcs = replicate 16 0; highest = replicate 16 0; flags = replicate 16 noFlags; settings = s }
 
 -- what is known of a seat
 abbrev pub isPresent : Hall → ℕ → Bool
 isPresent h s = getD (h .present) s false
 
+abbrev pub flagsAt : Hall → ℕ → Flags
+flagsAt h s = getD (h .flags) s noFlags
+
 abbrev pub queues : Hall → ℕ → Bool
-queues h s = getD (h .queueing) s false
+queues h s = flagsAt h s .queueing
 
 abbrev pub receivesOnly : Hall → ℕ → Bool
-receivesOnly h s = getD (h .listener) s false
+receivesOnly h s = flagsAt h s .«receive_only»
 
 -- sets of seats: one alone, all that are present, and all of those but one
 abbrev pub only : ℕ → List Bool
@@ -70,7 +85,11 @@ firstFrom test (suc n) s = if test s then At s else firstFrom test n (suc s)
 abbrev pub lowest : (ℕ → Bool) → Found
 lowest test = firstFrom test 16 0
 
--- whether a search found this seat
+-- whether a search found a seat, and whether it found this one
+abbrev pub isAt : Found → Bool
+isAt (At s) = true
+isAt Nowhere = false
+
 abbrev pub finds : Found → ℕ → Bool
 finds (At t) s = eqb t s
 finds Nowhere s = false
@@ -92,13 +111,12 @@ withSeat h s here n =
       present = set (h .present) s here;
       ssrcs = set (h .ssrcs) s (n .ssrc);
       highest = set (h .highest) s (n .highest);
-      queueing = set (h .queueing) s (n .queueing);
-      listener = set (h .listener) s (n .listener);
+      flags = set (h .flags) s (n .flags);
       settings = h .settings;
     }
 
 abbrev pub noOne : Newcomer
-noOne = record { ssrc = 0; highest = 0; queueing = false; listener = false }
+noOne = newcomerOf 0 0 noFlags
 
 abbrev pub vacated : Hall → ℕ → Hall
 vacated h s = withSeat h s false noOne

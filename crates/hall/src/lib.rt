@@ -1,13 +1,10 @@
-// The hall of a call: its sixteen seats, its settings, and the names of those who sit there (document 01, "The desk"). Names stand
-// apart from the seats: no step of a running call reads one.
+// The hall of a call: its sixteen seats, its settings, and what a desk answers (document 01, "The desk"). The names of those who sit there
+// stand apart, in the crate identities: no step of a running call reads one.
 ghost use mathlib.Core.Path.{_≡_};
-ghost use Prim.Native.Nat.{_≤_};
 ghost use mathlib.Core.Bool.{true, false};
-ghost use lib.ListN.{length, getD, set};
-ghost use Rattle.hall.specs.Seats.{inRange, emptyHall, isPresent, queues, receivesOnly, only, others, alone, effective, seatOf, freeSeat, withSeat, vacated};
-ghost use Rattle.hall.specs.Identity.{octetsOf, nameOf, noNames, nameAt, withName, same, seatNamed, lengthAllowed};
+ghost use lib.ListN.{getD, set};
+ghost use Rattle.hall.specs.Seats.{settingsOf, newcomerOf, noFlags, inRange, emptyHall, isPresent, flagsAt, queues, receivesOnly, only, others, alone, effective, seatOf, freeSeat, withSeat, vacated};
 ghost use Rattle.hall.specs.Answers.{number, settingsAnswer};
-ghost use Rattle.hall.specs.Join.{join, seated, notJoined, ssrcTaken};
 
 // What a desk answers; specs/Answers.antt has the paper's number of each.
 pub enum Answer {
@@ -20,6 +17,8 @@ pub enum Answer {
     IdentityPresent,
     SsrcPresent,
     OutsideRange,
+    // A packet that was not read: the reader's number.
+    NotRead(u8),
 }
 
 // A set of seats.
@@ -35,13 +34,24 @@ pub struct Settings {
     pub duration: u16,
 }
 
-// The seats, a column for each thing known of them; a free seat has zeros. A listener is receive only.
+// What a seat is flagged as: that it negotiated queueing, that it is receive only.
+pub struct Flags {
+    pub queueing: bool,
+    pub receive_only: bool,
+}
+
+// A free seat's.
+pub const NO_FLAGS: Flags = Flags {
+    queueing: false,
+    receive_only: false,
+};
+
+// The seats, a column for each thing known of them; a free seat has zeros.
 pub struct Hall {
     pub present: [bool; 16],
     pub ssrcs: [u32; 16],
     pub highest: [u8; 16],
-    pub queueing: [bool; 16],
-    pub listener: [bool; 16],
+    pub flags: [Flags; 16],
     pub settings: Settings,
 }
 
@@ -49,8 +59,7 @@ pub struct Hall {
 pub struct Newcomer {
     pub ssrc: u32,
     pub highest: u8,
-    pub queueing: bool,
-    pub listener: bool,
+    pub flags: Flags,
 }
 
 // The priority a request asks for. That the field is missing is a case of its own.
@@ -64,20 +73,29 @@ pub enum Found {
     Nowhere,
 }
 
-pub struct Name {
-    pub octets: [u8; 62],
-    pub len: usize,
+// The settings of a desk, and a newcomer, from their parts: what makes one comes through here.
+
+pub fn settings_of(ssrc: u32, level: u8, limit: u8, c7: u8, c20: u8, duration: u16) -> Settings
+    ensures { λ r. ⌜ r ≡ settingsOf ssrc level limit c7 c20 duration ⌝ }
+{
+    Settings {
+        ssrc,
+        level,
+        limit,
+        c7,
+        c20,
+        duration,
+    }
 }
 
-pub struct Names {
-    pub of: [Name; 16],
-}
-
-pub struct Joined {
-    pub answer: Answer,
-    pub seat: Found,
-    pub hall: Hall,
-    pub names: Names,
+pub fn newcomer_of(ssrc: u32, highest: u8, flags: Flags) -> Newcomer
+    ensures { λ r. ⌜ r ≡ newcomerOf ssrc highest flags ⌝ }
+{
+    Newcomer {
+        ssrc,
+        highest,
+        flags,
+    }
 }
 
 // A column at a seat, and a column with one seat's value stored.
@@ -94,6 +112,13 @@ fn octet(column: [u8; 16], seat: u8) -> u8
 {
     let s = seat as usize;
     if s < 16 { column[s] } else { 0 }
+}
+
+fn flags_in(column: [Flags; 16], seat: u8) -> Flags
+    ensures { λ r. ⌜ r ≡ getD column seat noFlags ⌝ }
+{
+    let s = seat as usize;
+    if s < 16 { column[s] } else { NO_FLAGS }
 }
 
 fn with_flag(column: [bool; 16], seat: u8, value: bool) -> [bool; 16]
@@ -123,6 +148,19 @@ fn with_octet(column: [u8; 16], seat: u8, value: u8) -> [u8; 16]
 }
 
 fn with_word(column: [u32; 16], seat: u8, value: u32) -> [u32; 16]
+    ensures { λ r. ⌜ r ≡ set column seat value ⌝ }
+{
+    let s = seat as usize;
+    if s < 16 {
+        let mut more = column;
+        more[s] = value;
+        more
+    } else {
+        column
+    }
+}
+
+fn with_flags(column: [Flags; 16], seat: u8, value: Flags) -> [Flags; 16]
     ensures { λ r. ⌜ r ≡ set column seat value ⌝ }
 {
     let s = seat as usize;
@@ -180,6 +218,7 @@ pub fn number_of(answer: Answer) -> u8
         Answer::IdentityPresent => 26,
         Answer::SsrcPresent => 27,
         Answer::OutsideRange => 28,
+        Answer::NotRead(n) => n,
     }
 }
 
@@ -189,14 +228,12 @@ pub fn empty_hall(settings: Settings) -> Hall
     let present = [false; 16];
     let ssrcs = [0u32; 16];
     let highest = [0u8; 16];
-    let queueing = [false; 16];
-    let listener = [false; 16];
+    let flags = [NO_FLAGS; 16];
     Hall {
         present,
         ssrcs,
         highest,
-        queueing,
-        listener,
+        flags,
         settings,
     }
 }
@@ -210,18 +247,25 @@ pub fn is_present(hall: Hall, seat: u8) -> bool
     flag(column, seat)
 }
 
+pub fn flags_at(hall: Hall, seat: u8) -> Flags
+    ensures { λ r. ⌜ r ≡ flagsAt hall seat ⌝ }
+{
+    let column = hall.flags;
+    flags_in(column, seat)
+}
+
 pub fn negotiated_queueing(hall: Hall, seat: u8) -> bool
     ensures { λ r. ⌜ r ≡ queues hall seat ⌝ }
 {
-    let column = hall.queueing;
-    flag(column, seat)
+    let flags = flags_at(hall, seat);
+    flags.queueing
 }
 
 pub fn receives_only(hall: Hall, seat: u8) -> bool
     ensures { λ r. ⌜ r ≡ receivesOnly hall seat ⌝ }
 {
-    let column = hall.listener;
-    flag(column, seat)
+    let flags = flags_at(hall, seat);
+    flags.receive_only
 }
 
 // The effective priority: the lower of the one asked and the seat's highest.
@@ -288,7 +332,7 @@ pub fn seat_of(hall: Hall, ssrc: u32) -> Found
     }
 }
 
-fn free_seat(hall: Hall) -> Found
+pub fn free_seat(hall: Hall) -> Found
     ensures { λ r. ⌜ r ≡ freeSeat hall ⌝ }
 {
     let mut s: u8 = 0;
@@ -302,7 +346,7 @@ fn free_seat(hall: Hall) -> Found
 }
 
 // The hall once a seat is what is told of it; join, leave and a sheet all come through here.
-fn with_seat(hall: Hall, seat: u8, here: bool, who: Newcomer) -> Hall
+pub fn with_seat(hall: Hall, seat: u8, here: bool, who: Newcomer) -> Hall
     ensures { λ r. ⌜ r ≡ withSeat hall seat here who ⌝ }
 {
     let present = hall.present;
@@ -311,17 +355,14 @@ fn with_seat(hall: Hall, seat: u8, here: bool, who: Newcomer) -> Hall
     let ssrcs = with_word(ssrcs, seat, who.ssrc);
     let highest = hall.highest;
     let highest = with_octet(highest, seat, who.highest);
-    let queueing = hall.queueing;
-    let queueing = with_flag(queueing, seat, who.queueing);
-    let listener = hall.listener;
-    let listener = with_flag(listener, seat, who.listener);
+    let flags = hall.flags;
+    let flags = with_flags(flags, seat, who.flags);
     let settings = hall.settings;
     Hall {
         present,
         ssrcs,
         highest,
-        queueing,
-        listener,
+        flags,
         settings,
     }
 }
@@ -329,190 +370,6 @@ fn with_seat(hall: Hall, seat: u8, here: bool, who: Newcomer) -> Hall
 pub fn vacate(hall: Hall, seat: u8) -> Hall
     ensures { λ r. ⌜ r ≡ vacated hall seat ⌝ }
 {
-    let who = Newcomer {
-        ssrc: 0,
-        highest: 0,
-        queueing: false,
-        listener: false,
-    };
+    let who = newcomer_of(0, 0, NO_FLAGS);
     with_seat(hall, seat, false, who)
-}
-
-// Names.
-
-pub fn no_names() -> Names
-    ensures { λ r. ⌜ r ≡ noNames ⌝ }
-{
-    let octets = [0u8; 62];
-    let name = Name { octets, len: 0 };
-    let of = [name; 16];
-    Names { of }
-}
-
-// How long a name is, and the octets of an identity one by one.
-
-pub fn name_length(name: Name) -> usize
-    ensures { λ r. ⌜ (r ≡ length (octetsOf name)) × (r ≤ 62) ⌝ }
-{
-    if name.len < 62 { name.len } else { 62 }
-}
-
-fn octet_at(identity: &[u8], i: usize) -> u8
-    ensures { λ r. ⌜ r ≡ getD (now (identity .entry)) i 0 ⌝ }
-{
-    if i < identity.len() { identity[i] } else { 0 }
-}
-
-pub fn name_at(names: Names, seat: u8) -> Name
-    ensures { λ r. ⌜ r ≡ nameAt names seat ⌝ }
-{
-    let s = seat as usize;
-    if s < 16 {
-        names.of[s]
-    } else {
-        let octets = [0u8; 62];
-        Name { octets, len: 0 }
-    }
-}
-
-pub fn with_name(names: Names, seat: u8, name: Name) -> Names
-    ensures { λ r. ⌜ r ≡ withName names seat name ⌝ }
-{
-    let s = seat as usize;
-    let mut of = names.of;
-    if s < 16 {
-        of[s] = name;
-        Names { of }
-    } else {
-        names
-    }
-}
-
-fn name_of(identity: &[u8]) -> Name
-    ensures { λ r. ⌜ r ≡ nameOf (now (identity .entry)) ⌝ }
-{
-    let mut octets = [0u8; 62];
-    let mut i = 0;
-    while i < 62 {
-        octets[i] = octet_at(identity, i);
-        i += 1;
-    }
-    Name {
-        octets,
-        len: identity.len(),
-    }
-}
-
-// Whether a name is this identity, octet for octet.
-fn is_same(name: Name, identity: &[u8]) -> bool
-    ensures { λ r. ⌜ r ≡ same (octetsOf name) (now (identity .entry)) ⌝ }
-{
-    let n = identity.len();
-    if name_length(name) != n {
-        return false;
-    }
-    let mut i = 0;
-    while i < n {
-        if name.octets[i] != identity[i] {
-            return false;
-        }
-        i += 1;
-    }
-    true
-}
-
-// As in seat_of, and of each seat only its own name is copied.
-pub fn seat_named(hall: Hall, names: Names, identity: &[u8]) -> Found
-    ensures { λ r. ⌜ r ≡ seatNamed hall names (now (identity .entry)) ⌝ }
-{
-    let present = hall.present;
-    let all = names.of;
-    let mut found = false;
-    let mut s: usize = 0;
-    while (s < 16) & !found {
-        let name = all[s];
-        found = present[s] & is_same(name, identity);
-        s += 1;
-    }
-    if found {
-        Found::At((s - 1) as u8)
-    } else {
-        Found::Nowhere
-    }
-}
-
-// Join.
-
-fn allowed_length(identity: &[u8]) -> bool
-    ensures { λ r. ⌜ r ≡ lengthAllowed (now (identity .entry)) ⌝ }
-{
-    let n = identity.len();
-    if n < 1 { false } else { n <= 62 }
-}
-
-fn ssrc_taken(hall: Hall, ssrc: u32) -> bool
-    ensures { λ r. ⌜ r ≡ ssrcTaken hall ssrc ⌝ }
-{
-    let desk = hall.settings.ssrc;
-    if ssrc == desk {
-        return true;
-    }
-    let found = seat_of(hall, ssrc);
-    match found {
-        Found::At(_) => true,
-        Found::Nowhere => false,
-    }
-}
-
-// The one way to take a seat: the lowest free one, if there is one.
-fn take_seat(hall: Hall, names: Names, identity: &[u8], who: Newcomer) -> Joined
-    ensures { λ r. ⌜ r ≡ seated hall names (now (identity .entry)) who (freeSeat hall) ⌝ }
-{
-    let found = free_seat(hall);
-    match found {
-        Found::At(s) => {
-            let name = name_of(identity);
-            let fuller = with_seat(hall, s, true, who);
-            let more = with_name(names, s, name);
-            Joined {
-                answer: Answer::Done,
-                seat: Found::At(s),
-                hall: fuller,
-                names: more,
-            }
-        }
-        Found::Nowhere => Joined {
-            answer: Answer::AllSeatsTaken,
-            seat: Found::Nowhere,
-            hall,
-            names,
-        },
-    }
-}
-
-fn not_joined(hall: Hall, names: Names, answer: Answer) -> Joined
-    ensures { λ r. ⌜ r ≡ notJoined hall names answer ⌝ }
-{
-    Joined {
-        answer,
-        seat: Found::Nowhere,
-        hall,
-        names,
-    }
-}
-
-pub fn join_call(hall: Hall, names: Names, identity: &[u8], who: Newcomer) -> Joined
-    ensures { λ r. ⌜ r ≡ join hall names (now (identity .entry)) who ⌝ }
-{
-    if !allowed_length(identity) {
-        return not_joined(hall, names, Answer::IdentityLength);
-    }
-    let found = seat_named(hall, names, identity);
-    if let Found::At(_) = found {
-        return not_joined(hall, names, Answer::IdentityPresent);
-    }
-    if ssrc_taken(hall, who.ssrc) {
-        return not_joined(hall, names, Answer::SsrcPresent);
-    }
-    take_seat(hall, names, identity, who)
 }

@@ -1,18 +1,37 @@
--- What an event is to a seat (document 01, "The desk"): who asks for the floor and at which priority, who gives it or its place up, and when
--- the call stops. Assumes nothing.
+-- What happens, as an event, and what it is to a seat (document 01, "The desk"): who asks for the floor and at which priority, who gives it
+-- or its place up, and when the call stops. Assumes nothing.
 use Prim.Native.Nat.{ℕ}
 use mathlib.Core.Bool.{Bool, true, false}
 use lib.Dec.{eqb}
+use Rattle.message.specs.Answers.{Answer, refused, result}
+use Rattle.message.specs.declared.Message.{Message}
+use Rattle.reading.specs.Reading.{reading}
+use Rattle.packet_events.specs.PacketEvents.{eventOf}
 use Rattle.hall.specs.declared.Hall.{Hall}
 use Rattle.hall.specs.declared.Asked.{Asked}
 use Rattle.hall.specs.declared.Found.{Found}
 use Rattle.hall.specs.declared.Found.the-variants.{At, Nowhere}
 use Rattle.hall.specs.Seats.{effective, seatOf, finds}
-use Rattle.desk.specs.declared.Event.{Event}
-use Rattle.desk.specs.declared.Event.the-variants.{Start, Stop, Expiry, Request, Release, Position, Media, Other}
-use Rattle.desk.specs.declared.Timer.{Timer}
-use Rattle.desk.specs.declared.Timer.the-variants as timer
-use Rattle.history.specs.Doing.{Doing, event, leaves, joins}
+use Rattle.events.specs.declared.Event.{Event}
+use Rattle.events.specs.declared.Event.the-variants.{Start, Stop, Expiry, Request, Release, Position, Media, Other}
+use Rattle.timers.specs.declared.Timer.{Timer}
+use Rattle.timers.specs.declared.Timer.the-variants as timer
+use Rattle.history.specs.Doing.{Doing, event, packet, leaves, joins}
+
+-- "Only a packet that was read becomes an event"; a leave and a join are none of these
+pub data Becoming : Type 0 where
+  noEvent : Becoming
+  anEvent : Event → Becoming
+
+abbrev pub readAs : Answer Message → Becoming
+readAs (refused n) = noEvent
+readAs (result m) = anEvent (eventOf m)
+
+abbrev pub becomes : Doing → Becoming
+becomes (event e) = anEvent e
+becomes (packet octets) = readAs (reading octets)
+becomes (leaves s) = noEvent
+becomes (joins o n) = noEvent
 
 -- A request names its seat by SSRC; its priority is the lower of the one asked and the seat's highest.
 pub data Asking : Type 0 where
@@ -33,10 +52,12 @@ askedBy h Start = nobody
 askedBy h Stop = nobody
 askedBy h (Expiry t) = nobody
 
+abbrev pub askedIn : Hall → Becoming → Asking
+askedIn h noEvent = nobody
+askedIn h (anEvent e) = askedBy h e
+
 abbrev pub asking : Hall → Doing → Asking
-asking h (event e) = askedBy h e
-asking h (leaves s) = nobody
-asking h (joins o n) = nobody
+asking h x = askedIn h (becomes x)
 
 -- its own release or its own leave
 abbrev pub releasedBy : Hall → Event → ℕ → Bool
@@ -49,8 +70,13 @@ releasedBy h (Position x) s = false
 releasedBy h (Media x) s = false
 releasedBy h (Other x) s = false
 
+abbrev pub releasedIn : Hall → Becoming → ℕ → Bool
+releasedIn h noEvent s = false
+releasedIn h (anEvent e) s = releasedBy h e s
+
 abbrev pub givesUp : Hall → Doing → ℕ → Bool
 givesUp h (event e) s = releasedBy h e s
+givesUp h (packet octets) s = releasedIn h (readAs (reading octets)) s
 givesUp h (leaves t) s = eqb t s
 givesUp h (joins o n) s = false
 
@@ -63,6 +89,7 @@ isT4 timer.T3 = false
 isT4 timer.T7 = false
 isT4 timer.T8 = false
 isT4 timer.T20 = false
+isT4 timer.NoSuchTimer = false
 
 abbrev pub stopsBy : Event → Bool
 stopsBy Stop = true
@@ -74,7 +101,9 @@ stopsBy (Position x) = false
 stopsBy (Media x) = false
 stopsBy (Other x) = false
 
+abbrev pub stopsIn : Becoming → Bool
+stopsIn noEvent = false
+stopsIn (anEvent e) = stopsBy e
+
 abbrev pub stopsCall : Doing → Bool
-stopsCall (event e) = stopsBy e
-stopsCall (leaves s) = false
-stopsCall (joins o n) = false
+stopsCall x = stopsIn (becomes x)

@@ -1,58 +1,53 @@
--- A desk and anything that happens to it (document 01, "The desk"): the events of a running call, leave and join. Assumes nothing.
+-- Anything that happens to a desk, and what it comes to (document 01, "The desk"). Assumes nothing.
 use Prim.Native.Nat.{ℕ}
 use mathlib.Core.Path.{_≡_}
 use mathlib.Core.Bool.{true}
 use mathlib.Core.List.{List, [], _∷_}
-use Rattle.hall.specs.declared.Hall.{Hall}
-use Rattle.hall.specs.declared.Names.{Names}
 use Rattle.hall.specs.declared.Newcomer.{Newcomer}
-use Rattle.hall.specs.declared.Joined.{Joined}
+use Rattle.joining.specs.declared.Joined.{Joined}
 use Rattle.hall.specs.declared.Settings.{Settings}
 use Rattle.hall.specs.Seats.{inRange, emptyHall}
-use Rattle.hall.specs.Identity.{noNames}
-use Rattle.hall.specs.Join.{join}
-use Rattle.rules.specs.declared.Core.{Core}
-use Rattle.rules.specs.Words.{answered}
-use Rattle.desk.specs.declared.Event.{Event}
-use Rattle.desk.specs.declared.Left.{Left}
-use Rattle.desk.specs.Events.{fresh, step, left, leave}
+use Rattle.identities.specs.Identity.{noNames}
+use Rattle.joining.specs.Join.{join}
+use Rattle.steps.specs.declared.Core.{Core}
+use Rattle.steps.specs.Words.{answered}
+use Rattle.events.specs.declared.Event.{Event}
+use Rattle.events.specs.declared.Desk.{Desk}
+use Rattle.events.specs.declared.Outcome.{Outcome}
+use Rattle.events.specs.Events.{wholeDesk, outcome, fresh, step, leave}
+use Rattle.packet_events.specs.PacketEvents.{hears}
 
-pub record Desk : Type 0 where
-  pub core : Core
-  pub hall : Hall
-  pub names : Names
-
+-- what happens to a desk: an event, the octets of a packet, a seat's leave, or a join, with its identity
 pub data Doing : Type 0 where
   event : Event → Doing
+  packet : List ℕ → Doing
   leaves : ℕ → Doing
   joins : List ℕ → Newcomer → Doing
 
 -- a desk that was just made
 abbrev pub made : Settings → Desk
-made s = record { core = fresh; hall = emptyHall s; names = noNames }
+made s = wholeDesk fresh (emptyHall s) noNames
 
 -- join reports its answer, and has no message and no mark
-abbrev pub joined : Core → Joined → Left
-joined c j = left (answered c (j .answer)) (j .hall) (j .names)
+abbrev pub joined : Core → Joined → Outcome
+joined c j = outcome (answered c (j .answer)) (j .hall) (j .names)
 
--- the whole desk afterwards, and the whole report
-unfoldable pub does : Desk → Doing → Left
-does d (event e) = left (step (d .core) (d .hall) e) (d .hall) (d .names)
-does d (leaves s) = leave (d .core) (d .hall) (d .names) s
+-- the answer, the whole desk afterwards, and the whole report
+unfoldable pub does : Desk → Doing → Outcome
+does d (event e) = outcome (step (d .core) (d .hall) e) (d .hall) (d .names)
+does d (packet octets) = outcome (hears (d .core) (d .hall) octets) (d .hall) (d .names)
+does d (leaves s) = leave d s
 does d (joins o n) = joined (d .core) (join (d .hall) (d .names) o n)
 
-abbrev pub deskOf : Left → Desk
-deskOf l = record { core = l .core; hall = l .hall; names = l .names }
-
 abbrev pub after : Desk → Doing → Desk
-after d x = deskOf (does d x)
+after d x = does d x .desk
 
 -- a run of events: the desk in the end, and each step on the way
 abbrev pub afterAll : Desk → List Doing → Desk
 afterAll d [] = d
 afterAll d (x ∷ xs) = afterAll (after d x) xs
 
-abbrev pub stepsOf : Desk → List Doing → List Left
+abbrev pub stepsOf : Desk → List Doing → List Outcome
 stepsOf d [] = []
 stepsOf d (x ∷ xs) = does d x ∷ stepsOf (after d x) xs
 

@@ -1,4 +1,4 @@
 pub mod Looks
 pub mod Rows
-pub mod Told
+pub mod Agrees
 pub mod Library

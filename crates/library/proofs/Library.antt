@@ -1,5 +1,5 @@
--- Any run of calls is a history of what was done to a fresh desk, and its log is that history's log; so the five statements of the rules' desk
--- hold of it (specs/Library). Assumes nothing.
+-- Any run of calls is a history of what was done to a fresh desk, and its log is that history's log; so the five statements of the rules'
+-- desk hold of it (specs/Library). Assumes nothing.
 use Prim.Native.Nat.{ℕ, suc}
 use mathlib.Core.Path.{_≡_, refl, ap, sym, subst, _∙_}
 use mathlib.Core.Bool.{true, false}
@@ -7,37 +7,37 @@ use mathlib.Core.List.{List, [], _∷_, _++_}
 use lib.Dec.{eqb}
 use lib.IntN.{pos}
 use lib.ListN.{take}
+use Rattle.report_octets.specs.Places.{reportSize}
 use Rattle.words.specs.Choice.{by-if}
 use Rattle.words.specs.Table.{getD-fill}
 use Rattle.words.proofs.Tests.{clash}
-use Rattle.message.specs.Answers.{Answer, refused, result}
-use Rattle.message.specs.declared.Message as read
-use Rattle.reading.specs.Reading.{reading}
 use Rattle.line.specs.Line.{waiting}
-use Rattle.rules.specs.declared.Given.the-variants.{OutOfLine}
-use Rattle.rules.specs.Floor.{holds}
-use Rattle.rules.specs.Request.{waits}
-use Rattle.desk.specs.Timers.{isStopped}
-use Rattle.history.specs.Doing.{Desk, Doing, made as madeWith, after, afterAll, justMade}
+use Rattle.steps.specs.declared.Given.the-variants.{OutOfLine}
+use Rattle.giving.specs.Floor.{holds}
+use Rattle.request.specs.Request.{waits}
+use Rattle.timers.specs.Timers.{isStopped}
+use Rattle.events.specs.declared.Desk.{Desk}
+use Rattle.history.specs.Doing.{Doing, does, made as madeWith, after, afterAll, justMade}
 use Rattle.marks.specs.Marks.{isSeat}
-use Rattle.demands.specs.Demands.{Report, Row, other, heard, happens, deskAfter, rowOf, log, isStruck, isEnded, placeOf, inLine, ComesFirst}
+use Rattle.demands.specs.Demands.{Row, deskAfter, rowOf, log, isStruck, isEnded, placeOf, inLine, ComesFirst}
 use Rattle.demands.proofs.Counts.{nobody-drops-out, given-and-ended, nothing-unseen}
 use Rattle.demands.proofs.Steps.{struck-for-a-reason, worked-out}
 use Rattle.demands.proofs.Order.{goes-to-the-first}
-use Rattle.form.specs.Form.{hallAt}
-use Rattle.floor.specs.declared.Named.{Named}
-use Rattle.floor.specs.declared.Named.the-variants.{Known, Unknown}
-use Rattle.floor.specs.Floor.{timerNamed}
+use Rattle.desk_octets.specs.Form.{hallAt}
 use Rattle.floor.specs.Promises.{PhasePromise}
-use Rattle.kept.specs.Kept.{deskAt, Holds, Act, floorJoin, floorLeave, floorStart, floorStop, floorPacket, floorMedia, floorTimer, Call, Promised, ActFits, readAs, timerAs, meant, done, settingsOn, joinsOn}
-use Rattle.kept.proofs.Desks.{in-range}
-use Rattle.kept.proofs.Refusals.{not-made, not-loaded}
-use Rattle.kept.proofs.Steps.{told-as, step-in-form}
-use Rattle.kept.proofs.Made.{made-in-form}
-use Rattle.kept.proofs.Loaded.{loaded-in-form}
-use Rattle.library.specs.Library.{reportBy, rowsOf, rowsBy, made, loaded, called, notMade, notLoaded, Reached, EveryRunReached, RoomEnough, Look, line, holder, marksOf, reasonIn, NobodyDropsOut, StruckForAReason, GoesToTheFirst, GivenAndEnded, Marked, NothingUnseen, WorkedOut, NobodyDropsOutUnseen}
+use Rattle.floor_laws.specs.Kept.{deskAt, Holds, Call, Promised, ActFits, meant, done, joinsOn}
+use Rattle.floor_laws.proofs.Desks.{in-range}
+use Rattle.floor_laws.proofs.Refusals.{not-made, not-loaded}
+use Rattle.floor_laws.proofs.Steps.{holds-as, step-in-form}
+use Rattle.floor_laws.proofs.Made.{made-in-form}
+use Rattle.floor_laws.proofs.Loaded.{loaded-in-form}
+use Rattle.library.specs.Library.{reportBy, rowsOf, rowsBy, made, loaded, called, notMade, notLoaded, Reached, EveryRunReached}
+use Rattle.library.specs.Library.{RoomEnough, Look, line, holder, marksOf, reasonIn, NobodyDropsOut, StruckForAReason, GoesToTheFirst}
+use Rattle.library.specs.Library.{GivenAndEnded, Marked, NothingUnseen, WorkedOut, NobodyDropsOutUnseen}
 use Rattle.library.proofs.Looks.{enough, line-seen, holder-seen, phase-seen}
-use Rattle.library.proofs.Told.{Told, told}
+use Rattle.library.proofs.Agrees.{Agrees, agrees}
+use Rattle.steps.specs.declared.Report.{Report}
+use Rattle.loading.specs.Loading.{settingsOn}
 
 -- A RUN IS A HISTORY
 
@@ -46,54 +46,43 @@ data Short : List Doing → Type 0 where
   none : Short []
   single : (y : Doing) → Short (y ∷ [])
 
-read-short : (a : Answer read.Message) → Short (readAs a)
-read-short (refused n) = none
-read-short (result m) = single _
-
-timer-short : (t : Named) → Short (timerAs t)
-timer-short (Known t) = single _
-timer-short Unknown = none
-
-meant-short : (a : Act) → Short (meant a)
-unfolding meant
-meant-short (floorJoin i x h q l) = single _
-meant-short (floorLeave s) = single _
-meant-short floorStart = single _
-meant-short floorStop = single _
-meant-short (floorPacket i) = read-short (reading i)
-meant-short (floorMedia x) = single _
-meant-short (floorTimer t) = timer-short (timerNamed t)
-
 done-short : (x : Call) → Short (done x)
-done-short x = by-if Short (eqb (x .answer) 0) (λ _. meant-short (x .act)) (λ _. none)
+done-short x = by-if Short (eqb (x .answer) 0) (λ _. single (meant (x .act))) (λ _. none)
 
 -- what comes next of a desk and its log, if this was done and reported
 module _ (d : List ℕ) (rows : List Row) (k : Reached d rows) (d′ : List ℕ) (r : Report) where
   abbrev now : Desk
-  now = deskAfter happens (k .start) (k .past)
+  now = deskAfter does (k .start) (k .past)
 
-  row-same : (y : Doing) → r ≡ happens (deskAt d) (other y) .report →
-      rowsOf (hallAt d) r (y ∷ []) ++ rows ≡ rowOf happens now (other y) ∷ log happens (k .start) (k .past)
-  unfolding heard
-  row-same y t = rw (t, k .same) (ap (λ (e : Desk). rowOf happens e (other y) ∷ log happens (k .start) (k .past)) (k .holds .stands))
+  row-same : (y : Doing) → r ≡ does (deskAt d) y .report →
+      rowsOf (hallAt d) r (y ∷ []) ++ rows ≡ rowOf does now y ∷ log does (k .start) (k .past)
+  row-same y t = rw (t, k .same) (ap (λ (e : Desk). rowOf does e y ∷ log does (k .start) (k .past)) (k .holds .stands))
 
-  goes-on : (ys : List Doing) → Short ys → Told (deskAt d) r ys → Holds d′ (afterAll (deskAt d) ys) → Reached d′ (rowsOf (hallAt d) r ys ++ rows)
-  unfolding happens heard
+  goes-on : (ys : List Doing) → Short ys → Agrees (deskAt d) r ys → Holds d′ (afterAll (deskAt d) ys) →
+      Reached d′ (rowsOf (hallAt d) r ys ++ rows)
+  unfolding does
   goes-on ys none t h =
-      record { start = k .start; isFresh = k .isFresh; past = k .past; holds = told-as d′ (deskAt d) now (k .holds .stands) h; same = k .same }
+      record {
+        start = k .start;
+        isFresh = k .isFresh;
+        past = k .past;
+        holds = holds-as d′ (deskAt d) now (k .holds .stands) h;
+        same = k .same;
+      }
   goes-on ys (single y) t h =
       record {
         start = k .start;
         isFresh = k .isFresh;
-        past = other y ∷ k .past;
-        holds = told-as d′ (after (deskAt d) y) (after now y) (ap (λ (e : Desk). after e y) (k .holds .stands)) h;
+        past = y ∷ k .past;
+        holds = holds-as d′ (after (deskAt d) y) (after now y) (ap (λ (e : Desk). after e y) (k .holds .stands)) h;
         same = row-same y (t .0);
       }
 
-calls-on : (d : List ℕ) (rows : List Row) → Reached d rows → (x : Call) → Promised d x → ActFits (x .act) → Reached (x .desk) (rowsBy d x ++ rows)
+calls-on : (d : List ℕ) (rows : List Row) → Reached d rows → (x : Call) → Promised d x → ActFits (x .act) →
+    Reached (x .desk) (rowsBy d x ++ rows)
 calls-on d rows k x p w =
-    goes-on d rows k (x .desk) (reportBy (x .act) (take 24 (x .report))) (done x) (done-short x)
-    (told d (k .holds .octets) (k .holds .inForm) x p) (step-in-form d x p (k .holds .octets) (k .holds .inForm) w)
+    goes-on d rows k (x .desk) (reportBy (x .act) (take reportSize (x .report))) (done x) (done-short x)
+    (agrees d (k .holds .octets) (k .holds .inForm) x p) (step-in-form d x p (k .holds .octets) (k .holds .inForm) w)
 
 pub reached : EveryRunReached
 reached d rows (made room g room′ p b) =
@@ -101,7 +90,13 @@ reached d rows (made room g room′ p b) =
     record { start = madeWith g; isFresh = justMade g (in-range g (h .0)); past = []; holds = h .1; same = refl }
 reached d rows (loaded room sheet room′ p o) =
     let l = loaded-in-form room sheet room′ p o in
-    record { start = afterAll (madeWith (settingsOn sheet)) (joinsOn sheet); isFresh = l .isFresh; past = []; holds = l .holds; same = refl }
+    record {
+      start = afterAll (madeWith (settingsOn sheet)) (joinsOn sheet);
+      isFresh = l .isFresh;
+      past = [];
+      holds = l .holds;
+      same = refl;
+    }
 reached d rows (called {d = c} {rows = rs} r x p w) = calls-on c rs (reached c rs r) x p w
 reached d rows (notMade {d = c} {rows = rs} r g n d′ p z) =
     subst (λ (s : List ℕ). Reached s rs) (sym (not-made c g n d′ p z)) (reached c rs r)
@@ -112,7 +107,7 @@ reached d rows (notLoaded {d = c} {rows = rs} r sheet n d′ p z) =
 
 module _ (d : List ℕ) (rows : List Row) (k : Reached d rows) where
   abbrev desk : Desk
-  desk = deskAfter happens (k .start) (k .past)
+  desk = deskAfter does (k .start) (k .past)
 
   its-line : (l : Look d) → line l ≡ waiting (desk .core .line)
   its-line l = line-seen d (k .holds .inForm) l ∙ ap (λ (e : Desk). waiting (e .core .line)) (k .holds .stands)
@@ -141,39 +136,41 @@ worked d rows r seen =
 
 -- one call more
 module _ (d : List ℕ) (rows : List Row) (k : Reached d rows) (d′ : List ℕ) (r : Report) where
-  reported : (y : Doing) → Told (deskAt d) r (y ∷ []) → r ≡ happens (now d rows k d′ r) (other y) .report
-  unfolding happens heard
-  reported y t = t .0 ∙ ap (λ (e : Desk). happens e (other y) .report) (k .holds .stands)
+  reported : (y : Doing) → Agrees (deskAt d) r (y ∷ []) → r ≡ does (now d rows k d′ r) y .report
+  unfolding does
+  reported y t = t .0 ∙ ap (λ (e : Desk). does e y .report) (k .holds .stands)
 
-  left : (y : Doing) → Holds d′ (afterAll (deskAt d) (y ∷ [])) → deskAt d′ ≡ happens (now d rows k d′ r) (other y) .desk
-  unfolding happens heard
-  left y h = h .stands ∙ ap (λ (e : Desk). after e y) (k .holds .stands)
+  stands-so : (y : Doing) → Holds d′ (afterAll (deskAt d) (y ∷ [])) → deskAt d′ ≡ does (now d rows k d′ r) y .desk
+  unfolding does
+  stands-so y h = h .stands ∙ ap (λ (e : Desk). after e y) (k .holds .stands)
 
-  struck-so : (ys : List Doing) → Short ys → Told (deskAt d) r ys → (s : ℕ) → isStruck s (marksOf (rowsOf (hallAt d) r ys)) ≡ true →
+  struck-so : (ys : List Doing) → Short ys → Agrees (deskAt d) r ys → (s : ℕ) → isStruck s (marksOf (rowsOf (hallAt d) r ys)) ≡ true →
       reasonIn (hallAt d) ys s ≡ true
-  unfolding heard
   struck-so ys none t s q = clash q (getD-fill false 16 s)
   struck-so ys (single y) t s q =
-      let m : isStruck s (happens (now d rows k d′ r) (other y) .report .marks) ≡ true = rw (reported y t) at q in
-      subst (λ (e : Desk). reasonIn (e .hall) (y ∷ []) s ≡ true) (sym (k .holds .stands)) (struck-for-a-reason (k .start) (k .isFresh) (k .past) (other y) s m)
+      let m : isStruck s (does (now d rows k d′ r) y .report .marks) ≡ true = rw (reported y t) at q in
+      subst (λ (e : Desk). reasonIn (e .hall) (y ∷ []) s ≡ true) (sym (k .holds .stands))
+      (struck-for-a-reason (k .start) (k .isFresh) (k .past) y s m)
 
-  first-so : (ys : List Doing) → Short ys → Told (deskAt d) r ys → Holds d′ (afterAll (deskAt d) ys) → (t u p j : ℕ) →
+  first-so : (ys : List Doing) → Short ys → Agrees (deskAt d) r ys → Holds d′ (afterAll (deskAt d) ys) → (t u p j : ℕ) →
       isEnded t (marksOf (rowsOf (hallAt d) r ys)) ≡ true → placeOf u rows ≡ inLine p → PhasePromise d′ (pos (suc j)) →
       (s : ℕ) × (marksOf (rowsOf (hallAt d) r ys) .given ≡ OutOfLine s) × ComesFirst rows s
   first-so ys none w h t u p j q i g = clash q refl
   first-so ys (single y) w h t u p j q i g =
-      let m : isEnded t (happens (now d rows k d′ r) (other y) .report .marks) ≡ true = rw (reported y w) at q in
-      let e : isStopped (happens (now d rows k d′ r) (other y) .desk .core .phase) ≡ false =
-      sym (ap (λ (e : Desk). isStopped (e .core .phase)) (left y h)) ∙ phase-seen d′ (h .inForm) j g in
-      let v : placeOf u (log happens (k .start) (k .past)) ≡ inLine p = rw (k .same) at i in
-      rw (reported y w, k .same) (goes-to-the-first (k .start) (k .isFresh) (k .past) (other y) t u p m v e)
+      let m : isEnded t (does (now d rows k d′ r) y .report .marks) ≡ true = rw (reported y w) at q in
+      let e : isStopped (does (now d rows k d′ r) y .desk .core .phase) ≡ false =
+      sym (ap (λ (e : Desk). isStopped (e .core .phase)) (stands-so y h)) ∙ phase-seen d′ (h .inForm) j g in
+      let v : placeOf u (log does (k .start) (k .past)) ≡ inLine p = rw (k .same) at i in
+      rw (reported y w, k .same) (goes-to-the-first (k .start) (k .isFresh) (k .past) y t u p m v e)
 
-  unseen-so : (ys : List Doing) → Short ys → Told (deskAt d) r ys → Holds d′ (afterAll (deskAt d) ys) → (before : Look d) (later : Look d′) (s : ℕ) →
+  unseen-so : (ys : List Doing) → Short ys → Agrees (deskAt d) r ys → Holds d′ (afterAll (deskAt d) ys) →
+      (before : Look d) (later : Look d′) (s : ℕ) →
       Marked (line before) (line later) (holder before) (holder later) (marksOf (rowsOf (hallAt d) r ys)) s
   unfolding waits
   unseen-so ys none w h before later s =
       let l : line later ≡ line before =
-      line-seen d′ (h .inForm) later ∙ ap (λ (e : Desk). waiting (e .core .line)) (h .stands) ∙ sym (line-seen d (k .holds .inForm) before) in
+      line-seen d′ (h .inForm) later ∙ ap (λ (e : Desk). waiting (e .core .line)) (h .stands)
+      ∙ sym (line-seen d (k .holds .inForm) before) in
       let g : isSeat (holder later) s ≡ isSeat (holder before) s =
       holder-seen d′ (h .octets) (h .inForm) later s ∙ ap (λ (e : Desk). holds (e .core .phase) s) (h .stands)
       ∙ sym (holder-seen d (k .holds .octets) (k .holds .inForm) before s) in
@@ -184,11 +181,11 @@ module _ (d : List ℕ) (rows : List Row) (k : Reached d rows) (d′ : List ℕ)
         loses = λ a b. clash a (sym g ∙ b);
       }
   unseen-so ys (single y) w h before later s =
-      let m = nothing-unseen (k .start) (k .isFresh) (k .past) (other y) s in
+      let m = nothing-unseen (k .start) (k .isFresh) (k .past) y s in
       let old = its-line d rows k before in
-      let new = line-seen d′ (h .inForm) later ∙ ap (λ (e : Desk). waiting (e .core .line)) (left y h) in
+      let new = line-seen d′ (h .inForm) later ∙ ap (λ (e : Desk). waiting (e .core .line)) (stands-so y h) in
       let from = its-holder d rows k before s in
-      let to = holder-seen d′ (h .octets) (h .inForm) later s ∙ ap (λ (e : Desk). holds (e .core .phase) s) (left y h) in
+      let to = holder-seen d′ (h .octets) (h .inForm) later s ∙ ap (λ (e : Desk). holds (e .core .phase) s) (stands-so y h) in
       rw (reported y w, old, new) (record {
         enters = m .enters;
         goes = m .goes;
@@ -199,18 +196,21 @@ module _ (d : List ℕ) (rows : List Row) (k : Reached d rows) (d′ : List ℕ)
 struck : StruckForAReason
 struck d rows ran x p w s q =
     let k = reached d rows ran in
-    struck-so d rows k (x .desk) (reportBy (x .act) (take 24 (x .report))) (done x) (done-short x) (told d (k .holds .octets) (k .holds .inForm) x p) s q
+    struck-so d rows k (x .desk) (reportBy (x .act) (take reportSize (x .report))) (done x) (done-short x)
+    (agrees d (k .holds .octets) (k .holds .inForm) x p) s q
 
 goes-first : GoesToTheFirst
 goes-first d rows ran x p w t u n j q i g =
     let k = reached d rows ran in
-    first-so d rows k (x .desk) (reportBy (x .act) (take 24 (x .report))) (done x) (done-short x) (told d (k .holds .octets) (k .holds .inForm) x p)
+    first-so d rows k (x .desk) (reportBy (x .act) (take reportSize (x .report))) (done x) (done-short x)
+    (agrees d (k .holds .octets) (k .holds .inForm) x p)
     (step-in-form d x p (k .holds .octets) (k .holds .inForm) w) t u n j q i g
 
 unseen : NothingUnseen
 unseen d rows ran before x p w later s =
     let k = reached d rows ran in
-    unseen-so d rows k (x .desk) (reportBy (x .act) (take 24 (x .report))) (done x) (done-short x) (told d (k .holds .octets) (k .holds .inForm) x p)
+    unseen-so d rows k (x .desk) (reportBy (x .act) (take reportSize (x .report))) (done x) (done-short x)
+    (agrees d (k .holds .octets) (k .holds .inForm) x p)
     (step-in-form d x p (k .holds .octets) (k .holds .inForm) w) before later s
 
 pub nobody-drops-out-unseen : NobodyDropsOutUnseen

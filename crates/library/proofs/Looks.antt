@@ -15,21 +15,22 @@ use Rattle.octets.specs.Octets.{over, Octets}
 use Rattle.message.specs.Answers.{refused, result}
 use Rattle.line.specs.declared.Entry.{Entry}
 use Rattle.line.specs.Line.{waiting, empty}
-use Rattle.rules.specs.declared.Phase.{Phase}
-use Rattle.rules.specs.declared.Phase.the-variants.{Stopped, Idle, Taken, Revoking}
-use Rattle.rules.specs.Floor.{holds}
-use Rattle.rules.specs.Request.{entry}
-use Rattle.desk.specs.Timers.{isStopped}
+use Rattle.steps.specs.declared.Phase.{Phase}
+use Rattle.steps.specs.declared.Phase.the-variants.{Stopped, Idle, Taken, Revoking}
+use Rattle.giving.specs.Floor.{holds}
+use Rattle.line.specs.Line.{entryOf as entry}
+use Rattle.timers.specs.Timers.{isStopped}
 use Rattle.marks.specs.Marks.{isSeat}
 use Rattle.reach.proofs.Hall.{hall-ok}
-use Rattle.form.specs.Form.{kindOctet, holderIn, coreAt, hallAt, namesAt}
-use Rattle.form.specs.Columns.{rows}
-use Rattle.form.proofs.Columns.{column-is-from-0, column-same, shift}
-use Rattle.floor.specs.Floor.{formed, answers, signed, holderAnswer, pairAt, pairs, screened, screenOn}
+use Rattle.desk_octets.specs.Form.{kindOctet, holderIn, coreAt, hallAt, namesAt}
+use Rattle.desk_octets.specs.Columns.{rows}
+use Rattle.desk_octets.proofs.Columns.{column-is-from-0, column-same, shift}
+use Rattle.desk_test.specs.Lent.{formed}
+use Rattle.desk_looking.specs.Looking.{answers, signed, holderAnswer, pairAt, pairs, screened, screenOn}
 use Rattle.floor.specs.Promises.{ScreenPromise, PhasePromise}
-use Rattle.floor.proofs.Desks.{looks-so}
-use Rattle.kept.proofs.Narrow.{Small}
-use Rattle.kept.proofs.Desks.{right-at}
+use Rattle.desk_looking.proofs.Looks.{looks-so}
+use Rattle.floor_laws.proofs.Narrow.{Small}
+use Rattle.floor_laws.proofs.Desks.{right-at}
 use Rattle.library.specs.Library.{Look, entriesIn, seatIn, line, holder}
 
 -- two octets an entry
@@ -53,7 +54,8 @@ entries-back : (es : List Entry) (room : List ℕ) → entriesIn (over room 0 (p
 unfolding over pairs
 entries-back es room =
     let r = drop (0 + length (pairs es)) room in
-    column-same _ (λ i. getD es i empty) 0 0 (length es) (λ i h. let p = rw (zero-add i) at (pair-at es r (length es) 0 i h) in rw (zero-add i) (same-entry (p .0) (p .1)))
+    column-same _ (λ i. getD es i empty) 0 0 (length es)
+    (λ i h. let p = rw (zero-add i) at (pair-at es r (length es) 0 i h) in rw (zero-add i) (same-entry (p .0) (p .1)))
     ∙ sym (column-is-from-0 (λ i. getD es i empty) es (length es) empty refl (λ i h. refl))
 
 module _ (d room : List ℕ) (q : formed d ≡ true) where
@@ -84,7 +86,8 @@ pub line-seen : (d : List ℕ) → formed d ≡ true → (l : Look d) → line l
 line-seen d q l = shown-so d (l .room) q (l .count) (l .shown) (l .screen)
 
 -- a line has at most fifteen entries
-pub enough : (d room : List ℕ) (a : ℤ) (room′ : List ℕ) → Octets d → formed d ≡ true → ScreenPromise d room a room′ → 30 ≤ length room → (n : ℕ) × (a ≡ pos n)
+pub enough : (d room : List ℕ) (a : ℤ) (room′ : List ℕ) → Octets d → formed d ≡ true → ScreenPromise d room a room′ → 30 ≤ length room →
+    (n : ℕ) × (a ≡ pos n)
 enough d room a room′ o q p b =
     let k = right-at d o q .sound in
     let n = length (waiting (coreAt d .line)) in

@@ -1,56 +1,55 @@
--- THE MISSION'S THIRD DEMAND, OF THE LIBRARY THAT C PROGRAMS LINK: over any sequence of calls of the exported functions on one desk's octets,
--- made or loaded, nobody drops out unseen. What is counted are the marks in the octets of the reports that the calls left; who waits and who
--- holds the floor now is what `floor_screen` and `floor_holder` show. Of the functions nothing is used but what they promise
+-- THE MISSION'S THIRD DEMAND, OF THE LIBRARY THAT C PROGRAMS LINK: over any sequence of calls of the exported functions on one desk's
+-- octets, made or loaded, nobody drops out unseen. What is counted are the marks in the octets of the reports that the calls left; who
+-- waits and who holds the floor now is what `floor_screen` and `floor_holder` show. Of the functions nothing is used but what they promise
 -- (floor/specs/Promises).
 --
--- First a run and its log, then a look at the desk, then the five statements, and at the end the demand. All is proved in proofs/Library (and
--- DoneIsARow in proofs/Rows), from the same statements of the rules' desk (demands/specs/Demands), whose counting is used here too. Assumes
--- nothing.
+-- First a run and its log, then a look at the desk, then the five statements, and at the end the demand. All is proved in proofs/Library
+-- (and DoneIsARow in proofs/Rows), from the same statements of the rules' desk (demands/specs/Demands), whose counting is used here too.
+-- Assumes nothing.
 use Prim.Native.Nat.{ℕ, suc, _+_, _*_, _/_, _≤_, _<_}
 use mathlib.Core.Path.{_≡_}
 use mathlib.Core.Bool.{Bool, true, false, _||_}
 use mathlib.Core.List.{List, [], _∷_, _++_}
 use lib.IntN.{ℤ, pos, negsuc}
 use lib.ListN.{length, getD, take}
+use Rattle.report_octets.specs.Places.{reportSize}
 use Rattle.words.specs.Choice.{one}
 use Rattle.octets.specs.Octets.{Octets}
 use Rattle.line.specs.declared.Entry.{Entry}
 use Rattle.line.specs.Line.{isIn}
 use Rattle.hall.specs.declared.Settings.{Settings}
 use Rattle.hall.specs.declared.Hall.{Hall}
-use Rattle.rules.specs.declared.Mark.{Mark}
-use Rattle.rules.specs.declared.Mark.the-variants.{NoSeat, Seat}
-use Rattle.rules.specs.declared.Given.the-variants.{OutOfLine}
-use Rattle.rules.specs.declared.Marks.{Marks}
-use Rattle.rules.specs.Words.{silence, noMarks}
-use Rattle.rules.specs.Request.{entry}
-use Rattle.history.specs.Doing.{Desk, Doing, Fresh}
+use Rattle.steps.specs.declared.Mark.{Mark}
+use Rattle.steps.specs.declared.Mark.the-variants.{NoSeat, Seat}
+use Rattle.steps.specs.declared.Given.the-variants.{OutOfLine}
+use Rattle.steps.specs.declared.Marks.{Marks}
+use Rattle.steps.specs.declared.Report.{Report}
+use Rattle.steps.specs.Words.{noMarks, emptyReport}
+use Rattle.line.specs.Line.{entryOf as entry}
+use Rattle.events.specs.declared.Desk.{Desk}
+use Rattle.history.specs.Doing.{Doing, does, Fresh}
 use Rattle.history.specs.Asking.{asking}
 use Rattle.marks.specs.Marks.{isSeat}
-use Rattle.demands.specs.Demands.{happens, History, deskAfter, Report, Row, log, isPlaced, isStruck, isGivenOut, isGivenAny, isEnded, times, standing, lineFrom, holderFrom, placeOf, inLine, reasonOf, ComesFirst}
-use Rattle.form.specs.Form.{hallAt}
-use Rattle.form.specs.Columns.{column}
-use Rattle.reports.specs.Reported.{reportIn}
+use Rattle.demands.specs.Demands.{History, deskAfter, Row, log, isPlaced, isStruck, isGivenOut, isGivenAny, isEnded, times, standing}
+use Rattle.demands.specs.Demands.{lineFrom, holderFrom, placeOf, inLine, reason, ComesFirst}
+use Rattle.desk_octets.specs.Form.{hallAt}
+use Rattle.desk_octets.specs.Columns.{column}
+use Rattle.report_octets_laws.specs.Reported.{reportIn}
 use Rattle.floor.specs.Promises.{LoadPromise, ScreenPromise, PhasePromise, HolderPromise}
-use Rattle.kept.specs.Kept.{Holds, deskIn, FloorMake, Act, floorJoin, floorLeave, floorStart, floorStop, floorPacket, floorMedia, floorTimer, Call, Promised, ActFits, done}
+use Rattle.floor_laws.specs.Kept.{Holds, deskIn, FloorMake, Act, floorJoin, floorLeave, floorStart, floorStop, floorPacket, floorMedia}
+use Rattle.floor_laws.specs.Kept.{floorTimer, Call, Promised, ActFits, done}
 
 -- A RUN AND ITS LOG
 
 -- what a report's octets say; a join has no report
-abbrev pub said : List ℕ → Report
-said r = record { answer = 0; first = reportIn r .first; second = reportIn r .second; marks = reportIn r .marks }
-
-abbrev pub unsaid : Report
-unsaid = record { answer = 0; first = silence; second = silence; marks = noMarks }
-
 abbrev pub reportBy : Act → List ℕ → Report
-reportBy (floorJoin o x h q l) r = unsaid
-reportBy (floorLeave s) r = said r
-reportBy floorStart r = said r
-reportBy floorStop r = said r
-reportBy (floorPacket p) r = said r
-reportBy (floorMedia x) r = said r
-reportBy (floorTimer t) r = said r
+reportBy (floorJoin o x h q l) r = emptyReport
+reportBy (floorLeave s) r = reportIn r
+reportBy floorStart r = reportIn r
+reportBy floorStop r = reportIn r
+reportBy (floorPacket p) r = reportIn r
+reportBy (floorMedia x) r = reportIn r
+reportBy (floorTimer t) r = reportIn r
 
 -- A call that was done brings a row: what was asked, a seat and its priority, as the desk reads the packet; and what the 24 octets of the
 -- report say. A call that was refused brings none.
@@ -59,16 +58,16 @@ rowsOf h r [] = []
 rowsOf h r (y ∷ ys) = record { asked = asking h y; report = r } ∷ rowsOf h r ys
 
 abbrev pub rowsBy : List ℕ → Call → List Row
-rowsBy d x = rowsOf (hallAt d) (reportBy (x .act) (take 24 (x .report))) (done x)
+rowsBy d x = rowsOf (hallAt d) (reportBy (x .act) (take reportSize (x .report))) (done x)
 
 -- every call that answers 0 brings one row
 abbrev pub DoneIsARow : Type 0
 DoneIsARow = (d : List ℕ) (x : Call) → Promised d x → x .answer ≡ 0 → (r : Row) × (rowsBy d x ≡ r ∷ [])
 
--- Calls on one desk's octets: those that stand there now, and the log, the latest row first. A desk that is made or loaded, in the first 1,200
--- octets of a room, begins a new log, whatever stood there and was done before; a make or a load that is refused is no row either. `called` is
--- join, leave, start, stop, packet, media and timer, each with its promise; the other functions only read a desk. Numbers from C are as its
--- types hold them.
+-- Calls on one desk's octets: those that stand there now, and the log, the latest row first. A desk that is made or loaded, in the first
+-- 1,200 octets of a room, begins a new log, whatever stood there and was done before; a make or a load that is refused is no row either.
+-- `called` is join, leave, start, stop, packet, media and timer, each with its promise; the other functions only read a desk. Numbers from
+-- C are as its types hold them.
 pub data Ran : List ℕ → List Row → Type 0 where
   made : (room : List ℕ) (g : Settings) (room′ : List ℕ) → FloorMake room g 0 room′ → g .ssrc < 4294967296 → Ran (deskIn room′) []
   loaded : (room sheet room′ : List ℕ) → LoadPromise room sheet 0 room′ → Octets sheet → Ran (deskIn room′) []
@@ -84,8 +83,8 @@ pub record Reached (d : List ℕ) (rows : List Row) : Type 0 where
   pub start : Desk
   pub isFresh : Fresh start
   pub past : History
-  pub holds : Holds d (deskAfter happens start past)
-  pub same : rows ≡ log happens start past
+  pub holds : Holds d (deskAfter does start past)
+  pub same : rows ≡ log does start past
 
 abbrev pub EveryRunReached : Type 0
 EveryRunReached = (d : List ℕ) (rows : List Row) → Ran d rows → Reached d rows
@@ -130,7 +129,7 @@ marksBy d x = marksOf (rowsBy d x)
 
 abbrev pub reasonIn : Hall → List Doing → ℕ → Bool
 reasonIn h [] s = false
-reasonIn h (y ∷ ys) s = reasonOf h y s
+reasonIn h (y ∷ ys) s = reason h y s
 
 -- THE FIVE STATEMENTS, of any run, any look and any seat number; of any call more, with a look before it and one after it
 
@@ -145,8 +144,9 @@ abbrev pub StruckForAReason : Type 0
 StruckForAReason = (d : List ℕ) (rows : List Row) → Ran d rows → (x : Call) → Promised d x → ActFits (x .act) → (s : ℕ) →
     isStruck s (marksBy d x) ≡ true → reasonIn (hallAt d) (done x) s ≡ true
 
--- 3. "A floor that ends with a line waiting, the call going on, goes to the highest priority, and among equals to the one whose latest placing
--- or move came first." Who waits, and at which priority, is read off the log; `floor_phase` answers more than 0 while the call goes on.
+-- 3. "A floor that ends with a line waiting, the call going on, goes to the highest priority, and among equals to the one whose latest
+-- placing or move came first." Who waits, and at which priority, is read off the log; `floor_phase` answers more than 0 while the call goes
+-- on.
 abbrev pub GoesToTheFirst : Type 0
 GoesToTheFirst = (d : List ℕ) (rows : List Row) → Ran d rows → (x : Call) → Promised d x → ActFits (x .act) → (t u p k : ℕ) →
     isEnded t (marksBy d x) ≡ true → placeOf u rows ≡ inLine p → PhasePromise (x .desk) (pos (suc k)) →

@@ -85,7 +85,8 @@ set-first : (es : List Entry) (n : ℕ) (e : Entry) → set (es ++ replicate (su
 set-first [] n e = refl
 set-first (x ∷ es) n e = ap (λ (l : List Entry). x ∷ l) (set-first es n e)
 
-take-behind : (k : ℕ) (es : List Entry) (n m : ℕ) → k ≤ length es + n → k ≤ length es + m → take k (es ++ replicate n empty) ≡ take k (es ++ replicate m empty)
+take-behind : (k : ℕ) (es : List Entry) (n m : ℕ) → k ≤ length es + n → k ≤ length es + m →
+    take k (es ++ replicate n empty) ≡ take k (es ++ replicate m empty)
 take-behind zero es n m h j = refl
 take-behind (suc k) [] zero m h j = absurd (omega arith)
 take-behind (suc k) [] (suc n) zero h j = absurd (omega arith)
@@ -97,7 +98,8 @@ padded-more es e h =
     sym (take-set-lt 15 (es ++ replicate 15 empty) (length es) e h) ∙ ap (take 15) (set-first es 14 e)
     ∙ take-behind 15 (es ++ e ∷ []) 14 15 (rw length-append (omega arith)) (rw length-append (omega arith))
 
-pub padded-next : (a es : List Entry) (n : ℕ) (e x : Entry) → a ≡ padded es → n ≡ length es → e ≡ x → length es < 15 → set a n e ≡ padded (es ++ x ∷ [])
+pub padded-next : (a es : List Entry) (n : ℕ) (e x : Entry) → a ≡ padded es → n ≡ length es → e ≡ x → length es < 15 →
+    set a n e ≡ padded (es ++ x ∷ [])
 padded-next a es n e x p q r h = rw (p, q, r) (padded-more es x h)
 
 -- the first so many, and one more
@@ -128,7 +130,8 @@ module _ (es : List Entry) (k : ℕ) (e : Entry) (h : k ≤ length es) where
   put-length = simp (length-append, length-take, length-drop) (omega arith)
 
 -- what is put in among the first stays among them
-pub put-first : (k n : ℕ) (es : List Entry) (e : Entry) → k ≤ n → take (suc n) (take k es ++ e ∷ drop k es) ≡ take k (take n es) ++ e ∷ drop k (take n es)
+pub put-first : (k n : ℕ) (es : List Entry) (e : Entry) → k ≤ n →
+    take (suc n) (take k es ++ e ∷ drop k es) ≡ take k (take n es) ++ e ∷ drop k (take n es)
 put-first zero n es e h = refl
 put-first (suc k) zero es e h = absurd (omega arith)
 put-first (suc k) (suc n) [] e h = refl
@@ -139,7 +142,8 @@ pub enter-nil : (e : Entry) → enter e [] ≡ e ∷ []
 unfolding enter ahead
 enter-nil e = refl
 
-pub enter-cons : (e x : Entry) (xs : List Entry) → enter e (x ∷ xs) ≡ (if leb (e .priority) (x .priority) then x ∷ enter e xs else e ∷ x ∷ xs)
+pub enter-cons : (e x : Entry) (xs : List Entry) →
+    enter e (x ∷ xs) ≡ (if leb (e .priority) (x .priority) then x ∷ enter e xs else e ∷ x ∷ xs)
 unfolding enter ahead if_then_else_
 enter-cons e x xs = by-test (leb (e .priority) (x .priority)) (λ q. rw q) (λ q. rw q)
 
@@ -185,12 +189,14 @@ module _ (seats : List Bool) (es : List Entry) (i : ℕ) (h : i < length es) whe
   unfolding without if_then_else_
   without-struck t = rw (next-taken es i h, without-append seats (take i es), t) (append-nil _)
 
-  pub without-kept : getD seats (getD es i empty .seat) false ≡ false → without seats (take (i + 1) es) ≡ without seats (take i es) ++ (getD es i empty ∷ [])
+  pub without-kept : getD seats (getD es i empty .seat) false ≡ false →
+      without seats (take (i + 1) es) ≡ without seats (take i es) ++ (getD es i empty ∷ [])
   unfolding without if_then_else_
   without-kept t = rw (next-taken es i h, without-append seats (take i es), t)
 
 -- the set of those in line, entry by entry
-pub added-on : (seats : List Bool) (es : List Entry) (i : ℕ) → i < length es → added seats (drop i es) ≡ added (set seats (getD es i empty .seat) true) (drop (i + 1) es)
+pub added-on : (seats : List Bool) (es : List Entry) (i : ℕ) → i < length es →
+    added seats (drop i es) ≡ added (set seats (getD es i empty .seat) true) (drop (i + 1) es)
 added-on seats es i h = rw (drop-cons es i empty h, add-one)
 
 pub added-ends : (seats : List Bool) (es : List Entry) (i : ℕ) → length es ≤ i → added seats (drop i es) ≡ seats

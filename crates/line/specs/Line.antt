@@ -10,13 +10,17 @@ use Rattle.words.specs.Choice.{if_then_else_}
 use Rattle.line.specs.declared.Entry.{Entry}
 use Rattle.line.specs.declared.Line.{Line}
 
+-- a seat in line, and the priority that it waits at
+abbrev pub entryOf : ℕ → ℕ → Entry
+entryOf s p = record { seat = s; priority = p }
+
 -- who waits, in order
 unfoldable pub waiting : Line → List Entry
 waiting l = take (l .len) (l .entries)
 
 -- the line that holds these: the places behind them are empty, and there are fifteen places
 abbrev pub empty : Entry
-empty = record { seat = 0; priority = 0 }
+empty = entryOf 0 0
 
 unfoldable pub lineOf : List Entry → Line
 lineOf es = record { entries = padded empty 15 es; len = length (take 15 es) }

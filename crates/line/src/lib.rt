@@ -5,13 +5,19 @@ ghost use Prim.Native.Nat.{_≤_, _<_};
 ghost use mathlib.Core.List.{_++_, _∷_, []};
 ghost use mathlib.Core.Bool.{true, false};
 ghost use lib.ListN.{length, take, drop, getD, set};
-ghost use Rattle.line.specs.Line.{waiting, lineOf, empty, before, ahead, enter, otherAtLeast, anotherAtLeast, without, seatsOf};
+ghost use Rattle.line.specs.Line.{entryOf, waiting, lineOf, empty, before, ahead, enter, otherAtLeast, anotherAtLeast, without, seatsOf};
 
 // A seat in line, and the holder of the floor: who, and the effective priority that it waits at, or was given the floor at.
 pub struct Entry {
     pub seat: u8,
     pub priority: u8,
 }
+
+// No one's entry.
+pub const EMPTY: Entry = Entry {
+    seat: 0,
+    priority: 0,
+};
 
 // A set of seats.
 pub type Seats = [bool; 16];
@@ -25,11 +31,15 @@ pub struct Line {
 pub fn nobody_waits() -> Line
     ensures { λ r. ⌜ r ≡ lineOf [] ⌝ }
 {
-    let entries = [Entry {
-        seat: 0,
-        priority: 0,
-    }; 15];
+    let entries = [EMPTY; 15];
     Line { entries, len: 0 }
+}
+
+// An entry from its parts: what makes one comes through here.
+pub fn entry_of(seat: u8, priority: u8) -> Entry
+    ensures { λ r. ⌜ r ≡ entryOf seat priority ⌝ }
+{
+    Entry { seat, priority }
 }
 
 // How many wait.
@@ -48,10 +58,7 @@ pub fn entry_at(line: Line, place: usize) -> Entry
         let entries = line.entries;
         entries[place]
     } else {
-        Entry {
-            seat: 0,
-            priority: 0,
-        }
+        EMPTY
     }
 }
 
@@ -134,10 +141,7 @@ fn insert(line: Line, k: usize, e: Entry) -> Line
 {
     let n = count(line);
     let old = line.entries;
-    let mut entries = [Entry {
-        seat: 0,
-        priority: 0,
-    }; 15];
+    let mut entries = [EMPTY; 15];
     let len = if n < 15 { n + 1 } else { 15 };
     let mut i = 0;
     while i < len {
@@ -168,10 +172,7 @@ pub fn struck(line: Line, seats: [bool; 16]) -> Line
     ensures { λ r. ⌜ (r ≡ lineOf (without seats (waiting line))) × (waiting r ≡ without seats (waiting line)) ⌝ }
 {
     let n = count(line);
-    let mut entries = [Entry {
-        seat: 0,
-        priority: 0,
-    }; 15];
+    let mut entries = [EMPTY; 15];
     let old = line.entries;
     let mut len = 0;
     let mut i = 0;

@@ -1,4 +1,5 @@
--- The two accounts of a step, by the nine things that it can do. Assumes nothing.
+-- In every step, for every seat, the marks are what the line and the holder did: shown of each of the nine things that a step can do.
+-- Assumes nothing.
 use Prim.Native.Nat.{ℕ, _+_}
 use mathlib.Core.Path.{_≡_, refl, ap, sym, _∙_}
 use mathlib.Core.Bool.{Bool, true, false, not, _&&_, _||_}
@@ -11,14 +12,15 @@ use Rattle.words.specs.Choice.{one}
 use Rattle.words.specs.Table.{getD-fill}
 use Rattle.words.proofs.Tests.{clash}
 use Rattle.line.specs.declared.Entry.{Entry}
-use Rattle.line.specs.Line.{waiting, isIn, without, seatsOf, nobody}
+use Rattle.line.specs.Line.{waiting, isIn, without, seatsOf, nobody, entryOf}
 use Rattle.hall.specs.Seats.{only}
-use Rattle.rules.specs.declared.Core.{Core}
-use Rattle.rules.specs.declared.Marks.{Marks}
-use Rattle.rules.specs.Request.{entry, waits}
-use Rattle.history.specs.Doing.{Desk, Doing, does}
+use Rattle.steps.specs.declared.Core.{Core}
+use Rattle.steps.specs.declared.Marks.{Marks}
+use Rattle.request.specs.Request.{waits}
+use Rattle.events.specs.declared.Desk.{Desk}
+use Rattle.history.specs.Doing.{Doing, does}
 use Rattle.ways.proofs.Walk.{every-way}
-use Rattle.ways.proofs.Laws.{holds-one, idle-none}
+use Rattle.ways.proofs.Phases.{holds-one, idle-none}
 use Rattle.marks.specs.Marks.{LineCounts, FloorCounts, Fit, EveryStepCounts}
 use Rattle.marks.proofs.InLine.{in-nil, in-cons, in-enter, in-without, only-at, in-added}
 use Rattle.marks.proofs.Did.{Did, rests, gives, places, shifts, strikes, passes, frees, halts, closes, did}
@@ -68,13 +70,16 @@ module _ (d : Desk) (x : Doing) (new : Core) (m : Marks) (f : Fit (d .core) (d .
   unfolding waits
   line-counts (rests u k h q) = rw (q, k, getD-fill false 16 s) (omega arith)
   line-counts (gives t p a i k h q) = rw (q, k, getD-fill false 16 s) (omega arith)
-  line-counts (places t p a w r k h q) = rw (q, k, getD-fill false 16 s, in-enter s (entry t p) line) (comes (eqb t s) (isIn s line) (also t false w))
+  line-counts (places t p a w r k h q) =
+      rw (q, k, getD-fill false 16 s, in-enter s (entryOf t p) line) (comes (eqb t s) (isIn s line) (also t false w))
   line-counts (shifts t p b a w n k h q) =
-      rw (q, k, getD-fill false 16 s, in-enter s (entry t p) (without (only t) line), in-without s (only t) line, only-at t s b)
+      rw (q, k, getD-fill false 16 s, in-enter s (entryOf t p) (without (only t) line), in-without s (only t) line, only-at t s b)
       (stays (eqb t s) (isIn s line) (also t true w))
-  line-counts (strikes t b a g w k h q) = rw (q, k, in-without s (only t) line, only-at t s b) (goes (eqb t s) (isIn s line) (also t true w))
+  line-counts (strikes t b a g w k h q) =
+      rw (q, k, in-without s (only t) line, only-at t s b) (goes (eqb t s) (isIn s line) (also t true w))
   line-counts (passes t e es a k b w n h q) =
-      rw (q, n, w, in-without s (only (e .seat)) (e ∷ es), only-at (e .seat) s b, getD-fill false 16 s, in-cons s e es) (heads (eqb (e .seat) s) (isIn s es))
+      rw (q, n, w, in-without s (only (e .seat)) (e ∷ es), only-at (e .seat) s b, getD-fill false 16 s, in-cons s e es)
+      (heads (eqb (e .seat) s) (isIn s es))
   line-counts (frees t a k w n h q) = rw (q, n, w, getD-fill false 16 s, in-nil s)
   line-counts (halts t y k n h q) = rw q (emptied n)
   line-counts (closes y i n h q) = rw q (emptied n)
@@ -92,5 +97,7 @@ module _ (d : Desk) (x : Doing) (new : Core) (m : Marks) (f : Fit (d .core) (d .
 
 pub every-step-counts : EveryStepCounts
 every-step-counts d x s f =
-    let z = did d x (does d x) f (every-way d x) in
-    (line-counts d x (does d x .core) (does d x .report .marks) f s z, floor-counts d x (does d x .core) (does d x .report .marks) f s z)
+    let z = did d x (does d x) f (every-way d x) in (
+      line-counts d x (does d x .desk .core) (does d x .report .marks) f s z,
+      floor-counts d x (does d x .desk .core) (does d x .report .marks) f s z,
+    )

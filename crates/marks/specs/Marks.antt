@@ -1,6 +1,7 @@
 -- "Each step reports .. four marks: placed (a seat), struck off (a set), ended (a seat), given (a seat, at once or out of the line)"
--- (document 01, "The desk"). What a report's marks say of a seat and what the step did to it are two accounts, and they agree: in every step, of
--- every desk whose line fits, for every seat. The statement here is proved in proofs/, in the file named beside it. Assumes nothing.
+-- (document 01, "The desk"). What a report's marks say of a seat and what the step did to it are two accounts, and they agree: in every
+-- step, of every desk whose line fits, for every seat. The statement here is proved in proofs/, in the file named beside it. Assumes
+-- nothing.
 use Prim.Native.Nat.{ℕ, _+_, _≤_, _<_}
 use mathlib.Core.Path.{_≡_}
 use mathlib.Core.Bool.{Bool, true, false}
@@ -9,15 +10,16 @@ use lib.ListN.{length, getD}
 use Rattle.words.specs.Choice.{one}
 use Rattle.line.specs.Line.{waiting, isIn}
 use Rattle.hall.specs.declared.Hall.{Hall}
-use Rattle.rules.specs.declared.Core.{Core}
-use Rattle.rules.specs.declared.Mark.{Mark}
-use Rattle.rules.specs.declared.Mark.the-variants.{NoSeat, Seat}
-use Rattle.rules.specs.declared.Given.{Given}
-use Rattle.rules.specs.declared.Given.the-variants.{NotGiven, AtOnce, OutOfLine}
-use Rattle.rules.specs.declared.Marks.{Marks}
-use Rattle.rules.specs.Floor.{holds}
-use Rattle.rules.specs.Request.{waits}
-use Rattle.history.specs.Doing.{Desk, Doing, does}
+use Rattle.steps.specs.declared.Core.{Core}
+use Rattle.steps.specs.declared.Mark.{Mark}
+use Rattle.steps.specs.declared.Mark.the-variants.{NoSeat, Seat}
+use Rattle.steps.specs.declared.Given.{Given}
+use Rattle.steps.specs.declared.Given.the-variants.{NotGiven, AtOnce, OutOfLine}
+use Rattle.steps.specs.declared.Marks.{Marks}
+use Rattle.giving.specs.Floor.{holds}
+use Rattle.request.specs.Request.{waits}
+use Rattle.events.specs.declared.Desk.{Desk}
+use Rattle.history.specs.Doing.{Doing, does}
 
 abbrev pub isSeat : Mark → ℕ → Bool
 isSeat NoSeat s = false
@@ -51,4 +53,5 @@ pub record Fit (c : Core) (h : Hall) : Type 0 where
 -- Both accounts (proofs/Counts): whatever happens to a desk whose line fits, for every seat.
 abbrev pub EveryStepCounts : Type 0
 EveryStepCounts = (d : Desk) (x : Doing) (s : ℕ) → Fit (d .core) (d .hall) →
-    LineCounts (d .core) (does d x .core) (does d x .report .marks) s × FloorCounts (d .core) (does d x .core) (does d x .report .marks) s
+    LineCounts (d .core) (does d x .desk .core) (does d x .report .marks) s
+    × FloorCounts (d .core) (does d x .desk .core) (does d x .report .marks) s

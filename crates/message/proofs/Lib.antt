@@ -1,2 +1,7 @@
--- Laws of the table and of the types that the functions here, and the readers and writers above, cite.
+-- Laws of what is stated in specs/, for the proofs here and for all crates above.
 pub mod Rows
+pub mod Paddings
+pub mod Answers
+pub mod Parts
+pub mod Required
+pub mod Types

@@ -2,14 +2,14 @@
 -- going through the rows. Assumes nothing.
 use Prim.Native.Nat.{ℕ, _<_, _≤_}
 use native.Mathlib.Omega.{arith}
-use mathlib.Core.Bool.{Bool, true, false, not, _&&_, _||_, or-true}
+use mathlib.Core.Bool.{Bool, true, false, not, _&&_, or-true}
 use mathlib.Core.List.{List, [], _∷_}
 use mathlib.Core.Path.{_≡_, refl, sym, _∙_}
 use lib.Dec.{eqb, ltb}
 use lib.ListN.{getD}
-use borrow.Author.Tests.{eqb-true, ne-eqb, ltb-true, ltb-false, lt-ltb, le-ltb}
+use borrow.Author.Tests.{eqb-true, ne-eqb, ltb-true, lt-ltb, le-ltb}
 use Rattle.words.specs.Below.{below, and-left, and-right}
-use Rattle.words.specs.Choice.{if_then_else_, if-yes, if-no, by-test}
+use Rattle.words.specs.Choice.{if_then_else_, if-no, by-test}
 use Rattle.message.specs.Table.{Row, table, rowIn, rowOf, listedIn, listed, skipped, against, atFault}
 
 -- the table as the code holds it: an ID that is skipped has a mark in the place of its greatest L
@@ -50,7 +50,8 @@ unfolding under listedIn
 unlisted [] i e h = refl
 unlisted (r ∷ rows) i e h =
     let l : r .id < 16 = ltb-true (r .id) 16 (and-left _ _ e) in
-    if-no (eqb i (r .id)) true (listedIn rows i) (ne-eqb i (r .id) (λ q. omega arith)) ∙ unlisted rows i (and-right (ltb (r .id) 16) (under rows) e) h
+    if-no (eqb i (r .id)) true (listedIn rows i) (ne-eqb i (r .id) (λ q. omega arith))
+    ∙ unlisted rows i (and-right (ltb (r .id) 16) (under rows) e) h
 
 pub unlisted-above : (i : ℕ) → 16 ≤ i → listed i ≡ false
 unfolding under

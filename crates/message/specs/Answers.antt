@@ -2,7 +2,8 @@
 -- number or a result. Assumes nothing.
 use Prim.Native.Nat.{ℕ}
 use Rattle.message.specs.declared.Refusal.{Refusal}
-use Rattle.message.specs.declared.Refusal.the-variants.{TooShort, TooLong, NotVersion2, Padded, NotApplication, WrongLength, NotNamed, UnlistedType, PastTheEnd, AgainstTheTable, Missing, Unreadable, NoRoom}
+use Rattle.message.specs.declared.Refusal.the-variants.{TooShort, TooLong, NotVersion2, Padded, NotApplication, WrongLength, NotNamed}
+use Rattle.message.specs.declared.Refusal.the-variants.{UnlistedType, PastTheEnd, AgainstTheTable, Missing, Unreadable, NoRoom}
 
 pub data Answer (A : Type 0) : Type 0 where
   refused : ℕ → Answer A

@@ -2,3 +2,4 @@ pub mod Types
 pub mod Table
 pub mod Message
 pub mod Answers
+pub mod Asked

@@ -1,15 +1,17 @@
 -- What a message is (document 01, "The packet": "A message is its type, Ack bit, SSRC and the table's fields it has, without spare,
 -- padding or skipped fields"). The struct `Message` holds one beside a source; `said` is the message that it holds, if its parts lie in
--- that source: else it holds none, and the writer answers 12 (`lies` of writing/specs/Writing). Assumes nothing.
-use Prim.Native.Nat.{ℕ}
+-- that source (`lies`): else it holds none, and the writer answers 12. Assumes nothing.
+use Prim.Native.Nat.{ℕ, _+_}
 use mathlib.Core.Bool.{Bool, true, false, _&&_}
 use mathlib.Core.List.{List, [], _∷_, _++_}
 use mathlib.Core.Option.{Option, none, some}
-use lib.Dec.{eqb}
+use lib.Dec.{eqb, leb}
+use lib.ListN.{length}
 use Rattle.words.specs.Choice.{if_then_else_}
 use Rattle.octets.specs.Octets.{octets16, octets32, part}
 use Rattle.message.specs.declared.Kind.{Kind}
-use Rattle.message.specs.declared.Kind.the-variants.{Request, Granted, Taken, Deny, Release, Idle, Revoke, QueuePositionRequest, QueuePositionInfo, Ack}
+use Rattle.message.specs.declared.Kind.the-variants.{Request, Granted, Taken, Deny, Release, Idle, Revoke, QueuePositionRequest}
+use Rattle.message.specs.declared.Kind.the-variants.{QueuePositionInfo, Ack}
 use Rattle.message.specs.declared.Octet.{Octet}
 use Rattle.message.specs.declared.Word.{Word}
 use Rattle.message.specs.declared.Number.{Number}
@@ -68,13 +70,34 @@ fieldsOf m src =
     ∷ field 6 (ofPart src (m .user))
     ∷ field 8 (ofWord (m .sequence))
     ∷ field 10 (ofWord (m .source))
-    ∷ field 12 (ofOctet (m .subject))
+    ∷ field 12 (ofOctet (m .«message_type»))
     ∷ field 13 (ofWord (m .indicator))
-    ∷ field 14 (ofNumber (m .party))
+    ∷ field 14 (ofNumber (m .«ssrc_field»))
     ∷ []
 
 unfoldable pub said : Message → List ℕ → Said
 said m src = record { kind = m .kind; ack = m .ack; ssrc = m .ssrc; fields = fieldsOf m src }
+
+-- how many octets of the source a field takes
+abbrev pub countOf : Part → ℕ
+countOf Part.Absent = 0
+countOf (Part.At from count) = count
+
+abbrev pub phraseCount : Cause → ℕ
+phraseCount Cause.Absent = 0
+phraseCount (Cause.Is cause from count) = count
+
+-- the identities and the phrase lie in the source
+abbrev pub partLies : List ℕ → Part → Bool
+partLies src Part.Absent = true
+partLies src (Part.At from count) = leb (from + count) (length src)
+
+abbrev pub phraseLies : List ℕ → Cause → Bool
+phraseLies src Cause.Absent = true
+phraseLies src (Cause.Is cause from count) = leb (from + count) (length src)
+
+unfoldable pub lies : Message → List ℕ → Bool
+lies m src = partLies src (m .granted) && partLies src (m .user) && phraseLies src (m .cause)
 
 -- "Required: Granted 1; Taken 4; Deny and Revoke 2; Idle 8; Queue Position Info 3; Ack 10 and 12"
 abbrev pub required : Kind → List ℕ
@@ -93,15 +116,15 @@ abbrev pub isGiven : Option (List ℕ) → Bool
 isGiven none = false
 isGiven (some xs) = true
 
--- whether the fields have this ID, and all of these
+-- whether the fields have this ID; whether all of these are given
 unfoldable pub has : List Field → ℕ → Bool
 has [] i = false
 has (f ∷ fs) i = if eqb i (f .id) then isGiven (f .content) else has fs i
 
-unfoldable pub hasAll : List Field → List ℕ → Bool
-hasAll fs [] = true
-hasAll fs (i ∷ is) = has fs i && hasAll fs is
+unfoldable pub hasAll : (ℕ → Bool) → List ℕ → Bool
+hasAll given [] = true
+hasAll given (i ∷ is) = given i && hasAll given is
 
 -- no required field is missing
 unfoldable pub complete : Said → Bool
-complete m = hasAll (m .fields) (required (m .kind))
+complete m = hasAll (has (m .fields)) (required (m .kind))

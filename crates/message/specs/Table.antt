@@ -4,6 +4,7 @@ use Prim.Native.Nat.{ℕ, _+_, _-_, _%_}
 use mathlib.Core.Bool.{Bool, true, false, _||_}
 use mathlib.Core.List.{List, [], _∷_}
 use lib.Dec.{ltb, eqb}
+use lib.ListN.{length}
 use Rattle.words.specs.Choice.{if_then_else_}
 
 pub record Row : Type 0 where
@@ -54,6 +55,10 @@ listed i = listedIn table i
 -- "Content can be at fault only at IDs 5 and 10": the number that it is
 unfoldable pub atFault : ℕ → ℕ → Bool
 atFault i n = if eqb i 5 then ltb 1 n else if eqb i 10 then ltb 3 n else false
+
+-- L of a field: its content and the spare octets behind it
+abbrev pub lengthOf : ℕ → List ℕ → ℕ
+lengthOf i content = length content + rowOf i .spare
 
 -- L or content against the table: the field's ID, its L, and its content
 unfoldable pub against : ℕ → ℕ → ℕ → Bool

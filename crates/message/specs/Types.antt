@@ -4,7 +4,8 @@ use mathlib.Core.List.{List, [], _∷_}
 use lib.ListN.{getD}
 use Rattle.message.specs.declared.Kind.{Kind}
 use Rattle.message.specs.declared.Typed.{Typed}
-use Rattle.message.specs.declared.Kind.the-variants.{Request, Granted, Taken, Deny, Release, Idle, Revoke, QueuePositionRequest, QueuePositionInfo, Ack}
+use Rattle.message.specs.declared.Kind.the-variants.{Request, Granted, Taken, Deny, Release, Idle, Revoke, QueuePositionRequest}
+use Rattle.message.specs.declared.Kind.the-variants.{QueuePositionInfo, Ack}
 use Rattle.message.specs.declared.Typed.the-variants.{Listed, Unlisted}
 
 -- the types from 0 on; 7 and all from 11 on are not listed

@@ -1,12 +1,13 @@
 // A message, its types and the table of its fields (document 01, "The packet" and "What is answered to packets").
 ghost use mathlib.Core.Path.{_≡_};
 ghost use mathlib.Core.List.{List};
-ghost use Prim.Native.Nat.{ℕ};
+ghost use Prim.Native.Nat.{ℕ, _≤_};
 ghost use Rattle.message.specs.Types.{typed, typeNumber};
-ghost use Rattle.message.specs.Table.{listed, atFault, against};
+ghost use Rattle.message.specs.Table.{listed, atFault, against, padded, padding};
 ghost use lib.Dec.{ltb};
 ghost use Rattle.message.specs.Answers.{number};
-ghost use Rattle.message.specs.Message.{ofOctet, ofWord, ofCause, ofQueue, ofPart, isGiven, said, complete};
+ghost use Rattle.message.specs.Message.{ofOctet, ofWord, ofCause, ofQueue, ofPart, isGiven, said, required, hasAll, complete};
+ghost use Rattle.message.specs.Asked.{given};
 
 // The ten types.
 pub enum Kind {
@@ -75,10 +76,10 @@ pub struct Message {
     pub sequence: Word,
     pub source: Word,
     // field 12, "Message Type"
-    pub subject: Octet,
+    pub message_type: Octet,
     pub indicator: Word,
     // field 14, "SSRC"; the header's is `ssrc`
-    pub party: Number,
+    pub ssrc_field: Number,
 }
 
 // The refusals 1 to 13, in the paper's order; `number` of specs/ gives each its number.
@@ -230,6 +231,22 @@ pub fn against(id: u8, len: u8, number: u16) -> bool
     false
 }
 
+// How many octets a field of this length takes, with its ID, its length and its padding: whole words of 4. Reader and writer ask here.
+pub fn padded(len: usize) -> usize
+    requires { ⌜ len ≤ 255 ⌝ }
+    ensures { λ r. ⌜ r ≡ padded len ⌝ }
+{
+    (len + 5) / 4 * 4
+}
+
+// How many of them are padding. It is at most 3, and the remainder says so to the compiler.
+pub fn padding(len: usize) -> usize
+    requires { ⌜ len ≤ 255 ⌝ }
+    ensures { λ r. ⌜ r ≡ padding len ⌝ }
+{
+    (padded(len) - (len + 2)) % 4
+}
+
 fn has_octet(o: Octet) -> bool
     ensures { λ r. ⌜ r ≡ isGiven (ofOctet o) ⌝ }
 {
@@ -264,6 +281,35 @@ fn has_cause(c: Cause) -> bool
     }
 }
 
+// Which of the fields that some type requires a message has.
+pub struct Has {
+    pub duration: bool,
+    pub cause: bool,
+    pub queue: bool,
+    pub granted: bool,
+    pub sequence: bool,
+    pub source: bool,
+    pub message_type: bool,
+}
+
+// Whether every field that a type requires is there: the one place that knows which these are.
+pub fn has_required(kind: Kind, has: Has) -> bool
+    ensures { λ r. ⌜ r ≡ hasAll (given has) (required kind) ⌝ }
+{
+    match kind {
+        Kind::Request => true,
+        Kind::Granted => has.duration,
+        Kind::Taken => has.granted,
+        Kind::Deny => has.cause,
+        Kind::Release => true,
+        Kind::Idle => has.sequence,
+        Kind::Revoke => has.cause,
+        Kind::QueuePositionRequest => true,
+        Kind::QueuePositionInfo => has.queue,
+        Kind::Ack => has.source & has.message_type,
+    }
+}
+
 // Whether a message has every field that its type requires.
 pub fn complete(m: Message) -> bool
     ensures { λ r. ⌜ ((src : List ℕ) → r ≡ complete (said m src)) ⌝ }
@@ -275,17 +321,15 @@ pub fn complete(m: Message) -> bool
     let granted = m.granted;
     let sequence = m.sequence;
     let source = m.source;
-    let subject = m.subject;
-    match kind {
-        Kind::Granted => has_word(duration),
-        Kind::Taken => has_part(granted),
-        Kind::Deny => has_cause(cause),
-        Kind::Revoke => has_cause(cause),
-        Kind::Idle => has_word(sequence),
-        Kind::QueuePositionInfo => has_queue(queue),
-        Kind::Ack => has_word(source) && has_octet(subject),
-        Kind::Request => true,
-        Kind::Release => true,
-        Kind::QueuePositionRequest => true,
-    }
+    let message_type = m.message_type;
+    let has = Has {
+        duration: has_word(duration),
+        cause: has_cause(cause),
+        queue: has_queue(queue),
+        granted: has_part(granted),
+        sequence: has_word(sequence),
+        source: has_word(source),
+        message_type: has_octet(message_type),
+    };
+    has_required(kind, has)
 }

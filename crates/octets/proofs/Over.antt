@@ -15,7 +15,8 @@ use native.Mathlib.Omega.{arith}
 use mathlib.Core.Path.{_≡_, sym, ap, _∙_}
 use mathlib.Core.List.{List, [], _∷_, _++_, append-assoc, append-nil}
 use lib.ListN.{length, getD, take, drop, set, replicate, length-append, length-drop, take-append-drop, replicate-append-replicate}
-use lib.Seq.{take-at, take-add, drop-append-add, drop-drop, set-split, take-suc, getD-drop, length-take-le, append-snoc, take-append-le, take-take, drop-at}
+use lib.Seq.{take-at, take-add, drop-append-add, drop-drop, set-split, take-suc, getD-drop, length-take-le, append-snoc, take-append-le}
+use lib.Seq.{take-take, drop-at}
 use Rattle.octets.specs.Octets.{over, part}
 
 pub over-none : (room : List ℕ) (at : ℕ) → over room at [] ≡ room
@@ -41,9 +42,11 @@ over-two room at xs ys h =
     let p : List ℕ = take at room ++ xs in
     let q : List ℕ = drop (at + length xs) room in
     let e : length p ≡ at + length xs = head-length room at xs h in
-    rw (take-at p q (at + length xs) e, behind p q (at + length xs) (length ys) e, drop-drop) (simp (length-append, append-assoc, add-assoc))
+    rw (take-at p q (at + length xs) e, behind p q (at + length xs) (length ys) e, drop-drop)
+    (simp (length-append, append-assoc, add-assoc))
 
-pub run : (room r r′ : List ℕ) (at n : ℕ) (xs ys : List ℕ) → at ≤ length room → length xs ≡ n → r ≡ over room at xs → r′ ≡ over r (at + n) ys
+pub run : (room r r′ : List ℕ) (at n : ℕ) (xs ys : List ℕ) → at ≤ length room → length xs ≡ n → r ≡ over room at xs →
+    r′ ≡ over r (at + n) ys
     → r′ ≡ over room at (xs ++ ys)
 run room r r′ at n xs ys h l e q = q ∙ rw (e, ← l) (over-two room at xs ys h)
 
@@ -91,7 +94,8 @@ unfolding part
 part-join s from k n = sym (take-add k n (drop from s) ∙ ap (λ (r : List ℕ). take k (drop from s) ++ take n r) (drop-drop k from s))
 
 -- octets written over others, from the same place on and at least as far
-over-over : (room : List ℕ) (at : ℕ) (xs ys : List ℕ) → at ≤ length room → length xs ≤ length ys → over (over room at xs) at ys ≡ over room at ys
+over-over : (room : List ℕ) (at : ℕ) (xs ys : List ℕ) → at ≤ length room → length xs ≤ length ys →
+    over (over room at xs) at ys ≡ over room at ys
 unfolding over
 over-over room at xs ys h l =
     let e : length (take at room) ≡ at = length-take-le at room h in
@@ -100,7 +104,8 @@ over-over room at xs ys h l =
     let d : at + length ys ≡ at + length xs + k = omega arith in
     let b : drop (at + length ys) (take at room ++ xs ++ q) ≡ drop (at + length ys) room =
     rw d (behind (take at room ++ xs) q (at + length xs) k (head-length room at xs h) ∙ drop-drop k (at + length xs) room) in
-    ap (λ (r : List ℕ). r ++ ys ++ drop (at + length ys) (take at room ++ xs ++ q)) (ap (take at) (append-assoc (take at room) xs q) ∙ take-at (take at room) (xs ++ q) at e)
+    ap (λ (r : List ℕ). r ++ ys ++ drop (at + length ys) (take at room ++ xs ++ q))
+    (ap (take at) (append-assoc (take at room) xs q) ∙ take-at (take at room) (xs ++ q) at e)
     ∙ ap (λ (r : List ℕ). take at room ++ ys ++ r) b
 
 pub over-again : (room s : List ℕ) (at from j k n : ℕ) {count : ℕ} {room₁ room₂ : List ℕ} → k + n ≡ count → k ≤ j → j ≤ count

@@ -2,6 +2,7 @@
 -- Nothing here knows of packets. Assumes nothing.
 use Prim.Native.Nat.{ℕ, _+_, _*_, _/_, _%_, _<_}
 use mathlib.Core.List.{List, [], _∷_, _++_}
+use mathlib.Core.Path.{_≡_}
 use lib.ListN.{length, getD, take, drop}
 
 -- each of these numbers is an octet
@@ -29,3 +30,8 @@ part s from count = take count (drop from s)
 -- the room with these octets over its own from a place on; all before and behind them is untouched
 unfoldable pub over : List ℕ → ℕ → List ℕ → List ℕ
 over room at octets = take at room ++ octets ++ drop (at + length octets) room
+
+-- octets were laid over a room from a place on, and end where they say
+pub record Laid (before : List ℕ) (at : ℕ) (octets after : List ℕ) (end : ℕ) : Type 0 where
+  pub ends : end ≡ at + length octets
+  pub stands : after ≡ over before at octets

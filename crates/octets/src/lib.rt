@@ -1,8 +1,8 @@
 // Big-endian numbers, parts and copies of octets. Nothing here knows of packets.
 ghost use mathlib.Core.Path.{_≡_};
-ghost use mathlib.Core.List.{List, [], _∷_};
+ghost use mathlib.Core.List.{[], _∷_};
 ghost use Prim.Native.Nat.{_+_, _≤_, _<_};
-ghost use lib.ListN.{length, getD, replicate};
+ghost use lib.ListN.{length, replicate};
 ghost use Rattle.octets.specs.Octets.{be16, be32, octets16, octets32, part, over};
 
 // An octet as a number that counts or places.

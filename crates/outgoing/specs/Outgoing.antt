@@ -1,12 +1,10 @@
--- An outgoing message as a packet (document 01, "The desk": "As a packet it carries the desk's SSRC, the fields named below, no phrase and no
--- Ack bit"). Assumes nothing.
-use Prim.Native.Nat.{ℕ, _≤_}
-use mathlib.Core.Bool.{Bool, true, false}
+-- An outgoing message as a packet (document 01, "The desk": "As a packet it carries the desk's SSRC, the fields named below, no phrase and
+-- no Ack bit"). Assumes nothing.
+use Prim.Native.Nat.{ℕ}
+use mathlib.Core.Bool.{false}
 use mathlib.Core.List.{List}
-use mathlib.Core.Path.{_≡_}
 use lib.ListN.{length}
 use Rattle.message.specs.Answers.{Answer, result}
-use Rattle.message.specs.Message.{said}
 use Rattle.message.specs.declared.Kind.{Kind}
 use Rattle.message.specs.declared.Kind.the-variants as type
 use Rattle.message.specs.declared.Octet.{Octet}
@@ -16,13 +14,11 @@ use Rattle.message.specs.declared.Queue.{Queue}
 use Rattle.message.specs.declared.Part.{Part}
 use Rattle.message.specs.declared.Cause.{Cause}
 use Rattle.message.specs.declared.Message.{Message}
-use Rattle.writing.specs.Wire.{wire}
-use Rattle.writing.specs.Writing.{writing, written, readable, Tells}
+use Rattle.writing.specs.Writing.{writing, written, Tells}
 use Rattle.writing.specs.declared.Writing.{Writing}
-use Rattle.again.specs.Again.{ReadsAs}
 use Rattle.hall.specs.declared.Settings.{Settings}
-use Rattle.rules.specs.declared.Kind.{Kind as Say}
-use Rattle.rules.specs.declared.Kind.the-variants as say
+use Rattle.steps.specs.declared.Kind.{Kind as Say}
+use Rattle.steps.specs.declared.Kind.the-variants as say
 use Rattle.outgoing.specs.declared.Outgoing.{Outgoing}
 use Rattle.outgoing.specs.declared.Outgoing.the-variants.{Packet, Silence}
 
@@ -42,9 +38,9 @@ carrying k ssrc priority duration cause queue granted permission sequence =
       user = Part.Absent;
       sequence = sequence;
       source = Word.Absent;
-      subject = Octet.Absent;
+      «message_type» = Octet.Absent;
       indicator = Word.Absent;
-      party = Number.Absent;
+      «ssrc_field» = Number.Absent;
     }
 
 -- Granted: its priority and the Duration. Taken: the identity of the seat, which is the whole lent source, permission 1, the sequence
@@ -52,7 +48,8 @@ carrying k ssrc priority duration cause queue granted permission sequence =
 unfoldable pub outgoing : Settings → Say → ℕ → Outgoing
 outgoing s say.Nothing n = Silence
 outgoing s (say.Granted p) n =
-    Packet (carrying type.Granted (s .ssrc) (Octet.Is p) (Word.Is (s .duration)) Cause.Absent Queue.Absent Part.Absent Word.Absent Word.Absent)
+    Packet (carrying type.Granted (s .ssrc) (Octet.Is p) (Word.Is (s .duration)) Cause.Absent Queue.Absent Part.Absent Word.Absent
+    Word.Absent)
 outgoing s (say.Taken seat k) n =
     Packet (carrying type.Taken (s .ssrc) Octet.Absent Word.Absent Cause.Absent Queue.Absent (Part.At 0 n) (Word.Is 1) (Word.Is k))
 outgoing s (say.Deny why) n =
@@ -62,7 +59,8 @@ outgoing s (say.Idle k) n =
 outgoing s (say.Revoke why) n =
     Packet (carrying type.Revoke (s .ssrc) Octet.Absent Word.Absent (Cause.Is why 0 0) Queue.Absent Part.Absent Word.Absent Word.Absent)
 outgoing s (say.Info place priority) n =
-    Packet (carrying type.QueuePositionInfo (s .ssrc) Octet.Absent Word.Absent Cause.Absent (Queue.Is place priority) Part.Absent Word.Absent Word.Absent)
+    Packet (carrying type.QueuePositionInfo (s .ssrc) Octet.Absent Word.Absent Cause.Absent (Queue.Is place priority) Part.Absent
+    Word.Absent Word.Absent)
 
 -- what sending answers, and what it leaves in the room: nothing is written for silence
 abbrev pub sending : Outgoing → List ℕ → ℕ → Answer ℕ
@@ -75,15 +73,5 @@ sent (Packet m) identity room = written m identity room
 
 abbrev pub Sends : Settings → Say → List ℕ → List ℕ → Writing → List ℕ → Type 0
 Sends s k identity room answer after =
-    Tells (sending (outgoing s k (length identity)) identity (length room)) (sent (outgoing s k (length identity)) identity room) answer after
-
--- Every message of the desk can be written, and its octets read back as that message (proofs/Back): the seat's identity has 1 to 62 octets,
--- as join asks.
-pub record ReadsBack (m : Message) (identity : List ℕ) : Type 0 where
-  pub accepted : readable m identity ≡ true
-  pub reads : ReadsAs (wire (said m identity)) (said m identity)
-
-abbrev pub OutgoingReadsBack : Type 0
-OutgoingReadsBack =
-    (s : Settings) (k : Say) (identity : List ℕ) (m : Message) → 1 ≤ length identity → length identity ≤ 62
-    → outgoing s k (length identity) ≡ Packet m → ReadsBack m identity
+    Tells (sending (outgoing s k (length identity)) identity (length room)) (sent (outgoing s k (length identity)) identity room) answer
+    after

@@ -7,10 +7,9 @@ use message::Octet;
 use message::Part;
 use message::Queue;
 use message::Word;
-use rules::Kind;
+use steps::Kind;
 use writing::Writing;
 ghost use mathlib.Core.Path.{_≡_};
-ghost use lib.ListN.{length};
 ghost use Rattle.message.specs.declared.Kind.the-variants as type;
 ghost use Rattle.message.specs.declared.Octet.{Octet};
 ghost use Rattle.message.specs.declared.Word.{Word};
@@ -61,9 +60,9 @@ fn carry(kind: message::Kind, ssrc: u32, load: Load) -> Message
         user: Part::Absent,
         sequence,
         source: Word::Absent,
-        subject: Octet::Absent,
+        message_type: Octet::Absent,
         indicator: Word::Absent,
-        party: Number::Absent,
+        ssrc_field: Number::Absent,
     }
 }
 
@@ -82,8 +81,8 @@ fn granted(ssrc: u32, duration: u16, priority: u8) -> Message
     carry(message::Kind::Granted, ssrc, load)
 }
 
-fn taken(ssrc: u32, count: usize, number: u16) -> Message
-    ensures { λ r. ⌜ r ≡ carrying type.Taken ssrc Octet.Absent Word.Absent Cause.Absent Queue.Absent (Part.At 0 count) (Word.Is 1) (Word.Is number) ⌝ }
+fn taken(ssrc: u32, count: usize, sequence: u16) -> Message
+    ensures { λ r. ⌜ r ≡ carrying type.Taken ssrc Octet.Absent Word.Absent Cause.Absent Queue.Absent (Part.At 0 count) (Word.Is 1) (Word.Is sequence) ⌝ }
 {
     let load = Load {
         priority: Octet::Absent,
@@ -92,13 +91,13 @@ fn taken(ssrc: u32, count: usize, number: u16) -> Message
         queue: Queue::Absent,
         granted: Part::At(0, count),
         permission: Word::Is(1),
-        sequence: Word::Is(number),
+        sequence: Word::Is(sequence),
     };
     carry(message::Kind::Taken, ssrc, load)
 }
 
-fn idle(ssrc: u32, number: u16) -> Message
-    ensures { λ r. ⌜ r ≡ carrying type.Idle ssrc Octet.Absent Word.Absent Cause.Absent Queue.Absent Part.Absent Word.Absent (Word.Is number) ⌝ }
+fn idle(ssrc: u32, sequence: u16) -> Message
+    ensures { λ r. ⌜ r ≡ carrying type.Idle ssrc Octet.Absent Word.Absent Cause.Absent Queue.Absent Part.Absent Word.Absent (Word.Is sequence) ⌝ }
 {
     let load = Load {
         priority: Octet::Absent,
@@ -107,7 +106,7 @@ fn idle(ssrc: u32, number: u16) -> Message
         queue: Queue::Absent,
         granted: Part::Absent,
         permission: Word::Absent,
-        sequence: Word::Is(number),
+        sequence: Word::Is(sequence),
     };
     carry(message::Kind::Idle, ssrc, load)
 }
@@ -152,9 +151,9 @@ fn to_send(settings: Settings, kind: Kind, count: usize) -> Outgoing
     match kind {
         Kind::Nothing => Outgoing::Silence,
         Kind::Granted(priority) => Outgoing::Packet(granted(ssrc, duration, priority)),
-        Kind::Taken(_, number) => Outgoing::Packet(taken(ssrc, count, number)),
+        Kind::Taken(_, sequence) => Outgoing::Packet(taken(ssrc, count, sequence)),
         Kind::Deny(why) => Outgoing::Packet(caused(message::Kind::Deny, ssrc, why)),
-        Kind::Idle(number) => Outgoing::Packet(idle(ssrc, number)),
+        Kind::Idle(sequence) => Outgoing::Packet(idle(ssrc, sequence)),
         Kind::Revoke(why) => Outgoing::Packet(caused(message::Kind::Revoke, ssrc, why)),
         Kind::Info(place, priority) => Outgoing::Packet(info(ssrc, place, priority)),
     }

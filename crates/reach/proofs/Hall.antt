@@ -9,14 +9,14 @@ use lib.ListN.{length, getD, set, length-set}
 use lib.Seq.{getD-set-same, getD-set-other}
 use borrow.Author.Tests.{eqb-true, eqb-false, leb-true}
 use Rattle.words.specs.Choice.{if_then_else_, by-test}
-use Rattle.words.proofs.Tests.{and-both}
+use Rattle.words.proofs.Tests.{and-five}
 use Rattle.hall.specs.declared.Hall.{Hall}
 use Rattle.hall.specs.declared.Settings.{Settings}
-use Rattle.hall.specs.declared.Name.{Name}
-use Rattle.hall.specs.declared.Names.{Names}
+use Rattle.identities.specs.declared.Name.{Name}
+use Rattle.identities.specs.declared.Names.{Names}
 use Rattle.hall.specs.declared.Newcomer.{Newcomer}
-use Rattle.hall.specs.Seats.{isPresent, noOne, inRange, withSeat}
-use Rattle.hall.specs.Identity.{octetsOf, nameOf, noName, nameAt, withName, same, lengthAllowed}
+use Rattle.hall.specs.Seats.{isPresent, flagsAt, noFlags, noOne, inRange, withSeat}
+use Rattle.identities.specs.Identity.{octetsOf, nameOf, noName, nameAt, withName, same, lengthAllowed, Sixteen}
 use Rattle.reach.specs.Sound.{HallOk, SeatsOk}
 
 -- a seat's value in a column, after a store
@@ -31,11 +31,10 @@ stored l t s a d h =
 pub hall-ok : (h : Hall) (ns : Names) → SeatsOk h ns → HallOk h
 unfolding inRange
 hall-ok h ns k =
-    let a = and-both _ (leb 1 (h .settings .duration)) (k .settings) in
-    let b = and-both _ (leb 1 (h .settings .c20)) (a .0) in
-    let c = and-both _ (leb 1 (h .settings .c7)) (b .0) in
-    let d = and-both (leb 1 (h .settings .level)) (leb (h .settings .limit) 15) (c .0) in
-    record { seats = k .columns .0; limit = leb-true _ _ (d .1); c7 = leb-true _ _ (c .1); c20 = leb-true _ _ (b .1) }
+    let a =
+    and-five (leb 1 (h .settings .level)) (leb (h .settings .limit) 15) (leb 1 (h .settings .c7)) (leb 1 (h .settings .c20))
+    (leb 1 (h .settings .duration)) (k .settings) in
+    record { seats = k .columns .0; limit = leb-true _ _ (a .1); c7 = leb-true _ _ (a .2); c20 = leb-true _ _ (a .3) }
 
 -- one seat is told anew: taken by a newcomer, or vacated
 module _ (h : Hall) (ns : Names) (k : SeatsOk h ns) (t : ℕ) (b : t < 16) (here : Bool) (n : Newcomer) (m : Name) where
@@ -49,7 +48,7 @@ module _ (h : Hall) (ns : Names) (k : SeatsOk h ns) (t : ℕ) (b : t < 16) (here
 
   name-there : nameAt (withName ns t m) t ≡ m
   unfolding withName
-  name-there = getD-set-same (ns .«of») t m noName (omega (arith, k .columns .5))
+  name-there = getD-set-same (ns .«of») t m noName (omega (arith, k .columns .4))
 
   module _ (s : ℕ) (q : eqb t s ≡ false) where
     apart : s ≡ t → ⊥
@@ -68,27 +67,27 @@ module _ (h : Hall) (ns : Names) (k : SeatsOk h ns) (t : ℕ) (b : t < 16) (here
     name-else = getD-set-other (ns .«of») t s m noName apart
 
     free-else : (isPresent h s ≡ false) →
-        (getD (withSeat h t here n .ssrcs) s 0 ≡ 0) × (getD (withSeat h t here n .highest) s 0 ≡ 0) × (getD (withSeat h t here n .queueing) s false ≡ false)
-        × (getD (withSeat h t here n .listener) s false ≡ false) × (nameAt (withName ns t m) s ≡ noName)
+        (getD (withSeat h t here n .ssrcs) s 0 ≡ 0) × (getD (withSeat h t here n .highest) s 0 ≡ 0)
+        × (flagsAt (withSeat h t here n) s ≡ noFlags)
+        × (nameAt (withName ns t m) s ≡ noName)
     unfolding withSeat
     free-else f =
         let g = k .free s f in (
           ssrc-else ∙ g .0,
           getD-set-other (h .highest) t s (n .highest) 0 apart ∙ g .1,
-          getD-set-other (h .queueing) t s (n .queueing) false apart ∙ g .2,
-          getD-set-other (h .listener) t s (n .listener) false apart ∙ g .3,
-          name-else ∙ g .4,
+          getD-set-other (h .flags) t s (n .flags) noFlags apart ∙ g .2,
+          name-else ∙ g .3,
         )
 
   free-there : n ≡ noOne → m ≡ noName →
-      (getD (withSeat h t here n .ssrcs) t 0 ≡ 0) × (getD (withSeat h t here n .highest) t 0 ≡ 0) × (getD (withSeat h t here n .queueing) t false ≡ false)
-      × (getD (withSeat h t here n .listener) t false ≡ false) × (nameAt (withName ns t m) t ≡ noName)
+      (getD (withSeat h t here n .ssrcs) t 0 ≡ 0) × (getD (withSeat h t here n .highest) t 0 ≡ 0)
+      × (flagsAt (withSeat h t here n) t ≡ noFlags)
+      × (nameAt (withName ns t m) t ≡ noName)
   unfolding withSeat
   free-there p q = (
     ssrc-there ∙ ap (λ (x : Newcomer). x .ssrc) p,
     getD-set-same (h .highest) t (n .highest) 0 (omega (arith, k .columns .2)) ∙ ap (λ (x : Newcomer). x .highest) p,
-    getD-set-same (h .queueing) t (n .queueing) false (omega (arith, k .columns .3)) ∙ ap (λ (x : Newcomer). x .queueing) p,
-    getD-set-same (h .listener) t (n .listener) false (omega (arith, k .columns .4)) ∙ ap (λ (x : Newcomer). x .listener) p,
+    getD-set-same (h .flags) t (n .flags) noFlags (omega (arith, k .columns .3)) ∙ ap (λ (x : Newcomer). x .flags) p,
     name-there ∙ q,
   )
 
@@ -110,16 +109,14 @@ module _ (h : Hall) (ns : Names) (k : SeatsOk h ns) (t : ℕ) (b : t < 16) (here
     ssrc-at : (s : ℕ) → eqb t s ≡ true → getD (withSeat h t here n .ssrcs) s 0 ≡ n .ssrc
     ssrc-at s q = ap (λ (x : ℕ). getD (withSeat h t here n .ssrcs) x 0) (sym (eqb-true t s q)) ∙ ssrc-there
 
-    columns′ : (length (withSeat h t here n .present) ≡ 16) × (length (withSeat h t here n .ssrcs) ≡ 16) × (length (withSeat h t here n .highest) ≡ 16)
-        × (length (withSeat h t here n .queueing) ≡ 16) × (length (withSeat h t here n .listener) ≡ 16) × (length (withName ns t m .«of») ≡ 16)
+    columns′ : Sixteen (withSeat h t here n) (withName ns t m)
     unfolding withSeat withName
     columns′ = (
       length-set (h .present) t here ∙ k .columns .0,
       length-set (h .ssrcs) t (n .ssrc) ∙ k .columns .1,
       length-set (h .highest) t (n .highest) ∙ k .columns .2,
-      length-set (h .queueing) t (n .queueing) ∙ k .columns .3,
-      length-set (h .listener) t (n .listener) ∙ k .columns .4,
-      length-set (ns .«of») t m ∙ k .columns .5,
+      length-set (h .flags) t (n .flags) ∙ k .columns .3,
+      length-set (ns .«of») t m ∙ k .columns .4,
     )
 
     settings′ : withSeat h t here n .settings ≡ h .settings
@@ -153,6 +150,7 @@ module _ (h : Hall) (ns : Names) (k : SeatsOk h ns) (t : ℕ) (b : t < 16) (here
               (λ y. absurd (new (there u y q) .before s (sym (present-else s x) ∙ p) (rw (name-else s x, name-at u y) at e)))
               (λ y. k .identities s u (sym (present-else s x) ∙ p) (sym (present-else u y) ∙ q) (rw (name-else s x, name-else u y) at e)));
           free = λ s p. by-test (eqb t s)
-              (λ x. let g = gone (sym present-there ∙ ap (isPresent (withSeat h t here n)) (eqb-true t s x) ∙ p) in rw (sym (eqb-true t s x)) (free-there (g .0) (g .1)))
+              (λ x. let g = gone (sym present-there ∙ ap (isPresent (withSeat h t here n)) (eqb-true t s x) ∙ p) in
+              rw (sym (eqb-true t s x)) (free-there (g .0) (g .1)))
               (λ x. free-else s x (sym (present-else s x) ∙ p));
         }

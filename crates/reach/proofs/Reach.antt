@@ -14,23 +14,27 @@ use Rattle.line.specs.Line.{waiting, lineOf, isIn}
 use Rattle.line.proofs.Laws.{waiting-lineOf}
 use Rattle.hall.specs.declared.Settings.{Settings}
 use Rattle.hall.specs.declared.Hall.{Hall}
-use Rattle.hall.specs.declared.Names.{Names}
+use Rattle.identities.specs.declared.Names.{Names}
 use Rattle.hall.specs.declared.Newcomer.{Newcomer}
-use Rattle.hall.specs.declared.Joined.{Joined}
+use Rattle.joining.specs.declared.Joined.{Joined}
 use Rattle.hall.specs.declared.Found.the-variants.{Nowhere}
-use Rattle.hall.specs.Seats.{inRange, emptyHall, isPresent, hasSsrc, seatOf, withSeat, vacated, noOne}
-use Rattle.hall.specs.Identity.{octetsOf, nameOf, noName, noNames, nameAt, withName, same, hasName, seatNamed}
-use Rattle.hall.specs.Join.{isAt, ssrcTaken, join}
-use Rattle.hall.specs.Joins.{Passes, Joins, turnedAway, sitsDown}
-use Rattle.hall.proofs.Joins.{every-join}
-use Rattle.hall.proofs.Laws.{not-at, none-holds, allowed-short, name-octets, no-name-whole, same-sym}
-use Rattle.rules.specs.declared.Core.{Core}
-use Rattle.rules.specs.Floor.{holds}
-use Rattle.desk.specs.declared.Left.{Left}
-use Rattle.desk.specs.Events.{fresh, leave}
+use Rattle.hall.specs.Seats.{noFlags, inRange, emptyHall, isPresent, hasSsrc, seatOf, withSeat, vacated, noOne}
+use Rattle.identities.specs.Identity.{octetsOf, nameOf, noName, noNames, nameAt, withName, same, hasName, seatNamed}
+use Rattle.hall.specs.Seats.{isAt}
+use Rattle.joining.specs.Join.{ssrcTaken, join}
+use Rattle.joining.specs.Joins.{Passes, Joins, turnedAway, sitsDown}
+use Rattle.joining.proofs.Joins.{every-join}
+use Rattle.hall.proofs.Laws.{not-at, none-holds}
+use Rattle.identities.proofs.Naming.{allowed-short, name-octets, no-name-whole}
+use Rattle.identities.proofs.Same.{same-sym}
+use Rattle.steps.specs.declared.Core.{Core}
+use Rattle.giving.specs.Floor.{holds}
+use Rattle.events.specs.declared.Outcome.{Outcome}
+use Rattle.events.specs.Events.{fresh, leave}
 use Rattle.marks.specs.Marks.{Fit}
 use Rattle.marks.proofs.Counts.{every-step-counts}
-use Rattle.history.specs.Doing.{Desk, Doing, event, leaves, joins, does, deskOf, after, afterAll, justMade, andJoined}
+use Rattle.events.specs.declared.Desk.{Desk}
+use Rattle.history.specs.Doing.{Doing, event, packet, leaves, joins, does, after, afterAll, justMade, andJoined}
 use Rattle.ways.specs.Ways.{Way}
 use Rattle.ways.proofs.Walk.{every-way}
 use Rattle.reach.specs.Sound.{CoreOk, SeatsOk, Sound}
@@ -53,13 +57,13 @@ module _ (g : Settings) (r : inRange g ≡ true) where
   fresh-seats =
       record {
         settings = r;
-        columns = (refl, refl, refl, refl, refl, refl);
+        columns = (refl, refl, refl, refl, refl);
         ssrcs = λ s t p q e. clash p (nobody-there s);
         desk = λ s p e. clash p (nobody-there s);
         lengths = λ s p. clash p (nobody-there s);
         behind = λ s. rw (no-name-there s) no-name-whole;
         identities = λ s t p q e. clash p (nobody-there s);
-        free = λ s p. (getD-fill 0 16 s, getD-fill 0 16 s, getD-fill false 16 s, getD-fill false 16 s, no-name-there s);
+        free = λ s p. (getD-fill 0 16 s, getD-fill 0 16 s, getD-fill noFlags 16 s, no-name-there s);
       }
 
   fresh-core : CoreOk (emptyHall g) fresh
@@ -106,7 +110,8 @@ module _ (h : Hall) (ns : Names) (k : SeatsOk h ns) (t : ℕ) (p : isPresent h t
           holder = λ s q. stays-there s (λ e. clash q (ap (λ (x : ℕ). holds (c .phase) x) e ∙ f)) (o .floor .holder s q);
           cause = o .floor .cause;
         };
-        numbers = record { sequence = o .numbers .sequence; c7 = rw same-settings (o .numbers .c7); c20 = rw same-settings (o .numbers .c20) };
+        numbers =
+            record { sequence = o .numbers .sequence; c7 = rw same-settings (o .numbers .c7); c20 = rw same-settings (o .numbers .c20) };
       }
 
 -- join
@@ -150,8 +155,19 @@ module _ (h : Hall) (ns : Names) (k : SeatsOk h ns) (c : Core) (v : CoreOk h c) 
           };
           behind = v .line .behind;
         };
-        floor = record { out = v .floor .out; still = v .floor .still; holder = λ s q. grows s (v .floor .holder s q); cause = v .floor .cause };
-        numbers = record { sequence = v .numbers .sequence; c7 = rw (same-settings-joined t) (v .numbers .c7); c20 = rw (same-settings-joined t) (v .numbers .c20) };
+        floor =
+            record {
+              out = v .floor .out;
+              still = v .floor .still;
+              holder = λ s q. grows s (v .floor .holder s q);
+              cause = v .floor .cause;
+            };
+        numbers =
+            record {
+              sequence = v .numbers .sequence;
+              c7 = rw (same-settings-joined t) (v .numbers .c7);
+              c20 = rw (same-settings-joined t) (v .numbers .c20);
+            };
       }
     where
       grows : (s : ℕ) → isPresent h s ≡ true → isPresent (withSeat h t true n) s ≡ true
@@ -181,10 +197,18 @@ module _ (h : Hall) (ns : Names) (k : SeatsOk h ns) (c : Core) (v : CoreOk h c) 
 pub sound-kept : SoundKept
 unfolding does leave
 sound-kept d (event e) k =
-    record { seats = k .seats; core = keeps d (event e) (does d (event e)) (hall-ok (d .hall) (d .names) (k .seats)) (k .core) (every-way d (event e)) }
+    record {
+      seats = k .seats;
+      core = keeps d (event e) (does d (event e)) (hall-ok (d .hall) (d .names) (k .seats)) (k .core) (every-way d (event e));
+    }
+sound-kept d (packet o) k =
+    record {
+      seats = k .seats;
+      core = keeps d (packet o) (does d (packet o)) (hall-ok (d .hall) (d .names) (k .seats)) (k .core) (every-way d (packet o));
+    }
 sound-kept d (leaves t) k =
     let o = hall-ok (d .hall) (d .names) (k .seats) in
-    by-if (λ (l : Left). Way d (leaves t) l → Sound (deskOf l)) (isPresent (d .hall) t)
+    by-if (λ (l : Outcome). Way d (leaves t) l → Sound (l .desk)) (isPresent (d .hall) t)
     (λ p w.
     let z = leaver-gone d t _ o (k .core) p w in
     record {
@@ -194,7 +218,9 @@ sound-kept d (leaves t) k =
     (λ _ _. record { seats = k .seats; core = k .core })
     (every-way d (leaves t))
 sound-kept d (joins o n) k =
-    let j = join-kept (d .hall) (d .names) (k .seats) (d .core) (k .core) o n (join (d .hall) (d .names) o n) (every-join (d .hall) (d .names) o n) in
+    let j =
+    join-kept (d .hall) (d .names) (k .seats) (d .core) (k .core) o n (join (d .hall) (d .names) o n)
+    (every-join (d .hall) (d .names) o n) in
     record { seats = j .0; core = j .1 }
 
 -- a fresh desk is sound, and so is every desk that can be reached from it

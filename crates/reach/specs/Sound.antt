@@ -9,24 +9,32 @@ use Rattle.line.specs.declared.Entry.{Entry}
 use Rattle.line.specs.declared.Line.{Line}
 use Rattle.line.specs.Line.{waiting, lineOf, isIn}
 use Rattle.hall.specs.declared.Hall.{Hall}
-use Rattle.hall.specs.declared.Names.{Names}
-use Rattle.hall.specs.Seats.{isPresent, inRange}
-use Rattle.hall.specs.Identity.{octetsOf, nameOf, noName, nameAt, same, lengthAllowed, Sixteen}
-use Rattle.rules.specs.declared.Phase.{Phase}
-use Rattle.rules.specs.declared.Phase.the-variants.{Stopped, Idle, Taken, Revoking}
-use Rattle.rules.specs.declared.Core.{Core}
-use Rattle.rules.specs.Floor.{holds}
-use Rattle.history.specs.Doing.{Desk}
+use Rattle.identities.specs.declared.Names.{Names}
+use Rattle.hall.specs.Seats.{isPresent, flagsAt, noFlags, inRange}
+use Rattle.identities.specs.Identity.{octetsOf, nameOf, noName, nameAt, same, lengthAllowed, Sixteen}
+use Rattle.steps.specs.declared.Phase.{Phase}
+use Rattle.steps.specs.declared.Phase.the-variants.{Stopped, Idle, Taken, Revoking}
+use Rattle.steps.specs.declared.Core.{Core}
+use Rattle.steps.specs.Causes.{mediaBurstTooLong, mediaBurstPreempted}
+use Rattle.giving.specs.Floor.{holds}
+use Rattle.events.specs.declared.Desk.{Desk}
 use Rattle.ways.specs.Ways.{isBusy}
 
+-- all of a list are so; and each is so to all behind it
+abbrev pub All : {A : Type 0} → (A → Type 0) → List A → Type 0
+All P [] = Unit
+All P (e ∷ es) = P e × All P es
+
+abbrev pub Along : {A : Type 0} → (A → A → Type 0) → List A → Type 0
+Along R [] = Unit
+Along R (e ∷ es) = All (R e) es × Along R es
+
 -- highest first
-abbrev pub AtMost : ℕ → List Entry → Type 0
-AtMost p [] = Unit
-AtMost p (e ∷ es) = (e .priority ≤ p) × AtMost p es
+abbrev pub AtMost : ℕ → Entry → Type 0
+AtMost p e = e .priority ≤ p
 
 abbrev pub Sorted : List Entry → Type 0
-Sorted [] = Unit
-Sorted (e ∷ es) = AtMost (e .priority) es × Sorted es
+Sorted es = Along (λ e x. AtMost (e .priority) x) es
 
 -- nobody twice
 abbrev pub Once : List Entry → Type 0
@@ -49,7 +57,7 @@ abbrev pub causeOk : Phase → Bool
 causeOk Stopped = true
 causeOk (Idle t7) = true
 causeOk (Taken e b) = true
-causeOk (Revoking e n) = eqb n 2 || eqb n 4
+causeOk (Revoking e n) = eqb n mediaBurstTooLong || eqb n mediaBurstPreempted
 
 -- the holder is not in line and is present; in Stopped and Idle nobody waits; a Revoke has cause 2 or 4
 pub record FloorOk (h : Hall) (p : Phase) (es : List Entry) : Type 0 where
@@ -76,8 +84,8 @@ pub record CoreOk (h : Hall) (c : Core) : Type 0 where
   pub floor : FloorOk h (c .phase) (waiting (c .line))
   pub numbers : NumbersOk h c
 
--- the settings are in their ranges; SSRCs are different and not the desk's; identities are different and of 1 to 62 octets, with zeros behind
--- them; a free seat has zeros throughout
+-- the settings are in their ranges; SSRCs are different and not the desk's; identities are different and of 1 to 62 octets, with zeros
+-- behind them; a free seat has zeros throughout
 pub record SeatsOk (h : Hall) (ns : Names) : Type 0 where
   pub settings : inRange (h .settings) ≡ true
   pub columns : Sixteen h ns
@@ -85,9 +93,10 @@ pub record SeatsOk (h : Hall) (ns : Names) : Type 0 where
   pub desk : (s : ℕ) → isPresent h s ≡ true → getD (h .ssrcs) s 0 ≡ h .settings .ssrc → ⊥
   pub lengths : (s : ℕ) → isPresent h s ≡ true → lengthAllowed (octetsOf (nameAt ns s)) ≡ true
   pub behind : (s : ℕ) → nameAt ns s ≡ nameOf (octetsOf (nameAt ns s))
-  pub identities : (s t : ℕ) → isPresent h s ≡ true → isPresent h t ≡ true → same (octetsOf (nameAt ns s)) (octetsOf (nameAt ns t)) ≡ true → s ≡ t
+  pub identities : (s t : ℕ) → isPresent h s ≡ true → isPresent h t ≡ true → same (octetsOf (nameAt ns s)) (octetsOf (nameAt ns t)) ≡ true →
+      s ≡ t
   pub free : (s : ℕ) → isPresent h s ≡ false →
-      (getD (h .ssrcs) s 0 ≡ 0) × (getD (h .highest) s 0 ≡ 0) × (getD (h .queueing) s false ≡ false) × (getD (h .listener) s false ≡ false) × (nameAt ns s ≡ noName)
+      (getD (h .ssrcs) s 0 ≡ 0) × (getD (h .highest) s 0 ≡ 0) × (flagsAt h s ≡ noFlags) × (nameAt ns s ≡ noName)
 
 -- the whole desk
 pub record Sound (d : Desk) : Type 0 where

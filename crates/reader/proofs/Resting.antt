@@ -1,6 +1,5 @@
 -- What every walk over a reader names: the struct's type at the signature's one lifetime, its laws there, and what it owns. A reader
 -- holds a `&` alone, so it is Copy: a walk has what it owns twice, and keeps one for the exit. Assumes nothing.
-use mathlib.Core.Path.{refl}
 use Prim.Native.Nat.{ℕ}
 use mathlib.Core.List.{List, [], _∷_}
 use lib.ListN.{length}

@@ -3,6 +3,7 @@
 // covered function on the slice and the number. `reading` walks every packet through it; whoever wants no proof by hand calls `handed`.
 use field::Step;
 ghost use mathlib.Core.Path.{_≡_};
+ghost use Rattle.header.specs.Header.{headerSize};
 ghost use Rattle.field.specs.Fields.{stepAt};
 ghost use Rattle.reader.specs.Reader.{behind};
 
@@ -25,9 +26,12 @@ fn place_behind(step: Step, at: usize) -> usize
 
 // A reader rests on the packet's first field, behind the name.
 pub fn rest<'a>(packet: &'a [u8]) -> Reader<'a>
-    ensures { λ r. ⌜ (r .packet ≡ packet .entry) × (r .at ≡ 12) ⌝ }
+    ensures { λ r. ⌜ (r .packet ≡ packet .entry) × (r .at ≡ headerSize) ⌝ }
 {
-    Reader { packet, at: 12 }
+    Reader {
+        packet,
+        at: header::HEADER,
+    }
 }
 
 // The field where the reader stands.

@@ -1,2 +1,3 @@
 pub mod Reading
-pub mod Walk
+pub mod Judging
+pub mod Parts

@@ -28,7 +28,12 @@ module _ (es room : List Entry) (i : ℕ) (in-line : i ≤ length es) (in-room :
 module _ (es room : List Entry) (i : ℕ) (in-line : i < length es) (in-room : i < length room) where
   pub upto-more : set (upTo es room i) i (getD es i empty) ≡ upTo es room (i + 1)
   upto-more =
-      rw (add-one i, take-suc es i empty in-line, drop-cons room i empty in-room, append-assoc (take i es) (getD es i empty ∷ []) (drop (suc i) room))
+      rw (
+        add-one i,
+        take-suc es i empty in-line,
+        drop-cons room i empty in-room,
+        append-assoc (take i es) (getD es i empty ∷ []) (drop (suc i) room),
+      )
       (set-at (take i es) (getD room i empty) (drop (suc i) room) (getD es i empty) i (rw (length-take i es) (omega (arith, in-line))))
 
 -- all who wait, or none
@@ -96,4 +101,5 @@ listed-at es i =
     by-test (ltb i (length es)) (λ t. List·getD-append es _ empty i (ltb-true i (length es) t))
     (λ t. let h : length es ≤ i = ltb-false i (length es) t in
     let e : i ≡ length es + (i - length es) = omega (arith, h) in
-    subst (λ (k : ℕ). getD (over es (replicate 15 empty)) k empty ≡ empty) (sym e) (getD-append-add es _ (i - length es) empty ∙ past-empties (length es) 15 (i - length es)) ∙ sym (List·getD-eq-default es empty h))
+    subst (λ (k : ℕ). getD (over es (replicate 15 empty)) k empty ≡ empty) (sym e)
+    (getD-append-add es _ (i - length es) empty ∙ past-empties (length es) 15 (i - length es)) ∙ sym (List·getD-eq-default es empty h))

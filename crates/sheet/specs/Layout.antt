@@ -1,18 +1,12 @@
--- The layout of document 01, "The sheet". All numbers are big-endian. A sheet is its seats in seat order, then 12 octets of settings, then a
--- trailer of 8 that points back; offsets below count from where the thing itself begins.
+-- The layout of document 01, "The sheet". All numbers are big-endian. A sheet is its seats in seat order, then 12 octets of settings, then
+-- a trailer of 8 that points back; offsets below count from where the thing itself begins.
 --
---     seat      0       flags: bit 0 queueing, bit 1 receive only, others zero
+--     seat      0       flags (seat_octets/specs/Layout)
 --               1       highest priority
 --               2..5    SSRC
 --               6       identity length, 1..62
 --               7..     identity
---     settings  0..3    SSRC of the desk
---               4       pre-emptive level
---               5       line limit
---               6       C7 limit
---               7       C20 limit
---               8..9    duration
---               10..11  zeros
+--     settings  0..11   (seat_octets/specs/Layout)
 --     trailer   0..1    offset of settings
 --               2..3    offset of seats: zero
 --               4       seat count
@@ -28,9 +22,10 @@ use Rattle.octets.specs.Octets.{octets16, octets32}
 use Rattle.hall.specs.declared.Settings.{Settings}
 use Rattle.hall.specs.declared.Newcomer.{Newcomer}
 use Rattle.hall.specs.declared.Hall.{Hall}
-use Rattle.hall.specs.declared.Names.{Names}
-use Rattle.hall.specs.Seats.{isPresent, queues, receivesOnly}
-use Rattle.hall.specs.Identity.{octetsOf, nameAt}
+use Rattle.hall.specs.Seats.{newcomerOf, isPresent, flagsAt}
+use Rattle.identities.specs.declared.Names.{Names}
+use Rattle.identities.specs.Identity.{octetsOf, nameAt}
+use Rattle.seat_octets.specs.Layout.{flagsOctet, settingsSize, settingsOctets}
 
 -- the form that this sheet has
 abbrev pub form : ℕ
@@ -40,23 +35,27 @@ form = 1
 abbrev pub letters : ℕ
 letters = 0x4653
 
+-- the octets of a seat before its identity; of the trailer; of all that stands behind the seats
+abbrev pub seatHead : ℕ
+seatHead = 7
+
+abbrev pub trailerSize : ℕ
+trailerSize = 8
+
+abbrev pub tailSize : ℕ
+tailSize = settingsSize + trailerSize
+
 -- a seat as a sheet has it: what a newcomer says of itself, and its identity
 pub record Seat : Type 0 where
   pub who : Newcomer
   pub identity : List ℕ
 
-unfoldable pub flags : Newcomer → ℕ
-flags n = (if n .queueing then 1 else 0) + (if n .listener then 2 else 0)
-
 unfoldable pub seatOctets : Seat → List ℕ
-seatOctets x = flags (x .who) ∷ x .who .highest ∷ octets32 (x .who .ssrc) ++ length (x .identity) ∷ x .identity
+seatOctets x = flagsOctet (x .who .flags) ∷ x .who .highest ∷ octets32 (x .who .ssrc) ++ length (x .identity) ∷ x .identity
 
 unfoldable pub seatsOctets : List Seat → List ℕ
 seatsOctets [] = []
 seatsOctets (x ∷ xs) = seatOctets x ++ seatsOctets xs
-
-unfoldable pub settingsOctets : Settings → List ℕ
-settingsOctets s = octets32 (s .ssrc) ++ s .level ∷ s .limit ∷ s .c7 ∷ s .c20 ∷ octets16 (s .duration) ++ octets16 0
 
 unfoldable pub trailer : ℕ → ℕ → List ℕ
 trailer settingsAt count = octets16 settingsAt ++ octets16 0 ++ count ∷ form ∷ octets16 letters
@@ -67,7 +66,7 @@ sheet xs s = seatsOctets xs ++ settingsOctets s ++ trailer (length (seatsOctets 
 
 -- the seats of a hall, in seat order, gaps closed
 abbrev pub whoSits : Hall → ℕ → Newcomer
-whoSits h s = record { ssrc = getD (h .ssrcs) s 0; highest = getD (h .highest) s 0; queueing = queues h s; listener = receivesOnly h s }
+whoSits h s = newcomerOf (getD (h .ssrcs) s 0) (getD (h .highest) s 0) (flagsAt h s)
 
 abbrev pub seatAt : Hall → Names → ℕ → Seat
 seatAt h ns s = record { who = whoSits h s; identity = octetsOf (nameAt ns s) }

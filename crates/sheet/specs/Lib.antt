@@ -1,4 +1,2 @@
 pub mod Layout
-pub mod Saving
-pub mod Loading
-pub mod Walk
+pub mod Framing

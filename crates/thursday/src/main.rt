@@ -1,104 +1,137 @@
 // Plays Thursday's exercise (document 01) and prints it: each event, the messages with who gets them and their packets, the marks, and
 // the wall with the floor, the line and the timers. Then the sequence number from 65,535 to 0.
-use desk::Event;
-use desk::Running;
-use desk::Timer;
+use events::Desk;
+use events::Event;
+use events::Outcome;
+use hall::Answer;
+use hall::Flags;
 use hall::Hall;
-use hall::Names;
-use hall::Newcomer;
-use hall::Settings;
-use libc::STDOUT_FILENO;
 use line::Entry;
 use line::Line;
-use rules::Core;
-use rules::Given;
-use rules::Kind;
-use rules::Mark;
-use rules::Marks;
-use rules::Message;
-use rules::Phase;
+use steps::Core;
+use steps::Given;
+use steps::Kind;
+use steps::Mark;
+use steps::Marks;
+use steps::Message;
+use steps::Phase;
+use steps::Report;
+use steps::Step;
+use timers::Running;
+use timers::Timer;
 use writing::Writing;
+ghost use Prim.Native.Nat.{_<_, _≤_};
 
-// What the screen is printed with.
+// What is printed, in one table. A name is that of one row, or of the first of several: of the phases, the timers, the events.
+const GRANTED: usize = 0;
 
-fn say(s: &[u8]) {
-    io::write_all(STDOUT_FILENO, s);
+const TAKEN: usize = 1;
+
+const DENY: usize = 2;
+
+const IDLE: usize = 3;
+
+const REVOKE: usize = 4;
+
+const INFO: usize = 5;
+
+const PACKET: usize = 6;
+
+const NO_PACKET: usize = 7;
+
+const PLACED: usize = 8;
+
+const STRUCK: usize = 9;
+
+const ENDED: usize = 10;
+
+const AT_ONCE: usize = 11;
+
+const OUT_OF_LINE: usize = 12;
+
+const ANSWER: usize = 13;
+
+const PHASE: usize = 14;
+
+const EMPTY: usize = 18;
+
+const ENTRY: usize = 19;
+
+const RUNNING: usize = 20;
+
+const TIMERS: usize = 21;
+
+const SEQUENCE: usize = 28;
+
+const END: usize = 29;
+
+const EVENTS: usize = 30;
+
+fn say(k: usize, a: u16, b: u16, c: u16) {
+    printing::row(
+        b"\
+          \x20    Granted, priority % ->^\
+          \x20    Taken by seat %, sequence % ->^\
+          \x20    Deny #% ->^\
+          \x20    Idle, sequence % ->^\
+          \x20    Revoke #% ->^\
+          \x20    Queue Position Info, place %, priority % ->^\
+          \n        ^\
+          \x20no packet^\
+          \x20    placed %\n^\
+          \x20    struck off^\
+          \x20    ended %\n^\
+          \x20    given at once %\n^\
+          \x20    given out of the line %\n^\
+          \x20    answer %\n^\
+          \x20    | Stopped | line^\
+          \x20    | Idle | line^\
+          \x20    | Taken, floor with seat % at % | line^\
+          \x20    | Revoking, floor with seat % at %, cause % | line^\
+          \x20empty^\
+          \x20seat % at %^\
+          \x20| timers^\
+          \x20T1^\
+          \x20T2^\
+          \x20T3^\
+          \x20T4^\
+          \x20T7^\
+          \x20T8^\
+          \x20T20^\
+          \x20| sequence % | seats^\
+          \n\n^\
+          a  the call starts\n^\
+          b  0 asks 5\n^\
+          c  1 asks 5\n^\
+          d  2 asks 6\n^\
+          e  1 asks 6\n^\
+          f  3 asks 199\n^\
+          g  3 asks 200\n^\
+          h  2 releases\n^\
+          i  3 asks 200\n^\
+          j  T3 fires\n^\
+          k  T20 fires\n^\
+          k  T20 fires again\n^\
+          l  1 leaves\n^\
+          the call stops, the sequence number 65535\n^\
+          the call starts, the sequence number goes on from 65535\n^",
+        k,
+        [a as u64, b as u64, c as u64, 0],
+    );
 }
 
-fn say_number(n: u64) {
-    io::print_decimal(STDOUT_FILENO, n);
-}
-
-// Octets in hexadecimal.
-fn say_octets(s: &[u8]) {
-    let mut i = 0;
-    while i < s.len() {
-        say(b" ");
-        io::print_hex(STDOUT_FILENO, s[i] as u64, 2);
-        i += 1;
-    }
-}
-
-// The seats of a set, or nobody.
-fn say_seats(set: [bool; 16]) {
-    let mut none = true;
-    let mut i = 0;
-    while i < 16 {
-        if set[i] {
-            say(b" ");
-            say_number(i as u64);
-            none = false;
-        }
-        i += 1;
-    }
-    if none {
-        say(b" nobody");
-    }
-}
-
-// The log of a step and the wall screen.
-
-fn show_answer(number: u8) {
-    if number == 0 {
-        return;
-    }
-    say(b"     answer ");
-    say_number(number as u64);
-    say(b"\n");
-}
+// The log of a step.
 
 // The kind of a message with its particulars.
 fn show_kind(k: Kind) {
     match k {
         Kind::Nothing => {}
-        Kind::Granted(priority) => {
-            say(b"Granted, priority ");
-            say_number(priority as u64);
-        }
-        Kind::Taken(seat, sequence) => {
-            say(b"Taken by seat ");
-            say_number(seat as u64);
-            say(b", sequence ");
-            say_number(sequence as u64);
-        }
-        Kind::Deny(cause) => {
-            say(b"Deny #");
-            say_number(cause as u64);
-        }
-        Kind::Idle(sequence) => {
-            say(b"Idle, sequence ");
-            say_number(sequence as u64);
-        }
-        Kind::Revoke(cause) => {
-            say(b"Revoke #");
-            say_number(cause as u64);
-        }
-        Kind::Info(place, priority) => {
-            say(b"Queue Position Info, place ");
-            say_number(place as u64);
-            say(b", priority ");
-            say_number(priority as u64);
-        }
+        Kind::Granted(priority) => say(GRANTED, priority as u16, 0, 0),
+        Kind::Taken(seat, sequence) => say(TAKEN, seat as u16, sequence, 0),
+        Kind::Deny(cause) => say(DENY, cause, 0, 0),
+        Kind::Idle(sequence) => say(IDLE, sequence, 0, 0),
+        Kind::Revoke(cause) => say(REVOKE, cause, 0, 0),
+        Kind::Info(place, priority) => say(INFO, place as u16, priority as u16, 0),
     }
 }
 
@@ -111,77 +144,53 @@ fn named(k: Kind) -> u8 {
     }
 }
 
-fn is_message(k: Kind) -> bool {
-    if let Kind::Nothing = k { false } else { true }
-}
-
-// A message, who gets it, and the octets that it is sent as.
-fn show_message(hall: Hall, names: Names, m: Message) {
-    let k = m.kind;
-    let to = m.to;
-    if !is_message(k) {
-        return;
-    }
-    say(b"     ");
-    show_kind(k);
-    say(b" ->");
-    say_seats(to);
-    say(b"\n        ");
-    let name = hall::name_at(names, named(k));
-    let n = hall::name_length(name);
-    let octets = name.octets;
-    let mut room = [0u8; 96];
-    show_packet_by(hall, k, &octets, n, &mut room);
-    say(b"\n");
-}
-
-fn show_packet_by(hall: Hall, k: Kind, octets: &[u8; 62], n: usize, room: &mut [u8]) {
-    let all: &[u8] = octets;
-    if n <= all.len() {
-        show_packet(hall, k, &all[..n], room);
-    }
-}
-
+// The octets that a message is sent as.
 fn show_packet(hall: Hall, k: Kind, identity: &[u8], room: &mut [u8]) {
     let settings = hall.settings;
     match outgoing::send(settings, k, identity, room) {
-        Writing::Written(n) => {
-            if n <= room.len() {
-                say_octets(&room[..n]);
-            }
-        }
-        Writing::Refused(_) => say(b" no packet"),
+        Writing::Written(n) => printing::octets(printing::part(room, 0, n)),
+        Writing::Refused(_) => say(NO_PACKET, 0, 0, 0),
     }
 }
 
-fn show_mark(title: &[u8], m: Mark) {
+fn show_octets(desk: Desk, k: Kind) {
+    let hall = desk.hall;
+    let names = desk.names;
+    let name = identities::name_at(names, named(k));
+    let octets = name.octets;
+    let mut room = [0u8; 96];
+    say(PACKET, 0, 0, 0);
+    show_packet(hall, k, printing::part(&octets, 0, name.len), &mut room);
+    printing::line_end();
+}
+
+// A message, who gets it, and its octets.
+fn show_message(desk: Desk, m: Message) {
+    let k = m.kind;
+    let to = m.to;
+    if let Kind::Nothing = k {
+        return;
+    }
+    show_kind(k);
+    printing::seats(to);
+    show_octets(desk, k);
+}
+
+fn show_mark(k: usize, m: Mark) {
     if let Mark::Seat(seat) = m {
-        say(title);
-        say_number(seat as u64);
-        say(b"\n");
+        say(k, seat as u16, 0, 0);
     }
 }
 
-fn show_marks(m: Marks) {
-    let placed = m.placed;
-    let struck = m.struck;
-    let ended = m.ended;
-    let given = m.given;
-    show_mark(b"     placed ", placed);
-    if struck_any(struck) {
-        say(b"     struck off");
-        say_seats(struck);
-        say(b"\n");
-    }
-    show_mark(b"     ended ", ended);
-    match given {
+fn show_given(g: Given) {
+    match g {
         Given::NotGiven => {}
-        Given::AtOnce(seat) => show_mark(b"     given at once ", Mark::Seat(seat)),
-        Given::OutOfLine(seat) => show_mark(b"     given out of the line ", Mark::Seat(seat)),
+        Given::AtOnce(seat) => say(AT_ONCE, seat as u16, 0, 0),
+        Given::OutOfLine(seat) => say(OUT_OF_LINE, seat as u16, 0, 0),
     }
 }
 
-fn struck_any(set: [bool; 16]) -> bool {
+fn is_any(set: [bool; 16]) -> bool {
     let mut i = 0;
     while i < 16 {
         if set[i] {
@@ -192,23 +201,37 @@ fn struck_any(set: [bool; 16]) -> bool {
     false
 }
 
-fn show_holder(title: &[u8], e: Entry) {
-    say(title);
-    say_number(e.seat as u64);
-    say(b" at ");
-    say_number(e.priority as u64);
+fn show_struck(set: [bool; 16]) {
+    if is_any(set) {
+        say(STRUCK, 0, 0, 0);
+        printing::seats(set);
+        printing::line_end();
+    }
+}
+
+fn show_marks(m: Marks) {
+    let placed = m.placed;
+    let struck = m.struck;
+    let ended = m.ended;
+    let given = m.given;
+    show_mark(PLACED, placed);
+    show_struck(struck);
+    show_mark(ENDED, ended);
+    show_given(given);
+}
+
+// The wall: the floor, the line, the timers that run, the sequence number, the seats.
+
+fn show_floor(k: usize, e: Entry, cause: u16) {
+    say(k, e.seat as u16, e.priority as u16, cause);
 }
 
 fn show_phase(p: Phase) {
     match p {
-        Phase::Stopped => say(b"Stopped"),
-        Phase::Idle(_) => say(b"Idle"),
-        Phase::Taken(e, _) => show_holder(b"Taken, floor with seat ", e),
-        Phase::Revoking(e, cause) => {
-            show_holder(b"Revoking, floor with seat ", e);
-            say(b", cause ");
-            say_number(cause as u64);
-        }
+        Phase::Stopped => say(PHASE, 0, 0, 0),
+        Phase::Idle(_) => say(PHASE + 1, 0, 0, 0),
+        Phase::Taken(e, _) => show_floor(PHASE + 2, e, 0),
+        Phase::Revoking(e, cause) => show_floor(PHASE + 3, e, cause),
     }
 }
 
@@ -217,96 +240,92 @@ fn show_waiting(l: Line) {
     let n = line::count(l);
     let entries = screen::listed(l);
     if n == 0 {
-        say(b" empty");
+        say(EMPTY, 0, 0, 0);
     }
     let mut i = 0;
     while i < n {
         let e = entries[i];
-        show_holder(b" seat ", e);
+        show_floor(ENTRY, e, 0);
         i += 1;
     }
 }
 
-fn show_timer(name: &[u8], runs: bool) {
+fn show_timer(k: usize, runs: bool) {
     if runs {
-        say(name);
+        say(k, 0, 0, 0);
     }
 }
 
 fn show_timers(r: Running) {
-    show_timer(b" T1", r.t1);
-    show_timer(b" T2", r.t2);
-    show_timer(b" T3", r.t3);
-    show_timer(b" T4", r.t4);
-    show_timer(b" T7", r.t7);
-    show_timer(b" T8", r.t8);
-    show_timer(b" T20", r.t20);
+    show_timer(TIMERS, r.t1);
+    show_timer(TIMERS + 1, r.t2);
+    show_timer(TIMERS + 2, r.t3);
+    show_timer(TIMERS + 3, r.t4);
+    show_timer(TIMERS + 4, r.t7);
+    show_timer(TIMERS + 5, r.t8);
+    show_timer(TIMERS + 6, r.t20);
 }
 
-// The wall: the floor, the line, the timers that run, the sequence number.
-fn show_wall(core: Core, hall: Hall) {
+fn show_wall(core: Core, present: [bool; 16]) {
     let p = core.phase;
     let l = core.line;
-    let present = hall.present;
-    say(b"     | ");
     show_phase(p);
-    say(b" | line");
     show_waiting(l);
-    say(b" | timers");
-    show_timers(desk::running_timers(p));
-    say(b" | sequence ");
-    say_number(core.sequence as u64);
-    say(b" | seats");
-    say_seats(present);
-    say(b"\n\n");
+    say(RUNNING, 0, 0, 0);
+    show_timers(timers::running_timers(p));
+    say(SEQUENCE, core.sequence, 0, 0);
+    printing::seats(present);
+    say(END, 0, 0, 0);
 }
 
-// The desk on the bench.
-pub struct Bench {
-    pub core: Core,
-    pub hall: Hall,
-    pub names: Names,
+fn show_answer(answer: Answer) {
+    let n = hall::number_of(answer);
+    if 0 < n {
+        say(ANSWER, n as u16, 0, 0);
+    }
 }
 
-fn seated(b: Bench, identity: &[u8], ssrc: u32, queueing: bool) -> Bench {
-    let core = b.core;
-    let hall = b.hall;
-    let names = b.names;
-    let who = Newcomer {
-        ssrc,
-        highest: 255,
-        queueing,
-        listener: false,
-    };
-    let joined = hall::join_call(hall, names, identity, who);
-    let hall = joined.hall;
-    let names = joined.names;
-    Bench { core, hall, names }
+fn show_report(desk: Desk, report: Report) {
+    let first = report.first;
+    let second = report.second;
+    let marks = report.marks;
+    show_message(desk, first);
+    show_message(desk, second);
+    show_marks(marks);
 }
 
-// Level 200, line limit 2, C7 and C20 limits 2; what the paper leaves open: desk SSRC 1, duration 30 seconds.
-fn class() -> Bench {
-    let settings = Settings {
-        ssrc: 1,
-        level: 200,
-        limit: 2,
-        c7: 2,
-        c20: 2,
-        duration: 30,
-    };
-    let core = desk::fresh_core();
-    let hall = hall::empty_hall(settings);
-    let names = hall::no_names();
-    let b = Bench { core, hall, names };
-    let b = seated(b, b"test1", 10, true);
-    let b = seated(b, b"test10", 11, true);
-    let b = seated(b, b"test2", 12, true);
-    seated(b, b"test3", 13, false)
+fn show_outcome(o: Outcome) {
+    let answer = o.answer;
+    let desk = o.desk;
+    let report = o.report;
+    let core = desk.core;
+    let hall = desk.hall;
+    let present = hall.present;
+    show_answer(answer);
+    show_report(desk, report);
+    show_wall(core, present);
+}
+
+// The exercise: what happens, one after the other.
+
+// Which seat asks, and with which priority; 0 where something else happens.
+const SEATS: [u8; 15] = [0, 0, 1, 2, 1, 3, 3, 0, 3, 0, 0, 0, 0, 0, 0];
+
+const PRIORITIES: [u8; 15] = [0, 5, 5, 6, 6, 199, 200, 0, 200, 0, 0, 0, 0, 0, 0];
+
+fn event(k: usize) -> Event {
+    match k {
+        7 => Event::Release(12),
+        9 => Event::Expiry(Timer::T3),
+        10..=11 => Event::Expiry(Timer::T20),
+        13 => Event::Stop,
+        _ => Event::Start,
+    }
 }
 
 // A Request as it comes over the wire, with a Floor Priority.
-fn request(ssrc: u8, priority: u8) -> [u8; 16] {
-    [
+fn asks(core: Core, hall: Hall, seat: u8, priority: u8) -> Step {
+    let packet = [
         0x80,
         204,
         0,
@@ -314,7 +333,7 @@ fn request(ssrc: u8, priority: u8) -> [u8; 16] {
         0,
         0,
         0,
-        ssrc,
+        10 + seat % 16,
         77,
         67,
         80,
@@ -323,125 +342,123 @@ fn request(ssrc: u8, priority: u8) -> [u8; 16] {
         2,
         priority,
         0,
-    ]
+    ];
+    packet_events::hear(core, hall, &packet)
 }
 
-fn asks(title: &[u8], b: Bench, seat: u8, priority: u8) -> Bench {
-    let packet = request(10 + seat % 16, priority);
-    hears(title, b, &packet)
+fn step(core: Core, hall: Hall, k: usize) -> Step
+    requires { ⌜ k < 15 ⌝ }
+{
+    let priority = PRIORITIES[k];
+    if 0 < priority {
+        asks(core, hall, SEATS[k], priority)
+    } else {
+        events::make_step(core, hall, event(k))
+    }
 }
 
-fn hears(title: &[u8], b: Bench, packet: &[u8]) -> Bench {
-    let core = b.core;
-    let hall = b.hall;
-    let names = b.names;
-    say(title);
-    let called = call::hear(core, hall, packet);
-    let first = called.first;
-    let second = called.second;
-    let marks = called.marks;
-    let core = called.core;
-    show_answer(called.answer);
-    show_message(hall, names, first);
-    show_message(hall, names, second);
-    show_marks(marks);
-    show_wall(core, hall);
-    Bench { core, hall, names }
-}
-
-fn steps(title: &[u8], b: Bench, event: Event) -> Bench {
-    let core = b.core;
-    let hall = b.hall;
-    let names = b.names;
-    say(title);
-    let step = desk::make_step(core, hall, event);
+// What comes of it; the thirteenth is that seat 1 leaves.
+fn happen(desk: Desk, k: usize) -> Outcome
+    requires { ⌜ k < 15 ⌝ }
+{
+    let core = desk.core;
+    let hall = desk.hall;
+    let names = desk.names;
+    if k == 12 {
+        return events::leave_call(core, hall, names, 1);
+    }
+    let step = step(core, hall, k);
     let core = step.core;
     let report = step.report;
-    let answer = report.answer;
-    let first = report.first;
-    let second = report.second;
-    let marks = report.marks;
-    show_answer(hall::number_of(answer));
-    show_message(hall, names, first);
-    show_message(hall, names, second);
-    show_marks(marks);
-    show_wall(core, hall);
-    Bench { core, hall, names }
+    let answer = step.answer;
+    Outcome {
+        desk: Desk { core, hall, names },
+        report,
+        answer,
+    }
 }
 
-fn leaves(title: &[u8], b: Bench, seat: u8) -> Bench {
-    let core = b.core;
-    let hall = b.hall;
-    let names = b.names;
-    say(title);
-    let left = desk::leave_call(core, hall, names, seat);
-    let core = left.core;
-    let hall = left.hall;
-    let names = left.names;
-    let report = left.report;
-    let answer = report.answer;
-    let first = report.first;
-    let second = report.second;
-    let marks = report.marks;
-    show_answer(hall::number_of(answer));
-    show_message(hall, names, first);
-    show_message(hall, names, second);
-    show_marks(marks);
-    show_wall(core, hall);
-    Bench { core, hall, names }
+// Plays from one event up to another.
+fn play(desk: Desk, from: usize, to: usize) -> Desk
+    requires { ⌜ (from ≤ to) × (to ≤ 15) ⌝ }
+{
+    let mut now = desk;
+    let mut k = from;
+    while k < to {
+        let o = happen(now, k);
+        say(EVENTS + k, 0, 0, 0);
+        show_outcome(o);
+        now = o.desk;
+        k += 1;
+    }
+    now
 }
 
-fn first_half(b: Bench) -> Bench {
-    let b = steps(b"a  the call starts\n", b, Event::Start);
-    let b = asks(b"b  0 asks 5\n", b, 0, 5);
-    let b = asks(b"c  1 asks 5\n", b, 1, 5);
-    let b = asks(b"d  2 asks 6\n", b, 2, 6);
-    let b = asks(b"e  1 asks 6\n", b, 1, 6);
-    asks(b"f  3 asks 199\n", b, 3, 199)
+// The desk on the bench: level 200, line limit 2, C7 and C20 limits 2; what the paper leaves open: desk SSRC 1, duration 30 seconds.
+fn empty() -> Desk {
+    let core = events::fresh_core();
+    let hall = hall::empty_hall(hall::settings_of(1, 200, 2, 2, 2, 30));
+    let names = identities::no_names();
+    Desk { core, hall, names }
 }
 
-fn second_half(b: Bench) -> Bench {
-    let b = asks(b"g  3 asks 200\n", b, 3, 200);
-    let b = steps(b"h  2 releases\n", b, Event::Release(12));
-    let b = asks(b"i  3 asks 200\n", b, 3, 200);
-    let b = steps(b"j  T3 fires\n", b, Event::Expiry(Timer::T3));
-    let b = steps(b"k  T20 fires\n", b, Event::Expiry(Timer::T20));
-    let b = steps(b"k  T20 fires again\n", b, Event::Expiry(Timer::T20));
-    leaves(b"l  1 leaves\n", b, 1)
+// Where the identities of the seats begin, and how many octets they have.
+const FROM: [usize; 4] = [0, 5, 11, 16];
+
+const COUNTS: [usize; 4] = [5, 6, 5, 5];
+
+fn seated(desk: Desk, k: usize) -> Desk
+    requires { ⌜ k < 4 ⌝ }
+{
+    let core = desk.core;
+    let hall = desk.hall;
+    let names = desk.names;
+    let flags = Flags {
+        queueing: k < 3,
+        receive_only: false,
+    };
+    let who = hall::newcomer_of(10 + k as u32, 255, flags);
+    let identity = printing::part(b"test1test10test2test3", FROM[k], COUNTS[k]);
+    let joined = joining::join_call(hall, names, identity, who);
+    let hall = joined.hall;
+    let names = joined.names;
+    Desk { core, hall, names }
 }
 
-// Starts and stops the call until the sequence number is 65,535, and then once more.
-fn around(b: Bench) {
-    let hall = b.hall;
-    let mut core = b.core;
+fn class() -> Desk {
+    let mut desk = empty();
+    let mut k = 0;
+    while k < 4 {
+        desk = seated(desk, k);
+        k += 1;
+    }
+    desk
+}
+
+// Starts and stops the call until the sequence number is 65,535.
+fn around(desk: Desk) -> Desk {
+    let hall = desk.hall;
+    let names = desk.names;
+    let mut core = desk.core;
     let mut turns = 0u32;
     while turns < 65536 {
         if core.sequence == 65535 {
             break;
         }
-        let stopped = desk::make_step(core, hall, Event::Stop);
+        let stopped = events::make_step(core, hall, Event::Stop);
         let rest = stopped.core;
-        let started = desk::make_step(rest, hall, Event::Start);
+        let started = events::make_step(rest, hall, Event::Start);
         core = started.core;
         turns += 1;
     }
-    let names = b.names;
-    let b = Bench { core, hall, names };
-    let b = steps(
-        b"the call stops, the sequence number 65535\n",
-        b,
-        Event::Stop,
-    );
-    steps(
-        b"the call starts, the sequence number goes on from 65535\n",
-        b,
-        Event::Start,
-    );
+    Desk { core, hall, names }
 }
 
 fn main() {
-    say(b"Thursday's exercise: level 200, line limit 2, C7 and C20 limits 2\n");
-    say(b"seats 0 test1, 1 test10, 2 test2, 3 test3; all but seat 3 queue\n\n");
-    let b = second_half(first_half(class()));
-    around(b);
+    printing::text(
+        b"\
+          Thursday's exercise: level 200, line limit 2, C7 and C20 limits 2\n\
+          seats 0 test1, 1 test10, 2 test2, 3 test3; all but seat 3 queue\n\n",
+    );
+    play(around(play(class(), 0, 13)), 13, 15);
 }

@@ -1,19 +1,37 @@
--- What is no leave, what is no request, and that one request has one asker. Assumes nothing.
+-- What is an event is no leave; what asks for nothing is no request; and one request has one asker. Assumes nothing.
 use Prim.Native.Nat.{ℕ}
-use mathlib.Core.Path.{_≡_, sym, _∙_}
+use mathlib.Core.Path.{_≡_, ap, sym, _∙_}
+use mathlib.Core.Bool.{Bool, true, false}
 use native.Mathlib.Omega.{arith}
+use Rattle.words.proofs.Tests.{clash}
 use Rattle.hall.specs.declared.Hall.{Hall}
-use Rattle.rules.specs.declared.Core.{Core}
-use Rattle.desk.specs.declared.Event.{Event}
-use Rattle.history.specs.Doing.{event, leaves}
-use Rattle.history.specs.Asking.{Asking, nobody, asks}
+use Rattle.steps.specs.declared.Core.{Core}
+use Rattle.events.specs.declared.Event.{Event}
+use Rattle.history.specs.Doing.{Doing, event, packet, leaves, joins}
+use Rattle.history.specs.Asking.{Becoming, noEvent, anEvent, becomes, Asking, nobody, asks, releasedBy, releasedIn, givesUp}
 use Rattle.ways.specs.Ways.{Unmoved}
 
-pub no-leave : {e : Event} {u : ℕ} {A : Type 0} → event e ≡ leaves u → A
-no-leave q = let z : _≡_ {A = ℕ} 0 1 = cc in absurd (omega arith)
+pub no-event : {e : Event} {A : Type 0} → noEvent ≡ anEvent e → A
+no-event q = let z : _≡_ {A = ℕ} 0 1 = cc in absurd (omega arith)
 
-pub no-event : {e : Event} {u : ℕ} {A : Type 0} → leaves u ≡ event e → A
-no-event q = no-leave (sym q)
+pub no-leave : {x : Doing} {e : Event} {u : ℕ} {A : Type 0} → becomes x ≡ anEvent e → x ≡ leaves u → A
+no-leave is q = no-event (sym (ap becomes q) ∙ is)
+
+abbrev isLeave : Doing → Bool
+isLeave (event e) = false
+isLeave (packet o) = false
+isLeave (leaves s) = true
+isLeave (joins o n) = false
+
+pub not-leave : {x : Doing} {u : ℕ} {A : Type 0} → isLeave x ≡ false → x ≡ leaves u → A
+not-leave n q = clash (ap isLeave q) n
+
+-- what is an event gives up what its event does
+pub gives-up : (h : Hall) (x : Doing) (e : Event) (s : ℕ) → becomes x ≡ anEvent e → givesUp h x s ≡ releasedBy h e s
+gives-up h (event f) e s is = ap (λ (b : Becoming). releasedIn h b s) is
+gives-up h (packet o) e s is = ap (λ (b : Becoming). releasedIn h b s) is
+gives-up h (leaves t) e s is = no-event is
+gives-up h (joins o n) e s is = no-event is
 
 pub asks-nobody : {t p : ℕ} {A : Type 0} → nobody ≡ asks t p → A
 asks-nobody q = let z : _≡_ {A = ℕ} 0 1 = cc in absurd (omega arith)

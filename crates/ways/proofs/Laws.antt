@@ -1,26 +1,21 @@
--- What the ways say in common: what rule 6 leaves as it was, at which priority a seat asks, and who holds the floor. Assumes nothing.
+-- What the ways say in common: rule 6 leaves the line and the holder as they were, and the priority that a seat asks for is its effective
+-- one. Assumes nothing.
 use Prim.Native.Nat.{ℕ}
-use mathlib.Core.Path.{_≡_, refl, ap, sym, _∙_}
-use mathlib.Core.Bool.{true, false}
+use mathlib.Core.Path.{_≡_, ap, sym, _∙_}
 use native.Mathlib.Omega.{arith}
-use lib.Dec.{eqb}
-use borrow.Author.Tests.{eqb-true}
-use Rattle.words.proofs.Tests.{clash}
 use Rattle.hall.specs.declared.Hall.{Hall}
 use Rattle.hall.specs.declared.Asked.{Asked}
 use Rattle.hall.specs.declared.Found.{Found}
 use Rattle.hall.specs.declared.Found.the-variants.{At, Nowhere}
 use Rattle.hall.specs.Seats.{effective, seatOf}
-use Rattle.rules.specs.declared.Phase.{Phase}
-use Rattle.rules.specs.declared.Phase.the-variants.{Stopped, Idle, Taken, Revoking}
-use Rattle.rules.specs.declared.Core.{Core}
-use Rattle.rules.specs.declared.Message.{Message}
-use Rattle.rules.specs.Floor.{holds}
-use Rattle.rules.specs.Request.{isIdle}
-use Rattle.desk.specs.declared.Event.{Event}
-use Rattle.desk.specs.declared.Event.the-variants.{Start, Stop, Expiry, Request, Release, Position, Media, Other}
-use Rattle.history.specs.Doing.{Doing, event, leaves, joins}
-use Rattle.history.specs.Asking.{asks, fromSeat, askedBy, asking}
+use Rattle.steps.specs.declared.Phase.{Phase}
+use Rattle.steps.specs.declared.Core.{Core}
+use Rattle.steps.specs.declared.Message.{Message}
+use Rattle.giving.specs.Floor.{holds}
+use Rattle.events.specs.declared.Event.{Event}
+use Rattle.events.specs.declared.Event.the-variants.{Start, Stop, Expiry, Request, Release, Position, Media, Other}
+use Rattle.history.specs.Doing.{Doing}
+use Rattle.history.specs.Asking.{Becoming, noEvent, anEvent, becomes, asks, fromSeat, askedBy, askedIn, asking}
 use Rattle.ways.specs.Ways.{Six, informs, presses, informsAndPresses}
 use Rattle.ways.proofs.Apart.{asks-nobody}
 
@@ -42,7 +37,8 @@ module _ (h : Hall) (t p : ℕ) where
     pub is : p ≡ effective h t field
 
   from-seat : (a : Asked) (f : Found) → fromSeat h a f ≡ asks t p → Effective
-  from-seat a (At s) q = let i : s ≡ t = cc in record { field = a; is = (let j : effective h s a ≡ p = cc in sym j ∙ ap (λ (u : ℕ). effective h u a) i) }
+  from-seat a (At s) q =
+      let i : s ≡ t = cc in record { field = a; is = (let j : effective h s a ≡ p = cc in sym j ∙ ap (λ (u : ℕ). effective h u a) i) }
   from-seat a Nowhere q = let z : _≡_ {A = ℕ} 0 1 = cc in absurd (omega arith)
 
   by-event : (e : Event) → askedBy h e ≡ asks t p → Effective
@@ -55,20 +51,9 @@ module _ (h : Hall) (t p : ℕ) where
   by-event Stop q = asks-nobody q
   by-event (Expiry k) q = asks-nobody q
 
+  by-becoming : (b : Becoming) → askedIn h b ≡ asks t p → Effective
+  by-becoming noEvent q = asks-nobody q
+  by-becoming (anEvent e) q = by-event e q
+
   pub asked-effective : (x : Doing) → asking h x ≡ asks t p → Effective
-  asked-effective (event e) q = by-event e q
-  asked-effective (leaves s) q = asks-nobody q
-  asked-effective (joins o n) q = asks-nobody q
-
--- who holds the floor is the only one that does, and in Idle nobody does
-pub holds-one : (p : Phase) (t s : ℕ) → holds p t ≡ true → holds p s ≡ eqb t s
-holds-one Stopped t s h = clash h refl
-holds-one (Idle t7) t s h = clash h refl
-holds-one (Taken e b) t s h = ap (λ (x : ℕ). eqb x s) (eqb-true (e .seat) t h)
-holds-one (Revoking e n) t s h = ap (λ (x : ℕ). eqb x s) (eqb-true (e .seat) t h)
-
-pub idle-none : (p : Phase) (s : ℕ) → isIdle p ≡ true → holds p s ≡ false
-idle-none Stopped s h = refl
-idle-none (Idle t7) s h = refl
-idle-none (Taken e b) s h = clash h refl
-idle-none (Revoking e n) s h = clash h refl
+  asked-effective x q = by-becoming (becomes x) q

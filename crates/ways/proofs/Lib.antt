@@ -1,4 +1,5 @@
 pub mod Apart
+pub mod Phases
 pub mod Walk
 pub mod Laws
 pub mod Refusals

@@ -6,17 +6,20 @@ use Rattle.words.specs.Choice.{by-if}
 use Rattle.words.proofs.Tests.{clash, neither}
 use Rattle.line.specs.declared.Line.{Line}
 use Rattle.hall.specs.declared.Hall.{Hall}
+use Rattle.hall.specs.declared.Answer.{Answer}
 use Rattle.hall.specs.declared.Answer.the-variants.{Done}
-use Rattle.rules.specs.declared.Core.{Core}
-use Rattle.rules.specs.declared.Kind.{Kind}
-use Rattle.rules.specs.declared.Message.{Message}
-use Rattle.rules.specs.declared.Marks.{Marks}
-use Rattle.rules.specs.declared.Report.{Report}
-use Rattle.rules.specs.Words.{silence, noMarks}
-use Rattle.rules.specs.Request.{infoOf, infoFor}
-use Rattle.desk.specs.declared.Left.{Left}
-use Rattle.history.specs.Doing.{Desk, Doing, deskOf, does}
-use Rattle.ways.specs.Ways.{reports, Six, informs, presses, informsAndPresses}
+use Rattle.steps.specs.declared.Core.{Core}
+use Rattle.steps.specs.declared.Kind.{Kind}
+use Rattle.steps.specs.declared.Message.{Message}
+use Rattle.steps.specs.declared.Marks.{Marks}
+use Rattle.steps.specs.declared.Report.{Report}
+use Rattle.steps.specs.Words.{silence, noMarks}
+use Rattle.request.specs.Request.{infoOf}
+use Rattle.request.specs.Cut.{infoFor}
+use Rattle.events.specs.declared.Outcome.{Outcome}
+use Rattle.events.specs.declared.Desk.{Desk}
+use Rattle.history.specs.Doing.{Doing, does}
+use Rattle.ways.specs.Ways.{Reports, Six, informs, presses, informsAndPresses}
 use Rattle.ways.specs.Ways as way
 use Rattle.ways.specs.Refusals.{RefusalsChangeNothing, isDeny, DenyChangesNothing}
 use Rattle.ways.proofs.Walk.{every-way}
@@ -32,22 +35,23 @@ info-for-none l t q = by-if (λ (m : Message). isDeny (m .kind) ≡ false) q (λ
 abbrev denies : Report → Bool
 denies r = isDeny (r .first .kind) || isDeny (r .second .kind)
 
-six-none : {c : Core} {h : Hall} {t : ℕ} {new : Core} {first second : Message} → Six c h t new first second → (isDeny (first .kind) || isDeny (second .kind)) ≡ false
+six-none : {c : Core} {h : Hall} {t : ℕ} {new : Core} {first second : Message} → Six c h t new first second →
+    (isDeny (first .kind) || isDeny (second .kind)) ≡ false
 six-none {c} {h} {t} (informs q f s) = rw (f, s) (neither _ _ (info-for-none (c .line) t _) refl)
 six-none {c} {h} {t} (presses e b k q f s) = rw (f, s)
 six-none {c} {h} {t} (informsAndPresses e b k q f s) = rw (f, s, info-none (c .line) t)
 
-module _ (d : Desk) (x : Doing) (l : Left) where
+module _ (d : Desk) (x : Doing) (l : Outcome) where
   -- what is done is not refused
-  done : {first second : Message} {m : Marks} {A : Type 0} → l .report ≡ reports first second m → (l .report .answer ≡ Done → ⊥) → A
-  done q n = absurd (n (ap (λ (r : Report). r .answer) q))
+  done : {first second : Message} {m : Marks} {A : Type 0} → Reports l first second m → (l .answer ≡ Done → ⊥) → A
+  done q n = absurd (n (q .0))
 
   abbrev Same : Type 0
-  Same = (deskOf l ≡ d) × (l .report .first ≡ silence) × (l .report .second ≡ silence) × (l .report .marks ≡ noMarks)
+  Same = (l .desk ≡ d) × (l .report .first ≡ silence) × (l .report .second ≡ silence) × (l .report .marks ≡ noMarks)
 
-  refused-same : way.Way d x l → (l .report .answer ≡ Done → ⊥) → Same
+  refused-same : way.Way d x l → (l .answer ≡ Done → ⊥) → Same
   refused-same (way.refuses a f u v q m) n =
-      (q, ap (λ (r : Report). r .first) m, ap (λ (r : Report). r .second) m, ap (λ (r : Report). r .marks) m)
+      (q, ap (λ (r : Report). r .first) (m .1), ap (λ (r : Report). r .second) (m .1), ap (λ (r : Report). r .marks) (m .1))
   refused-same (way.grantsHolder t p e b a w k q m) n = done m n
   refused-same (way.denies t p c a s u b q m) n = done m n
   refused-same (way.gives t p a s i q m) n = done m n
@@ -70,17 +74,17 @@ module _ (d : Desk) (x : Doing) (l : Left) where
   refused-same (way.idlesOn y i q m) n = done m n
 
   -- what says something else is no Deny
-  other : {r : Report} {A : Type 0} → l .report ≡ r → denies r ≡ false → denies (l .report) ≡ true → A
-  other q f z = clash z (ap denies q ∙ f)
+  other : {a : Answer} {r : Report} {A : Type 0} → (l .answer ≡ a) × (l .report ≡ r) → denies r ≡ false → denies (l .report) ≡ true → A
+  other q f z = clash z (ap denies (q .1) ∙ f)
 
   abbrev Kept : Type 0
-  Kept = (l .report .answer ≡ Done) × (deskOf l ≡ d) × (l .report .second ≡ silence) × (l .report .marks ≡ noMarks)
+  Kept = (l .answer ≡ Done) × (l .desk ≡ d) × (l .report .second ≡ silence) × (l .report .marks ≡ noMarks)
 
   denied-same : way.Way d x l → denies (l .report) ≡ true → Kept
   denied-same (way.refuses a f u v q m) z = other m refl z
   denied-same (way.grantsHolder t p e b a w k q m) z = other m refl z
   denied-same (way.denies t p c a s u b q m) z =
-      (ap (λ (r : Report). r .answer) m, q, ap (λ (r : Report). r .second) m, ap (λ (r : Report). r .marks) m)
+      (m .0, q, ap (λ (r : Report). r .second) (m .1), ap (λ (r : Report). r .marks) (m .1))
   denied-same (way.gives t p a s i q m) z = other m refl z
   denied-same (way.asksAgain t p f g a s w y m) z = other m (six-none y) z
   denied-same (way.moves t p f g a s b k w r y m) z = other m (six-none y) z

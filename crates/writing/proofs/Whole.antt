@@ -9,18 +9,19 @@ use mathlib.Core.Bool.{true, false}
 use mathlib.Core.List.{List, _++_}
 use mathlib.Core.Path.{_≡_, sym, ap, _∙_}
 use lib.ListN.{length}
-use Rattle.octets.specs.Octets.{over}
+use Rattle.octets.specs.Octets.{over, Laid}
 use Rattle.message.specs.Message.{said}
 use Rattle.message.specs.Answers.{refused, result}
 use Rattle.message.specs.declared.Message.{Message}
-use Rattle.writing.specs.Wire.{header, body, wire, headed, firstOctet}
-use Rattle.writing.specs.Writing.{readable, writing, written}
-use Rattle.writing.specs.Puts.{Laid, frontFields, restFields, frontSize, restSize}
-use Rattle.writing.proofs.Lays.{lay-fits, lay-rest, lay-join, lay-as}
-use Rattle.writing.proofs.Bodies.{halves}
-use Rattle.writing.proofs.Headers.{header-is}
-use Rattle.writing.proofs.Fits.{held-by}
-use Rattle.writing.proofs.Lengths.{wire-length, body-length, header-length, wire-whole}
+use Rattle.writing.specs.Wire.{header, wire}
+use Rattle.field_writing.specs.Wire.{body}
+use Rattle.header.specs.Header.{headerSize, headed, firstOctet}
+use Rattle.readable.specs.Readable.{readable}
+use Rattle.writing.specs.Writing.{writing, written}
+use Rattle.writing.specs.Puts.{frontFields, restFields, frontSize, restSize}
+use Rattle.octets.proofs.Lays.{lay-fits, lay-rest, lay-join, lay-as}
+use Rattle.writing.proofs.Lengths.{halves, header-is, wire-length, body-length, header-length, wire-whole}
+use Rattle.readable.proofs.Fits.{held-by}
 use Rattle.writing.proofs.Ways.{unreadable, roomless, accepted, untouched, overwritten}
 
 pub refused-12 : (m : Message) (src room : List ℕ) → readable m src ≡ false
@@ -34,11 +35,11 @@ wire-is : (m : Message) (src : List ℕ) → halved m src ≡ wire (said m src)
 unfolding wire said
 wire-is m src = ap (λ (xs : List ℕ). header (said m src) ++ xs) (sym (halves m src))
 
-module _ (m : Message) (src room : List ℕ) (r : readable m src ≡ true) {size : ℕ} (s : size ≡ 12 + (frontSize m + restSize m)) where
+module _ (m : Message) (src room : List ℕ) (r : readable m src ≡ true) {size : ℕ} (s : size ≡ headerSize + (frontSize m + restSize m)) where
   size-is : size ≡ length (wire (said m src))
   size-is = s ∙ sym (wire-length m src (held-by m src r))
 
-  pub size-whole : (12 ≤ size) × (size ≤ 440)
+  pub size-whole : (headerSize ≤ size) × (size ≤ 440)
   size-whole = let w = wire-whole m src r in let n = size-is in (omega (arith, w .least), omega (arith, w .most))
 
   pub refused-13 : length room < size → (refused 13 ≡ writing m src (length room)) × (room ≡ written m src room)
@@ -48,9 +49,9 @@ module _ (m : Message) (src room : List ℕ) (r : readable m src ≡ true) {size
     fits : 0 + length (halved m src) ≤ length room
     fits = let q = ap length (wire-is m src) in let n = size-is in omega arith
 
-    header-laid : Laid room 0 (header (said m src)) room₁ 12
+    header-laid : Laid room 0 (header (said m src)) room₁ headerSize
     header-laid =
-        let k = s ∙ ap (λ (n : ℕ). 12 + n) (sym (body-length m src (held-by m src r))) in
+        let k = s ∙ ap (λ (n : ℕ). headerSize + n) (sym (body-length m src (held-by m src r))) in
         record {
           ends = omega (arith, header-length (said m src));
           stands =
@@ -59,13 +60,13 @@ module _ (m : Message) (src room : List ℕ) (r : readable m src ≡ true) {size
               ∙ ap (over room 0) (header-is m src);
         }
 
-    halves-fit : 12 + length (body (frontFields m src) ++ body (restFields m src)) ≤ length room₁
+    halves-fit : headerSize + length (body (frontFields m src) ++ body (restFields m src)) ≤ length room₁
     halves-fit = lay-rest (body (frontFields m src) ++ body (restFields m src)) fits header-laid
 
-    pub front-fits : 12 + length (body (frontFields m src)) ≤ length room₁
-    front-fits = lay-fits room₁ 12 (body (frontFields m src)) (body (restFields m src)) halves-fit
+    pub front-fits : headerSize + length (body (frontFields m src)) ≤ length room₁
+    front-fits = lay-fits room₁ headerSize (body (frontFields m src)) (body (restFields m src)) halves-fit
 
-    module _ {room₂ : List ℕ} {at : ℕ} (l : Laid room₁ 12 (body (frontFields m src)) room₂ at) where
+    module _ {room₂ : List ℕ} {at : ℕ} (l : Laid room₁ headerSize (body (frontFields m src)) room₂ at) where
       pub rest-fits : at + length (body (restFields m src)) ≤ length room₂
       rest-fits = lay-rest (body (restFields m src)) halves-fit l
 

@@ -1,26 +1,20 @@
--- `main` ends. Assumes nothing.
+-- `evening::main` shows the sixteen seats.
 use Prim.Native.Nat.{_≤_, _-_}
 use borrow.Author.Needs.{needs}
-use native.Mathlib.Omega.{arith}
 use Rattle.evening.proofs.main.Statement.{statement}
 use Rattle.evening.proofs.main.Tie as tie
-use Rattle.evening.proofs.main.Reads as reads
-use Rattle.evening.proofs.main.Lts as lts
-use Rattle.evening.proofs.run.Reads as run-reads
-use Rattle.evening.proofs.say.Reads as say-reads
-use Rattle.evening.proofs.seat.Reads as seat-reads
 
 abbrev Inv-loop : tie.InvT-loop
-Inv-loop tally core i₀ i = i ≤ 16
+Inv-loop tally core seat₀ seat = seat ≤ 16
 
 abbrev μ-loop : tie.MeasureT-loop
-μ-loop tally core i₀ i = 16 - i
+μ-loop tally core seat₀ seat = 16 - seat
 
-slice-aggregate-say : tie.Need-slice-aggregate-say Inv-loop μ-loop
-slice-aggregate-say c = search needs
+slice-aggregate-text : tie.Need-slice-aggregate-text Inv-loop μ-loop
+slice-aggregate-text c = search needs
 
-say-requires : tie.Need-say-requires Inv-loop μ-loop
-say-requires c κs = search needs
+text-requires : tie.Need-text-requires Inv-loop μ-loop
+text-requires c κs = search needs
 
 run-requires : tie.Need-run-requires Inv-loop μ-loop
 run-requires c κs = search needs
@@ -28,11 +22,11 @@ run-requires c κs = search needs
 loop-holds : tie.Need-loop-holds Inv-loop μ-loop
 loop-holds c = search needs
 
-seat-requires : tie.Need-seat-requires Inv-loop μ-loop
-seat-requires c κs = search needs
+show-seat-requires : tie.Need-show-seat-requires Inv-loop μ-loop
+show-seat-requires c κs = search needs
 
-add-i : tie.Need-add-i Inv-loop μ-loop
-add-i c = search needs
+add-seat : tie.Need-add-seat Inv-loop μ-loop
+add-seat c = search needs
 
 loop-less : tie.Need-loop-less Inv-loop μ-loop
 loop-less c = search needs
@@ -49,12 +43,12 @@ main-spec =
     (tie.spec
     Inv-loop
     μ-loop
-    slice-aggregate-say
-    say-requires
+    slice-aggregate-text
+    text-requires
     run-requires
     loop-holds
-    seat-requires
-    add-i
+    show-seat-requires
+    add-seat
     loop-less
     loop-again
     returns)

@@ -1,20 +1,14 @@
--- `run` ends. Assumes nothing.
+-- `evening::run` ends after 5,000 events.
 use Prim.Native.Nat.{_≤_, _-_}
 use borrow.Author.Needs.{needs}
-use native.Mathlib.Omega.{arith}
 use Rattle.evening.proofs.run.Statement.{statement}
 use Rattle.evening.proofs.run.Tie as tie
-use Rattle.evening.proofs.run.Reads as reads
-use Rattle.evening.proofs.run.Lts as lts
-use Rattle.evening.proofs.fresh.Reads as fresh-reads
-use Rattle.evening.proofs.next.Reads as next-reads
-use Rattle.evening.proofs.next_turn.Reads as next-turn-reads
 
 abbrev Inv-loop : tie.InvT-loop
-Inv-loop seed e₀ s₀ turns₀ e s turns = turns ≤ 5000
+Inv-loop seed night₀ s₀ turns₀ night s turns = turns ≤ 5000
 
 abbrev μ-loop : tie.MeasureT-loop
-μ-loop seed e₀ s₀ turns₀ e s turns = 5000 - turns
+μ-loop seed night₀ s₀ turns₀ night s turns = 5000 - turns
 
 fresh-requires : tie.Need-fresh-requires Inv-loop μ-loop
 fresh-requires c κs = search needs
@@ -22,8 +16,11 @@ fresh-requires c κs = search needs
 loop-holds : tie.Need-loop-holds Inv-loop μ-loop
 loop-holds c = search needs
 
-next-requires : tie.Need-next-requires Inv-loop μ-loop
-next-requires c κs = search needs
+mul-s : tie.Need-mul-s Inv-loop μ-loop
+mul-s c = search needs
+
+add-s : tie.Need-add-s Inv-loop μ-loop
+add-s c = search needs
 
 next-turn-requires : tie.Need-next-turn-requires Inv-loop μ-loop
 next-turn-requires c κs = search needs
@@ -48,7 +45,8 @@ run-spec =
     μ-loop
     fresh-requires
     loop-holds
-    next-requires
+    mul-s
+    add-s
     next-turn-requires
     add-turns
     loop-less

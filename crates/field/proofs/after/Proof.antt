@@ -1,22 +1,18 @@
-use Rattle.field.proofs.Steps.{padded-is}
+-- The next field starts behind all that this one takes.
+use Rattle.message.proofs.Paddings.{padded-most}
 use native.Mathlib.Omega.{arith}
 use borrow.Author.Needs.{needs}
 use Rattle.field.proofs.after.Statement.{statement}
 use Rattle.field.proofs.after.Tie as tie
-use Rattle.field.proofs.after.Reads as reads
-use Rattle.field.proofs.after.Lts as lts
+
+padded-requires : tie.Need-padded-requires
+padded-requires c κs = search needs
 
 add-result : tie.Need-add-result
-add-result c = search needs
-
-mul-result : tie.Need-mul-result
-mul-result c = search needs
-
-add-result-2 : tie.Need-add-result-2
-add-result-2 c = search needs
+add-result c = omega (arith, c .padded .ensures, padded-most (c .before .args .len))
 
 returns : tie.Need-returns
-returns c = omega (arith, padded-is (c .args .len))
+returns c = search needs
 
 pub after-spec : {M : Type 1} → statement M
-after-spec = tie.close (tie.spec add-result mul-result add-result-2 returns)
+after-spec = tie.close (tie.spec padded-requires add-result returns)

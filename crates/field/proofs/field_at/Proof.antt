@@ -1,18 +1,14 @@
-use Prim.Native.Nat.{_+_, _<_, _≤_}
+use Prim.Native.Nat.{_+_, _<_}
 use mathlib.Core.Path.{sym, ap, _∙_}
 use Rattle.message.specs.Table.{against}
 use lib.ListN.{length}
 use Rattle.field.specs.Fields.{idAt, lengthAt}
-use Rattle.field.proofs.Steps.{padded-least, step-end, step-high, step-past, step-against, step-field}
+use Rattle.message.proofs.Paddings.{padded-least}
+use Rattle.field.proofs.Steps.{step-end, step-high, step-past, step-against, step-field}
 use native.Mathlib.Omega.{arith}
 use borrow.Author.Needs.{needs}
 use Rattle.field.proofs.field_at.Statement.{statement}
 use Rattle.field.proofs.field_at.Tie as tie
-use Rattle.field.proofs.field_at.Reads as reads
-use Rattle.field.proofs.field_at.Lts as lts
-use Rattle.message.proofs.against.Reads as against-reads
-use Rattle.octets.proofs.number16.Reads as number16-reads
-use Rattle.field.proofs.after.Reads as after-reads
 
 returns : tie.Need-returns
 returns c = sym (step-end (c .before .before .args .s .now) (c .before .before .args .at) (c .if1 .taken))
@@ -47,7 +43,8 @@ returns-4 : tie.Need-returns-4
 returns-4 c =
     let a = c .before .before .before .before .before .before .before .before .args in
     sym
-    (step-past (a .s .now) (a .at) (c .before .before .before .before .before .before .if1 .left) (c .before .before .before .before .if2 .left) (rw (c .before .after .ensures) at (c .if4 .taken)))
+    (step-past (a .s .now) (a .at) (c .before .before .before .before .before .before .if1 .left)
+    (c .before .before .before .before .if2 .left) (rw (c .before .after .ensures) at (c .if4 .taken)))
 
 add-number16 : tie.Need-add-number16
 add-number16 c = search needs
@@ -64,14 +61,21 @@ returns-5 c =
     let s = a .s .now in
     let at = a .at in
     sym
-    (step-against s at (c .before .before .before .before .before .before .before .before .before .if1 .left) (c .before .before .before .before .before .before .before .if2 .left) (rw (c .before .before .before .before .after .ensures) at (c .before .before .before .if4 .left))
+    (step-against s at (c .before .before .before .before .before .before .before .before .before .if1 .left)
+    (c .before .before .before .before .before .before .before .if2 .left)
+    (rw (c .before .before .before .before .after .ensures) at (c .before .before .before .if4 .left))
     (sym (c .before .against .ensures ∙ ap (against (idAt s at) (lengthAt s at)) (c .before .before .number16 .ensures)) ∙ c .if5 .taken))
 
 add-t10 : tie.Need-add-t10
 add-t10 c = search needs
 
 cast-t6 : tie.Need-cast-t6
-cast-t6 c = omega (arith, c .before .before .before .before .before .shared-slice-known3 .given (c .before .before .before .before .before .before .before .before .before .before .before .args .at + 1))
+cast-t6 c =
+    omega (
+      arith,
+      c .before .before .before .before .before .shared-slice-known3 .given
+          (c .before .before .before .before .before .before .before .before .before .before .before .args .at + 1),
+    )
 
 returns-6 : tie.Need-returns-6
 returns-6 c =
@@ -80,7 +84,9 @@ returns-6 c =
     let at = a .at in
     rw (c .before .before .before .before .after .ensures)
     (sym
-    (step-field s at (c .before .before .before .before .before .before .before .before .before .if1 .left) (c .before .before .before .before .before .before .before .if2 .left) (rw (c .before .before .before .before .after .ensures) at (c .before .before .before .if4 .left))
+    (step-field s at (c .before .before .before .before .before .before .before .before .before .if1 .left)
+    (c .before .before .before .before .before .before .before .if2 .left)
+    (rw (c .before .before .before .before .after .ensures) at (c .before .before .before .if4 .left))
     (sym (c .before .against .ensures ∙ ap (against (idAt s at) (lengthAt s at)) (c .before .before .number16 .ensures)) ∙ c .if5 .left)))
 
 pub field-at-spec : {M : Type 1} → statement M

@@ -1,17 +1,12 @@
-use Rattle.floor.proofs.Signed.{passed}
-use Rattle.floor.specs.Floor.{signed, holderAnswer}
-use Rattle.rules.specs.declared.Core.{Core}
-use Rattle.floor.proofs.Desks.{has-room, looks-so, looks-not}
+use Rattle.desk_looking.proofs.Signed.{passed}
+use Rattle.desk_looking.specs.Looking.{signed, holderAnswer}
+use Rattle.steps.specs.declared.Core.{Core}
+use Rattle.desk_test.proofs.Desks.{has-room}
+use Rattle.desk_looking.proofs.Looks.{looks-so, looks-not}
 use mathlib.Core.Path.{sym, _∙_, ap}
 use borrow.Author.Needs.{needs}
 use Rattle.floor.proofs.floor_holder.Statement.{statement}
 use Rattle.floor.proofs.floor_holder.Tie as tie
-use Rattle.floor.proofs.floor_holder.Reads as reads
-use Rattle.floor.proofs.floor_holder.Lts as lts
-use Rattle.floor.proofs.holder_number.Reads as holder-number-reads
-use Rattle.floor.proofs.is_desk.Reads as is-desk-reads
-use Rattle.floor.proofs.refusal.Reads as refusal-reads
-use Rattle.form.proofs.core_at.Reads as core-at-reads
 
 is-desk-requires : tie.Need-is-desk-requires
 is-desk-requires c κs = search needs
@@ -26,10 +21,14 @@ refusal-requires : tie.Need-refusal-requires
 refusal-requires c κs = search needs
 
 returns : tie.Need-returns
-returns c = passed (c .holder-number .ok) ∙ c .holder-number .ensures ∙ ap (λ (k : Core). signed (holderAnswer (k .phase))) (c .before .core-at .ensures) ∙ sym (looks-so _ _ (sym (c .before .before .before .is-desk .ensures) ∙ c .before .before .if1 .taken))
+returns c =
+    passed (c .holder-number .ok) ∙ c .holder-number .ensures
+    ∙ ap (λ (k : Core). signed (holderAnswer (k .phase))) (c .before .core-at .ensures)
+    ∙ sym (looks-so _ _ (sym (c .before .before .before .is-desk .ensures) ∙ c .before .before .if1 .taken))
 
 returns-2 : tie.Need-returns-2
-returns-2 c = passed (c .refusal .ok) ∙ c .refusal .ensures ∙ sym (looks-not _ _ (sym (c .before .before .is-desk .ensures) ∙ c .before .if1 .left))
+returns-2 c =
+    passed (c .refusal .ok) ∙ c .refusal .ensures ∙ sym (looks-not _ _ (sym (c .before .before .is-desk .ensures) ∙ c .before .if1 .left))
 
 pub floor-holder-spec : {M : Type 1} → statement M
 floor-holder-spec =

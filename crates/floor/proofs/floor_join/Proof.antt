@@ -1,30 +1,27 @@
-use Rattle.floor.proofs.Desks.{has-room}
+use Rattle.desk_test.proofs.Desks.{has-room}
 use Rattle.words.specs.Choice.{if-yes, if-no}
 use mathlib.Core.Path.{sym, _∙_}
 use borrow.Author.Needs.{needs}
 use Rattle.floor.proofs.floor_join.Statement.{statement}
 use Rattle.floor.proofs.floor_join.Tie as tie
-use Rattle.floor.proofs.floor_join.Reads as reads
-use Rattle.floor.proofs.floor_join.Lts as lts
-use Rattle.hall.proofs.number_of.Reads as number-of-reads
-use Rattle.floor.proofs.is_desk.Reads as is-desk-reads
-use Rattle.floor.proofs.write_desk.Reads as write-desk-reads
-use Rattle.form.proofs.core_at.Reads as core-at-reads
-use Rattle.form.proofs.hall_at.Reads as hall-at-reads
-use Rattle.form.proofs.names_at.Reads as names-at-reads
-use Rattle.hall.proofs.join_call.Reads as join-call-reads
 
 is-desk-requires : tie.Need-is-desk-requires
 is-desk-requires c κs = search needs
 
+newcomer-of-requires : tie.Need-newcomer-of-requires
+newcomer-of-requires c κs = search needs
+
 core-at-requires : tie.Need-core-at-requires
-core-at-requires c κs = has-room _ (sym (c .before .before .is-desk .ensures) ∙ c .before .if1 .taken)
+core-at-requires c κs = has-room _ (sym (c .before .before .before .is-desk .ensures) ∙ c .before .before .if1 .taken)
 
 hall-at-requires : tie.Need-hall-at-requires
-hall-at-requires c κs = has-room _ (sym (c .before .before .before .before .is-desk .ensures) ∙ c .before .before .before .if1 .taken)
+hall-at-requires c κs =
+    has-room _ (sym (c .before .before .before .before .before .is-desk .ensures) ∙ c .before .before .before .before .if1 .taken)
 
 names-at-requires : tie.Need-names-at-requires
-names-at-requires c κs = has-room _ (sym (c .before .before .before .before .before .before .is-desk .ensures) ∙ c .before .before .before .before .before .if1 .taken)
+names-at-requires c κs =
+    has-room _ (sym (c .before .before .before .before .before .before .before .is-desk .ensures)
+    ∙ c .before .before .before .before .before .before .if1 .taken)
 
 join-call-requires : tie.Need-join-call-requires
 join-call-requires c κs = search needs
@@ -39,7 +36,21 @@ same-length : tie.Need-same-length
 same-length c = search needs
 
 returns : tie.Need-returns
-returns c = rw (← (c .before .before .before .before .before .before .before .before .before .before .before .before .core-at .ensures), ← (c .before .before .before .before .before .before .before .before .before .before .hall-at .ensures), ← (c .before .before .before .before .before .before .before .before .names-at .ensures), ← (c .before .before .before .before .before .before .before .join-call .ensures), ← (c .before .before .before .number-of .ensures)) (c .before .before .write-desk .ensures ∙ sym (if-yes _ _ _ (sym (c .before .before .before .before .before .before .before .before .before .before .before .before .before .before .before .is-desk .ensures) ∙ c .before .before .before .before .before .before .before .before .before .before .before .before .before .before .if1 .taken)))
+returns c =
+    rw (
+      ← (c .before .before .before .before .before .before .before .before .before .before .before .before .core-at .ensures),
+      ← (c .before .before .before .before .before .before .before .before .before .before .hall-at .ensures),
+      ← (c .before .before .before .before .before .before .before .before .names-at .ensures),
+      ← (c .before .before .before .before .before .before .before .before .before .before .before .before .before .before .newcomer-of
+          .ensures),
+      ← (c .before .before .before .before .before .before .before .join-call .ensures),
+      ← (c .before .before .before .number-of .ensures),
+    )
+    (c .before .before .write-desk .ensures
+    ∙ sym (if-yes _ _ _ (sym
+    (c .before .before .before .before .before .before .before .before .before .before .before .before .before .before .before .before
+    .is-desk .ensures) ∙ c .before .before .before .before .before .before .before .before .before .before .before .before .before .before
+    .before .if1 .taken)))
 
 same-length-2 : tie.Need-same-length-2
 same-length-2 c = search needs
@@ -52,6 +63,7 @@ floor-join-spec =
     tie.close
     (tie.spec
     is-desk-requires
+    newcomer-of-requires
     core-at-requires
     hall-at-requires
     names-at-requires

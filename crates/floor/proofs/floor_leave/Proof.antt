@@ -1,18 +1,10 @@
-use Rattle.floor.proofs.Desks.{has-room, no-desk-so}
-use Rattle.floor.specs.Floor.{leftOn}
+use Rattle.desk_test.proofs.Desks.{has-room}
+use Rattle.desk_steps.proofs.Steps.{no-desk-so}
+use Rattle.desk_steps.specs.Steps.{outcomeOn}
 use mathlib.Core.Path.{sym, _∙_}
 use borrow.Author.Needs.{needs}
 use Rattle.floor.proofs.floor_leave.Statement.{statement}
 use Rattle.floor.proofs.floor_leave.Tie as tie
-use Rattle.floor.proofs.floor_leave.Reads as reads
-use Rattle.floor.proofs.floor_leave.Lts as lts
-use Rattle.desk.proofs.leave_call.Reads as leave-call-reads
-use Rattle.floor.proofs.is_desk.Reads as is-desk-reads
-use Rattle.floor.proofs.seat_numbered.Reads as seat-numbered-reads
-use Rattle.floor.proofs.settle_left.Reads as settle-left-reads
-use Rattle.form.proofs.core_at.Reads as core-at-reads
-use Rattle.form.proofs.hall_at.Reads as hall-at-reads
-use Rattle.form.proofs.names_at.Reads as names-at-reads
 
 is-desk-requires : tie.Need-is-desk-requires
 is-desk-requires c κs = search needs
@@ -24,7 +16,9 @@ hall-at-requires : tie.Need-hall-at-requires
 hall-at-requires c κs = has-room _ (sym (c .before .before .before .before .is-desk .ensures) ∙ c .before .before .before .if1 .taken)
 
 names-at-requires : tie.Need-names-at-requires
-names-at-requires c κs = has-room _ (sym (c .before .before .before .before .before .before .is-desk .ensures) ∙ c .before .before .before .before .before .if1 .taken)
+names-at-requires c κs =
+    has-room _ (sym (c .before .before .before .before .before .before .is-desk .ensures)
+    ∙ c .before .before .before .before .before .if1 .taken)
 
 seat-numbered-requires : tie.Need-seat-numbered-requires
 seat-numbered-requires c κs = search needs
@@ -32,8 +26,10 @@ seat-numbered-requires c κs = search needs
 leave-call-requires : tie.Need-leave-call-requires
 leave-call-requires c κs = search needs
 
-settle-left-requires : tie.Need-settle-left-requires
-settle-left-requires c κs = sym (c .before .before .before .before .before .before .before .before .before .before .before .is-desk .ensures) ∙ c .before .before .before .before .before .before .before .before .before .before .if1 .taken
+settle-outcome-requires : tie.Need-settle-outcome-requires
+settle-outcome-requires c κs =
+    sym (c .before .before .before .before .before .before .before .before .before .before .before .is-desk .ensures)
+    ∙ c .before .before .before .before .before .before .before .before .before .before .if1 .taken
 
 same-length : tie.Need-same-length
 same-length c = search needs
@@ -42,13 +38,21 @@ same-length-2 : tie.Need-same-length-2
 same-length-2 c = search needs
 
 returns : tie.Need-returns
-returns c = rw (← (c .before .before .before .before .before .before .before .before .before .before .before .before .before .core-at .ensures), ← (c .before .before .before .before .before .before .before .before .before .before .before .hall-at .ensures), ← (c .before .before .before .before .before .before .before .before .before .names-at .ensures), ← (c .before .before .before .before .before .before .before .before .seat-numbered .ensures), ← (c .before .before .before .before .before .before .before .leave-call .ensures)) (c .before .before .before .before .settle-left .ensures)
+returns c =
+    rw (
+      ← (c .before .before .before .before .before .before .before .before .before .before .before .before .before .core-at .ensures),
+      ← (c .before .before .before .before .before .before .before .before .before .before .before .hall-at .ensures),
+      ← (c .before .before .before .before .before .before .before .before .before .names-at .ensures),
+      ← (c .before .before .before .before .before .before .before .before .seat-numbered .ensures),
+      ← (c .before .before .before .before .before .before .before .leave-call .ensures),
+    )
+    (c .before .before .before .before .settle-outcome .ensures)
 
 same-length-3 : tie.Need-same-length-3
 same-length-3 c = search needs
 
 returns-2 : tie.Need-returns-2
-unfolding leftOn
+unfolding outcomeOn
 returns-2 c = sym (no-desk-so _ _ _ _ _ (sym (c .before .is-desk .ensures) ∙ c .if1 .left))
 
 pub floor-leave-spec : {M : Type 1} → statement M
@@ -61,7 +65,7 @@ floor-leave-spec =
     names-at-requires
     seat-numbered-requires
     leave-call-requires
-    settle-left-requires
+    settle-outcome-requires
     same-length
     same-length-2
     returns

@@ -1,11 +1,6 @@
 use borrow.Author.Needs.{needs}
 use Rattle.floor.proofs.floor_load.Statement.{statement}
 use Rattle.floor.proofs.floor_load.Tie as tie
-use Rattle.floor.proofs.floor_load.Reads as reads
-use Rattle.floor.proofs.floor_load.Lts as lts
-use Rattle.floor.proofs.write_desk.Reads as write-desk-reads
-use Rattle.sheet.proofs.load.Reads as load-reads
-use Rattle.sheet.proofs.verdict_number.Reads as verdict-number-reads
 
 load-requires : tie.Need-load-requires
 load-requires c κs = search needs
@@ -20,7 +15,11 @@ same-length : tie.Need-same-length
 same-length c = search needs
 
 returns : tie.Need-returns
-returns c = rw (← (c .before .before .before .before .before .before .before .before .load .ensures), ← (c .before .before .before .before .verdict-number .ensures)) (c .before .before .write-desk .ensures)
+returns c =
+    rw (
+      ← (c .before .before .before .before .before .before .before .before .load .ensures),
+      ← (c .before .before .before .before .verdict-number .ensures),
+    ) (c .before .before .write-desk .ensures)
 
 pub floor-load-spec : {M : Type 1} → statement M
 floor-load-spec =

@@ -1,16 +1,10 @@
-use Rattle.floor.proofs.Desks.{has-room, no-desk-so}
-use Rattle.floor.specs.Floor.{calledOn}
+use Rattle.desk_test.proofs.Desks.{has-room}
+use Rattle.desk_steps.proofs.Steps.{no-desk-so}
+use Rattle.desk_steps.specs.Steps.{outcomeOn, stepOn}
 use mathlib.Core.Path.{sym, _∙_}
 use borrow.Author.Needs.{needs}
 use Rattle.floor.proofs.floor_packet.Statement.{statement}
 use Rattle.floor.proofs.floor_packet.Tie as tie
-use Rattle.floor.proofs.floor_packet.Reads as reads
-use Rattle.floor.proofs.floor_packet.Lts as lts
-use Rattle.call.proofs.hear.Reads as hear-reads
-use Rattle.floor.proofs.is_desk.Reads as is-desk-reads
-use Rattle.floor.proofs.settle.Reads as settle-reads
-use Rattle.form.proofs.core_at.Reads as core-at-reads
-use Rattle.form.proofs.hall_at.Reads as hall-at-reads
 
 is-desk-requires : tie.Need-is-desk-requires
 is-desk-requires c κs = search needs
@@ -25,7 +19,9 @@ hear-requires : tie.Need-hear-requires
 hear-requires c κs = search needs
 
 settle-requires : tie.Need-settle-requires
-settle-requires c κs = sym (c .before .before .before .before .before .before .before .before .is-desk .ensures) ∙ c .before .before .before .before .before .before .before .if1 .taken
+settle-requires c κs =
+    sym (c .before .before .before .before .before .before .before .before .is-desk .ensures)
+    ∙ c .before .before .before .before .before .before .before .if1 .taken
 
 same-length : tie.Need-same-length
 same-length c = search needs
@@ -34,13 +30,18 @@ same-length-2 : tie.Need-same-length-2
 same-length-2 c = search needs
 
 returns : tie.Need-returns
-returns c = rw (← (c .before .before .before .before .before .before .before .before .before .before .core-at .ensures), ← (c .before .before .before .before .before .before .before .before .hall-at .ensures), ← (c .before .before .before .before .before .before .before .hear .ensures)) (c .before .before .before .before .settle .ensures)
+returns c =
+    rw (
+      ← (c .before .before .before .before .before .before .before .before .before .before .core-at .ensures),
+      ← (c .before .before .before .before .before .before .before .before .hall-at .ensures),
+      ← (c .before .before .before .before .before .before .before .hear .ensures),
+    ) (c .before .before .before .before .settle .ensures)
 
 same-length-3 : tie.Need-same-length-3
 same-length-3 c = search needs
 
 returns-2 : tie.Need-returns-2
-unfolding calledOn
+unfolding outcomeOn stepOn
 returns-2 c = sym (no-desk-so _ _ _ _ _ (sym (c .before .is-desk .ensures) ∙ c .if1 .left))
 
 pub floor-packet-spec : {M : Type 1} → statement M

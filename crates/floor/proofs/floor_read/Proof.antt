@@ -1,10 +1,7 @@
-use Rattle.floor.proofs.Signed.{pair-same}
+use Rattle.desk_looking.proofs.Signed.{pair-same}
 use borrow.Author.Needs.{needs}
 use Rattle.floor.proofs.floor_read.Statement.{statement}
 use Rattle.floor.proofs.floor_read.Tie as tie
-use Rattle.floor.proofs.floor_read.Reads as reads
-use Rattle.floor.proofs.floor_read.Lts as lts
-use Rattle.held.proofs.read_held.Reads as read-held-reads
 
 read-held-requires : tie.Need-read-held-requires
 read-held-requires c κs = search needs

@@ -1,21 +1,14 @@
-use Rattle.floor.proofs.Signed.{passed}
-use Rattle.floor.specs.Floor.{timerSet}
-use Rattle.desk.specs.Timers.{running}
-use Rattle.rules.specs.declared.Core.{Core}
+use Rattle.desk_looking.proofs.Signed.{passed}
+use Rattle.desk_looking.specs.Looking.{timerSet}
+use Rattle.timers.specs.Timers.{running}
+use Rattle.steps.specs.declared.Core.{Core}
 use lib.IntN.{pos}
-use Rattle.floor.proofs.Desks.{has-room, looks-so, looks-not}
+use Rattle.desk_test.proofs.Desks.{has-room}
+use Rattle.desk_looking.proofs.Looks.{looks-so, looks-not}
 use mathlib.Core.Path.{sym, _∙_, ap}
 use borrow.Author.Needs.{needs}
 use Rattle.floor.proofs.floor_running.Statement.{statement}
 use Rattle.floor.proofs.floor_running.Tie as tie
-use Rattle.floor.proofs.floor_running.Reads as reads
-use Rattle.floor.proofs.floor_running.Lts as lts
-use Rattle.desk.proofs.running_timers.Reads as running-timers-reads
-use Rattle.floor.proofs.found.Reads as found-reads
-use Rattle.floor.proofs.is_desk.Reads as is-desk-reads
-use Rattle.floor.proofs.refusal.Reads as refusal-reads
-use Rattle.floor.proofs.timer_set.Reads as timer-set-reads
-use Rattle.form.proofs.core_at.Reads as core-at-reads
 
 is-desk-requires : tie.Need-is-desk-requires
 is-desk-requires c κs = search needs
@@ -36,10 +29,15 @@ refusal-requires : tie.Need-refusal-requires
 refusal-requires c κs = search needs
 
 returns : tie.Need-returns
-returns c = passed (c .found .ok) ∙ c .found .ensures ∙ ap pos (c .before .timer-set .ensures .0 ∙ ap timerSet (c .before .before .running-timers .ensures) ∙ ap (λ (k : Core). timerSet (running (k .phase))) (c .before .before .before .core-at .ensures)) ∙ sym (looks-so _ _ (sym (c .before .before .before .before .before .is-desk .ensures) ∙ c .before .before .before .before .if1 .taken))
+returns c =
+    passed (c .found .ok) ∙ c .found .ensures
+    ∙ ap pos (c .before .timer-set .ensures .0 ∙ ap timerSet (c .before .before .running-timers .ensures)
+    ∙ ap (λ (k : Core). timerSet (running (k .phase))) (c .before .before .before .core-at .ensures))
+    ∙ sym (looks-so _ _ (sym (c .before .before .before .before .before .is-desk .ensures) ∙ c .before .before .before .before .if1 .taken))
 
 returns-2 : tie.Need-returns-2
-returns-2 c = passed (c .refusal .ok) ∙ c .refusal .ensures ∙ sym (looks-not _ _ (sym (c .before .before .is-desk .ensures) ∙ c .before .if1 .left))
+returns-2 c =
+    passed (c .refusal .ok) ∙ c .refusal .ensures ∙ sym (looks-not _ _ (sym (c .before .before .is-desk .ensures) ∙ c .before .if1 .left))
 
 pub floor-running-spec : {M : Type 1} → statement M
 floor-running-spec =

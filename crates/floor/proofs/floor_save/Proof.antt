@@ -1,18 +1,10 @@
-use Rattle.floor.proofs.Desks.{has-room}
-use Rattle.floor.proofs.Signed.{passed, pair-same}
+use Rattle.desk_test.proofs.Desks.{has-room}
+use Rattle.desk_looking.proofs.Signed.{passed, pair-same}
 use Rattle.words.specs.Choice.{if-yes, if-no}
 use mathlib.Core.Path.{refl, sym, _∙_}
 use borrow.Author.Needs.{needs}
 use Rattle.floor.proofs.floor_save.Statement.{statement}
 use Rattle.floor.proofs.floor_save.Tie as tie
-use Rattle.floor.proofs.floor_save.Reads as reads
-use Rattle.floor.proofs.floor_save.Lts as lts
-use Rattle.floor.proofs.is_desk.Reads as is-desk-reads
-use Rattle.floor.proofs.refusal.Reads as refusal-reads
-use Rattle.floor.proofs.saved_number.Reads as saved-number-reads
-use Rattle.form.proofs.hall_at.Reads as hall-at-reads
-use Rattle.form.proofs.names_at.Reads as names-at-reads
-use Rattle.sheet.proofs.save.Reads as save-reads
 
 is-desk-requires : tie.Need-is-desk-requires
 is-desk-requires c κs = search needs
@@ -36,10 +28,25 @@ same-length : tie.Need-same-length
 same-length c = search needs
 
 returns : tie.Need-returns
-returns c = pair-same (passed (c .saved-number .ok) ∙ c .saved-number .ensures ∙ rw (c .before .before .before .save .ensures .0, c .before .before .before .before .before .before .hall-at .ensures, c .before .before .before .before .before .names-at .ensures)) (rw (c .before .before .before .save .ensures .1 .0, c .before .before .before .before .before .before .hall-at .ensures, c .before .before .before .before .before .names-at .ensures)) ∙ sym (if-yes _ _ _ (sym (c .before .before .before .before .before .before .before .before .is-desk .ensures) ∙ c .before .before .before .before .before .before .before .if1 .taken))
+returns c =
+    pair-same (passed (c .saved-number .ok) ∙ c .saved-number .ensures
+    ∙ rw (
+      c .before .before .before .save .ensures .0,
+      c .before .before .before .before .before .before .hall-at .ensures,
+      c .before .before .before .before .before .names-at .ensures,
+    ))
+    (rw (
+      c .before .before .before .save .ensures .1 .0,
+      c .before .before .before .before .before .before .hall-at .ensures,
+      c .before .before .before .before .before .names-at .ensures,
+    ))
+    ∙ sym (if-yes _ _ _ (sym (c .before .before .before .before .before .before .before .before .is-desk .ensures)
+    ∙ c .before .before .before .before .before .before .before .if1 .taken))
 
 returns-2 : tie.Need-returns-2
-returns-2 c = pair-same (passed (c .refusal .ok) ∙ c .refusal .ensures) refl ∙ sym (if-no _ _ _ (sym (c .before .before .is-desk .ensures) ∙ c .before .if1 .left))
+returns-2 c =
+    pair-same (passed (c .refusal .ok) ∙ c .refusal .ensures) refl
+    ∙ sym (if-no _ _ _ (sym (c .before .before .is-desk .ensures) ∙ c .before .if1 .left))
 
 pub floor-save-spec : {M : Type 1} → statement M
 floor-save-spec =

@@ -1,16 +1,10 @@
-use Rattle.floor.proofs.Signed.{passed}
-use Rattle.floor.proofs.Desks.{has-room, looks-so, looks-not}
+use Rattle.desk_looking.proofs.Signed.{passed}
+use Rattle.desk_test.proofs.Desks.{has-room}
+use Rattle.desk_looking.proofs.Looks.{looks-so, looks-not}
 use mathlib.Core.Path.{sym, _∙_}
 use borrow.Author.Needs.{needs}
 use Rattle.floor.proofs.floor_seat_by_ssrc.Statement.{statement}
 use Rattle.floor.proofs.floor_seat_by_ssrc.Tie as tie
-use Rattle.floor.proofs.floor_seat_by_ssrc.Reads as reads
-use Rattle.floor.proofs.floor_seat_by_ssrc.Lts as lts
-use Rattle.floor.proofs.is_desk.Reads as is-desk-reads
-use Rattle.floor.proofs.refusal.Reads as refusal-reads
-use Rattle.floor.proofs.seat_number.Reads as seat-number-reads
-use Rattle.form.proofs.hall_at.Reads as hall-at-reads
-use Rattle.hall.proofs.seat_of.Reads as seat-of-reads
 
 is-desk-requires : tie.Need-is-desk-requires
 is-desk-requires c κs = search needs
@@ -28,10 +22,14 @@ refusal-requires : tie.Need-refusal-requires
 refusal-requires c κs = search needs
 
 returns : tie.Need-returns
-returns c = passed (c .seat-number .ok) ∙ c .seat-number .ensures ∙ rw (c .before .seat-of .ensures, c .before .before .hall-at .ensures) (sym (looks-so _ _ (sym (c .before .before .before .before .is-desk .ensures) ∙ c .before .before .before .if1 .taken)))
+returns c =
+    passed (c .seat-number .ok) ∙ c .seat-number .ensures
+    ∙ rw (c .before .seat-of .ensures, c .before .before .hall-at .ensures)
+    (sym (looks-so _ _ (sym (c .before .before .before .before .is-desk .ensures) ∙ c .before .before .before .if1 .taken)))
 
 returns-2 : tie.Need-returns-2
-returns-2 c = passed (c .refusal .ok) ∙ c .refusal .ensures ∙ sym (looks-not _ _ (sym (c .before .before .is-desk .ensures) ∙ c .before .if1 .left))
+returns-2 c =
+    passed (c .refusal .ok) ∙ c .refusal .ensures ∙ sym (looks-not _ _ (sym (c .before .before .is-desk .ensures) ∙ c .before .if1 .left))
 
 pub floor-seat-by-ssrc-spec : {M : Type 1} → statement M
 floor-seat-by-ssrc-spec =

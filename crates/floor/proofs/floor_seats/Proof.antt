@@ -1,20 +1,14 @@
-use Rattle.floor.proofs.Signed.{passed}
-use Rattle.report.specs.Report.{maskOf}
+use Rattle.desk_looking.proofs.Signed.{passed}
+use Rattle.report_octets.specs.Report.{maskOf}
 use Rattle.hall.specs.declared.Hall.{Hall}
 use lib.IntN.{pos}
-use Rattle.floor.proofs.Desks.{has-room, looks-so, looks-not}
+use Rattle.desk_test.proofs.Desks.{has-room}
+use Rattle.desk_looking.proofs.Looks.{looks-so, looks-not}
 use mathlib.Core.Path.{sym, _∙_, ap}
 use native.Mathlib.Omega.{arith}
 use borrow.Author.Needs.{needs}
 use Rattle.floor.proofs.floor_seats.Statement.{statement}
 use Rattle.floor.proofs.floor_seats.Tie as tie
-use Rattle.floor.proofs.floor_seats.Reads as reads
-use Rattle.floor.proofs.floor_seats.Lts as lts
-use Rattle.floor.proofs.found.Reads as found-reads
-use Rattle.floor.proofs.is_desk.Reads as is-desk-reads
-use Rattle.floor.proofs.refusal.Reads as refusal-reads
-use Rattle.form.proofs.hall_at.Reads as hall-at-reads
-use Rattle.report.proofs.mask_of.Reads as mask-of-reads
 
 is-desk-requires : tie.Need-is-desk-requires
 is-desk-requires c κs = search needs
@@ -35,10 +29,14 @@ refusal-requires : tie.Need-refusal-requires
 refusal-requires c κs = search needs
 
 returns : tie.Need-returns
-returns c = passed (c .found .ok) ∙ c .found .ensures ∙ ap pos (c .before .mask-of .ensures ∙ ap (λ (h : Hall). maskOf (h .present)) (c .before .before .before .hall-at .ensures)) ∙ sym (looks-so _ _ (sym (c .before .before .before .before .before .is-desk .ensures) ∙ c .before .before .before .before .if1 .taken))
+returns c =
+    passed (c .found .ok) ∙ c .found .ensures
+    ∙ ap pos (c .before .mask-of .ensures ∙ ap (λ (h : Hall). maskOf (h .present)) (c .before .before .before .hall-at .ensures))
+    ∙ sym (looks-so _ _ (sym (c .before .before .before .before .before .is-desk .ensures) ∙ c .before .before .before .before .if1 .taken))
 
 returns-2 : tie.Need-returns-2
-returns-2 c = passed (c .refusal .ok) ∙ c .refusal .ensures ∙ sym (looks-not _ _ (sym (c .before .before .is-desk .ensures) ∙ c .before .if1 .left))
+returns-2 c =
+    passed (c .refusal .ok) ∙ c .refusal .ensures ∙ sym (looks-not _ _ (sym (c .before .before .is-desk .ensures) ∙ c .before .if1 .left))
 
 pub floor-seats-spec : {M : Type 1} → statement M
 floor-seats-spec =

@@ -31,7 +31,8 @@ unfolding effective if_then_else_
 returns-3 c =
     rw (
       c .enum-told .given .1,
-      le-leb 0 (getD (c .before .before .before .before .args .hall .highest) (c .before .before .before .before .args .seat) 0) (omega arith),
+      le-leb 0 (getD (c .before .before .before .before .args .hall .highest) (c .before .before .before .before .args .seat) 0)
+          (omega arith),
     )
 
 pub effective-priority-spec : {M : Type 1} → statement M

@@ -43,7 +43,8 @@ loop-again c = (
 )
 
 returns-2 : tie.Need-returns-2 Inv-loop μ-loop
-returns-2 c = sym (c .before .loop .inv .1 ∙ lowest-ends (λ (x : ℕ). not (isPresent (c .before .before .args .hall) x)) _ (c .loop-test .left))
+returns-2 c =
+    sym (c .before .loop .inv .1 ∙ lowest-ends (λ (x : ℕ). not (isPresent (c .before .before .args .hall) x)) _ (c .loop-test .left))
 
 pub free-seat-spec : {M : Type 1} → statement M
 free-seat-spec =

@@ -19,7 +19,8 @@ all-others-requires : tie.Need-all-others-requires Inv-loop μ-loop
 all-others-requires c κs = search needs
 
 loop-holds : tie.Need-loop-holds Inv-loop μ-loop
-loop-holds c = (omega arith, ap length (c .all-others .ensures) ∙ simp length-set (simp length-map at (c .before .good .0 .1 .1 .0 .1 .0 .1)), refl)
+loop-holds c =
+    (omega arith, ap length (c .all-others .ensures) ∙ simp length-set (simp length-map at (c .before .good .0 .1 .1 .0 .1 .0 .1)), refl)
 
 flag-requires : tie.Need-flag-requires Inv-loop μ-loop
 flag-requires c κs = search needs

@@ -78,7 +78,9 @@ returns-2 c =
     let a = c .before .before .before .before .before .args in
     let test = sits (a .hall .present) (a .hall .ssrcs) (a .ssrc) in
     let h : 16 ≤ c .before .before .loop .s =
-    by-test (ltb (c .before .before .loop .s) 16) (λ e. clash (both (ltb (c .before .before .loop .s) 16) (not (c .before .before .loop .found)) e (rw (c .if1 .left))) (c .before .loop-test .left)) (λ e. ltb-false _ _ e) in
+    by-test (ltb (c .before .before .loop .s) 16)
+    (λ e. clash (both (ltb (c .before .before .loop .s) 16) (not (c .before .before .loop .found)) e (rw (c .if1 .left)))
+    (c .before .loop-test .left)) (λ e. ltb-false _ _ e) in
     sym (c .before .before .loop .inv .2 ∙ if-no _ _ _ (c .if1 .left) ∙ lowest-ends test _ h)
 
 pub seat-of-spec : {M : Type 1} → statement M

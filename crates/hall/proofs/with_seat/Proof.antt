@@ -13,11 +13,8 @@ with-word-requires c κs = search needs
 with-octet-requires : tie.Need-with-octet-requires
 with-octet-requires c κs = search needs
 
-with-flag-requires-2 : tie.Need-with-flag-requires-2
-with-flag-requires-2 c κs = search needs
-
-with-flag-requires-3 : tie.Need-with-flag-requires-3
-with-flag-requires-3 c κs = search needs
+with-flags-requires : tie.Need-with-flags-requires
+with-flags-requires c κs = search needs
 
 returns : tie.Need-returns
 unfolding withSeat
@@ -30,6 +27,5 @@ with-seat-spec =
     with-flag-requires
     with-word-requires
     with-octet-requires
-    with-flag-requires-2
-    with-flag-requires-3
+    with-flags-requires
     returns)

@@ -1,16 +1,20 @@
-use Prim.Native.Nat.{_-_, _≤_}
+-- `lab_sheet::dump_identity` ends, each turn eight octets further.
+use Prim.Native.Nat.{_≤_, _-_, _+_}
 use borrow.Author.Needs.{needs}
 use Rattle.lab_sheet.proofs.dump_identity.Statement.{statement}
 use Rattle.lab_sheet.proofs.dump_identity.Tie as tie
 
 abbrev Inv-loop : tie.InvT-loop
-Inv-loop s at count done₀ done = done ≤ count
+Inv-loop s at count done₀ done = done ≤ count + 8
 
 abbrev μ-loop : tie.MeasureT-loop
 μ-loop s at count done₀ done = count - done
 
 loop-holds : tie.Need-loop-holds Inv-loop μ-loop
 loop-holds c = search needs
+
+add-dump-letters : tie.Need-add-dump-letters Inv-loop μ-loop
+add-dump-letters c = search needs
 
 sub-next-line : tie.Need-sub-next-line Inv-loop μ-loop
 sub-next-line c = search needs
@@ -40,6 +44,7 @@ dump-identity-spec =
     Inv-loop
     μ-loop
     loop-holds
+    add-dump-letters
     sub-next-line
     next-line-requires
     dump-letters-requires

@@ -39,7 +39,8 @@ returns c =
     let h : c .before .before .before .before .loop .i < length (waiting l) = omega (arith, n) in
     let v = rw (waiting-first l _ n) at (c .before .before .before .before .loop .inv .1) in
     sym (v ∙ anyone-stops _ (waiting l) _ h (ap (otherAtLeast (c .before .before .before .before .before .before .before .args .seat)
-    (c .before .before .before .before .before .before .before .args .priority)) (first-there l _ _ n (c .before .before .before .loop-test .taken))
+    (c .before .before .before .before .before .before .before .args .priority))
+    (first-there l _ _ n (c .before .before .before .loop-test .taken))
     ∙ sym (c .before .other-at-least .ensures) ∙ c .if1 .taken))
 
 add-i : tie.Need-add-i Inv-loop μ-loop
@@ -55,8 +56,10 @@ loop-again c =
     let h : c .before .before .before .before .loop .i < length (waiting l) = omega (arith, n) in
     let v = rw (waiting-first l _ n) at (c .before .before .before .before .loop .inv .1) in (
       omega arith,
-      rw (waiting-first l _ n) (v ∙ anyone-on _ (waiting l) _ h (ap (otherAtLeast (c .before .before .before .before .before .before .before .args .seat)
-          (c .before .before .before .before .before .before .before .args .priority)) (first-there l _ _ n (c .before .before .before .loop-test .taken))
+      rw (waiting-first l _ n)
+          (v ∙ anyone-on _ (waiting l) _ h (ap (otherAtLeast (c .before .before .before .before .before .before .before .args .seat)
+          (c .before .before .before .before .before .before .before .args .priority))
+          (first-there l _ _ n (c .before .before .before .loop-test .taken))
           ∙ sym (c .before .other-at-least .ensures) ∙ c .if1 .left)),
     )
 

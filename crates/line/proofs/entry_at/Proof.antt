@@ -29,7 +29,8 @@ returns c =
 
 returns-2 : tie.Need-returns-2
 returns-2 c =
-    let h : length (waiting (c .before .before .args .line)) ≤ c .before .before .args .place = omega (arith, c .before .count .ensures .0) in
+    let h : length (waiting (c .before .before .args .line)) ≤ c .before .before .args .place =
+    omega (arith, c .before .count .ensures .0) in
     sym (List·getD-eq-default (waiting (c .before .before .args .line)) empty h)
 
 pub entry-at-spec : {M : Type 1} → statement M

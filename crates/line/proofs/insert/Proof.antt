@@ -47,14 +47,18 @@ loop-again : tie.Need-loop-again Inv-loop μ-loop
 loop-again c =
     let a = c .before .before .before .before .before .before .args in
     let n = c .before .before .before .before .before .count .ensures in
-    let k : a .k ≤ length (a .line .entries) = omega (arith, c .before .before .before .before .before .before .pre, waiting-within (a .line)) in
+    let k : a .k ≤ length (a .line .entries) =
+    omega (arith, c .before .before .before .before .before .before .pre, waiting-within (a .line)) in
     let es = take (a .k) (a .line .entries) ++ a .e ∷ drop (a .k) (a .line .entries) in
-    let h : c .before .before .loop .i < length es = omega (arith, n, put-length (a .line .entries) (a .k) (a .e) k, waiting-within (a .line)) in
-    let q : take (c .before .before .loop .i + 1) es ≡ take (c .before .before .loop .i) es ++ (getD es (c .before .before .loop .i) empty ∷ []) = next-taken es _ h in
+    let h : c .before .before .loop .i < length es =
+    omega (arith, n, put-length (a .line .entries) (a .k) (a .e) k, waiting-within (a .line)) in
+    let q : take (c .before .before .loop .i + 1) es
+    ≡ take (c .before .before .loop .i) es ++ (getD es (c .before .before .loop .i) empty ∷ []) = next-taken es _ h in
     let m : c .before .before .loop .i ≡ length (take (c .before .before .loop .i) es) = rw length-take (omega arith) in (
       c .before .before .loop .inv .0,
       omega arith,
-      rw q (padded-next (c .before .before .loop .entries) (take (c .before .before .loop .i) es) _ _ _ (c .before .before .loop .inv .2) m (c .entry-after .ensures) (omega arith)),
+      rw q (padded-next (c .before .before .loop .entries) (take (c .before .before .loop .i) es) _ _ _ (c .before .before .loop .inv .2) m
+          (c .entry-after .ensures) (omega arith)),
     )
 
 returns : tie.Need-returns Inv-loop μ-loop
@@ -65,14 +69,17 @@ returns c =
     let es = take (a .k) (a .line .entries) ++ a .e ∷ drop (a .k) (a .line .entries) in
     let ws = take (a .k) (waiting (a .line)) ++ a .e ∷ drop (a .k) (waiting (a .line)) in
     let q : take (suc (c .before .before .before .before .count .result)) es ≡ ws =
-    rw f at (put-first (a .k) (c .before .before .before .before .count .result) (a .line .entries) (a .e) (omega (arith, n, c .before .before .before .before .before .pre))) in
-    let l : length ws ≡ c .before .before .before .before .count .result + 1 = rw n (put-length (waiting (a .line)) (a .k) (a .e) (c .before .before .before .before .before .pre)) in
+    rw f at (put-first (a .k) (c .before .before .before .before .count .result) (a .line .entries) (a .e)
+    (omega (arith, n, c .before .before .before .before .before .pre))) in
+    let l : length ws ≡ c .before .before .before .before .count .result + 1 =
+    rw n (put-length (waiting (a .line)) (a .k) (a .e) (c .before .before .before .before .before .pre)) in
     let i : c .before .loop .i ≡ c .before .before .if1 .len = omega arith in
     let p : take (c .before .before .if1 .len) es ≡ take 15 ws = ⊎-elim
     (λ w. let m : c .before .before .if1 .len ≡ suc (c .before .before .before .before .count .result) = omega (arith, w) in
     ap (λ (j : ℕ). take j es) m ∙ q ∙ sym (take-all 15 ws (omega (arith, w, l))))
     (λ w. let m : c .before .before .if1 .len ≡ 15 = omega (arith, w) in
-    ap (λ (j : ℕ). take j es) m ∙ sym (take-take 15 (suc (c .before .before .before .before .count .result)) es (omega (arith, w))) ∙ ap (take 15) q)
+    ap (λ (j : ℕ). take j es) m ∙ sym (take-take 15 (suc (c .before .before .before .before .count .result)) es (omega (arith, w)))
+    ∙ ap (take 15) q)
     (c .before .before .if1 .came) in
     line-front _ ws _ (rw (i, p) at (c .before .loop .inv .2)) (rw length-take (omega (arith, l, c .before .loop .inv .0)))
 

@@ -50,7 +50,8 @@ loop-again c =
     let h : c .before .before .before .before .loop .i < length (waiting l) = omega (arith, n) in
     let v = rw (waiting-first l _ n) at (c .before .before .before .before .loop .inv .1) in (
       omega arith,
-      rw (waiting-first l _ n) (v ∙ leading-on _ _ _ h (simp (first-there l _ _ n (c .before .before .before .loop-test .taken), le-leb _ _ (c .if1 .left)))),
+      rw (waiting-first l _ n)
+          (v ∙ leading-on _ _ _ h (simp (first-there l _ _ n (c .before .before .before .loop-test .taken), le-leb _ _ (c .if1 .left)))),
     )
 
 returns-2 : tie.Need-returns-2 Inv-loop μ-loop

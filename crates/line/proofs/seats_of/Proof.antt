@@ -43,7 +43,8 @@ loop-less c = search needs
 
 loop-again : tie.Need-loop-again Inv-loop μ-loop
 loop-again c = let l = waiting (c .before .before .before .before .before .before .before .args .line) in
-    let h : c .before .before .before .before .before .loop .i < length l = omega (arith, c .before .before .before .before .before .loop .inv .0) in
+    let h : c .before .before .before .before .before .loop .i < length l =
+    omega (arith, c .before .before .before .before .before .loop .inv .0) in
     let x : c .before .add .last .0 ≡ set (c .before .before .before .before .before .loop .seats)
     (getD l (c .before .before .before .before .before .loop .i) empty .seat) true = c .before .add .ensures
     ∙ ap (λ (y : Entry). set (c .before .before .before .before .before .loop .seats) (y .seat) true)

@@ -7,7 +7,8 @@ use lib.ListN.{length-append, length, take, getD}
 use lib.Seq.{take-all}
 use borrow.Author.Needs.{needs}
 use Rattle.line.specs.Line.{empty, waiting, without, lineOf}
-use Rattle.line.proofs.Laws.{waiting-first, waiting-within, line-is, waiting-lineOf, padded, padded-next, without-struck, without-kept}
+use Rattle.line.proofs.Laws.{waiting-first, waiting-within, line-is, waiting-lineOf, padded, padded-next, without-struck}
+use Rattle.line.proofs.Laws.{without-kept}
 use Rattle.line.proofs.struck.Statement.{statement}
 use Rattle.line.proofs.struck.Tie as tie
 
@@ -45,7 +46,9 @@ loop-again c =
     let l = c .before .before .before .before .before .before .before .args .line in
     let n = c .before .before .before .before .before .before .count .ensures .0 in
     let h : c .before .before .before .before .loop .i < length (l .entries) = omega (arith, n, waiting-within l) in
-    let q = without-struck (c .before .before .before .before .before .before .before .args .seats) (l .entries) _ h (sym (c .before .has .ensures) ∙ c .if1 .taken) in (
+    let q =
+    without-struck (c .before .before .before .before .before .before .before .args .seats) (l .entries) _ h
+    (sym (c .before .has .ensures) ∙ c .if1 .taken) in (
       omega arith,
       c .before .before .before .before .loop .inv .1 ∙ ap length (sym q),
       omega arith,
@@ -69,10 +72,14 @@ loop-again-2 c =
     let l = c .before .before .before .before .before .before .before .args .line in
     let n = c .before .before .before .before .before .before .count .ensures .0 in
     let h : c .before .before .before .before .loop .i < length (l .entries) = omega (arith, n, waiting-within l) in
-    let k = without (c .before .before .before .before .before .before .before .args .seats) (take (c .before .before .before .before .loop .i) (l .entries)) in
+    let k =
+    without (c .before .before .before .before .before .before .before .args .seats)
+    (take (c .before .before .before .before .loop .i) (l .entries)) in
     let x = getD (l .entries) (c .before .before .before .before .loop .i) empty in
-    let q : without (c .before .before .before .before .before .before .before .args .seats) (take (c .before .before .before .before .loop .i + 1) (l .entries)) ≡ k ++ (x ∷ []) =
-    without-kept (c .before .before .before .before .before .before .before .args .seats) (l .entries) _ h (sym (c .before .has .ensures) ∙ c .if1 .left) in
+    let q : without (c .before .before .before .before .before .before .before .args .seats)
+    (take (c .before .before .before .before .loop .i + 1) (l .entries)) ≡ k ++ (x ∷ []) =
+    without-kept (c .before .before .before .before .before .before .before .args .seats) (l .entries) _ h
+    (sym (c .before .has .ensures) ∙ c .if1 .left) in
     let m : c .before .before .before .before .loop .len ≡ length k = c .before .before .before .before .loop .inv .1 in
     let z : length k < 15 = omega (arith, c .before .before .before .before .before .before .count .ensures .1) in (
       omega arith,

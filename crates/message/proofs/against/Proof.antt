@@ -42,7 +42,8 @@ returns-3 c =
     let a = c .before .before .before .before .before .args in
     let h = reached (c .before .before .before) in
     c .at-fault .ensures
-    ∙ between (a .id) (a .len) (a .number) (rw (least-is (a .id) h) at (c .before .if3 .left)) (rw (greatest-is (a .id) h) at (c .before .before .if2 .left))
+    ∙ between (a .id) (a .len) (a .number) (rw (least-is (a .id) h) at (c .before .if3 .left))
+    (rw (greatest-is (a .id) h) at (c .before .before .if2 .left))
 
 returns-4 : tie.Need-returns-4
 returns-4 c =

@@ -1,12 +1,8 @@
 use borrow.Author.Tests.{eq-eqb, ne-eqb}
 use Rattle.words.specs.Choice.{if_then_else_}
 use Rattle.message.specs.Table.{atFault}
-use borrow.Author.Needs.{needs}
-use native.Mathlib.Omega.{arith}
 use Rattle.message.proofs.at_fault.Statement.{statement}
 use Rattle.message.proofs.at_fault.Tie as tie
-use Rattle.message.proofs.at_fault.Reads as reads
-use Rattle.message.proofs.at_fault.Lts as lts
 
 returns : tie.Need-returns
 unfolding atFault if_then_else_

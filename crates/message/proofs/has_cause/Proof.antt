@@ -1,9 +1,6 @@
-use native.Mathlib.Omega.{arith}
 use borrow.Author.Needs.{needs}
 use Rattle.message.proofs.has_cause.Statement.{statement}
 use Rattle.message.proofs.has_cause.Tie as tie
-use Rattle.message.proofs.has_cause.Reads as reads
-use Rattle.message.proofs.has_cause.Lts as lts
 
 enum-told : tie.Need-enum-told
 enum-told c = search needs

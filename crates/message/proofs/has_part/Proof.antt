@@ -1,9 +1,6 @@
-use native.Mathlib.Omega.{arith}
 use borrow.Author.Needs.{needs}
 use Rattle.message.proofs.has_part.Statement.{statement}
 use Rattle.message.proofs.has_part.Tie as tie
-use Rattle.message.proofs.has_part.Reads as reads
-use Rattle.message.proofs.has_part.Lts as lts
 
 enum-told : tie.Need-enum-told
 enum-told c = search needs

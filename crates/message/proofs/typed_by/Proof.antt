@@ -2,15 +2,12 @@ use Prim.Native.Nat.{ℕ, zero, suc}
 use mathlib.Core.Path.{_≡_, refl}
 use Rattle.message.specs.Types.{typed}
 use Rattle.message.specs.declared.Typed.the-variants.{Unlisted}
-use borrow.Author.Needs.{needs}
-use native.Mathlib.Omega.{arith}
 use Rattle.message.proofs.typed_by.Statement.{statement}
 use Rattle.message.proofs.typed_by.Tie as tie
-use Rattle.message.proofs.typed_by.Reads as reads
-use Rattle.message.proofs.typed_by.Lts as lts
 
 -- the numbers that are not listed: 7, and all from 11 on
-unlisted-else : (n : ℕ) → (n ≡ 0 → ⊥) → (n ≡ 1 → ⊥) → (n ≡ 2 → ⊥) → (n ≡ 3 → ⊥) → (n ≡ 4 → ⊥) → (n ≡ 5 → ⊥) → (n ≡ 6 → ⊥) → (n ≡ 8 → ⊥) → (n ≡ 9 → ⊥) → (n ≡ 10 → ⊥) → Unlisted ≡ typed n
+unlisted-else : (n : ℕ) → (n ≡ 0 → ⊥) → (n ≡ 1 → ⊥) → (n ≡ 2 → ⊥) → (n ≡ 3 → ⊥) → (n ≡ 4 → ⊥) → (n ≡ 5 → ⊥) → (n ≡ 6 → ⊥) → (n ≡ 8 → ⊥) →
+    (n ≡ 9 → ⊥) → (n ≡ 10 → ⊥) → Unlisted ≡ typed n
 unlisted-else zero a b d e f g h i j k = absurd (a refl)
 unlisted-else (suc zero) a b d e f g h i j k = absurd (b refl)
 unlisted-else (suc (suc zero)) a b d e f g h i j k = absurd (d refl)
@@ -57,7 +54,8 @@ returns-10 c = rw (c .match .keys10)
 returns-11 : tie.Need-returns-11
 returns-11 c =
     let r = c .match .rest in
-    unlisted-else (c .before .args .low) (r .0 .0 .0 .0 .0 .0 .0 .0 .0 .1) (r .0 .0 .0 .0 .0 .0 .0 .0 .1) (r .0 .0 .0 .0 .0 .0 .0 .1) (r .0 .0 .0 .0 .0 .0 .1) (r .0 .0 .0 .0 .0 .1) (r .0 .0 .0 .0 .1) (r .0 .0 .0 .1) (r .0 .0 .1) (r .0 .1) (r .1)
+    unlisted-else (c .before .args .low) (r .0 .0 .0 .0 .0 .0 .0 .0 .0 .1) (r .0 .0 .0 .0 .0 .0 .0 .0 .1) (r .0 .0 .0 .0 .0 .0 .0 .1)
+    (r .0 .0 .0 .0 .0 .0 .1) (r .0 .0 .0 .0 .0 .1) (r .0 .0 .0 .0 .1) (r .0 .0 .0 .1) (r .0 .0 .1) (r .0 .1) (r .1)
 
 pub typed-by-spec : {M : Type 1} → statement M
 typed-by-spec =

@@ -4,8 +4,6 @@ use native.Mathlib.Omega.{arith}
 use borrow.Author.Needs.{needs}
 use Rattle.octets.proofs.number16.Statement.{statement}
 use Rattle.octets.proofs.number16.Tie as tie
-use Rattle.octets.proofs.number16.Reads as reads
-use Rattle.octets.proofs.number16.Lts as lts
 
 shared-slice-read-result : tie.Need-shared-slice-read-result
 shared-slice-read-result c = search needs
@@ -27,7 +25,11 @@ cast-result-2 c = omega (arith, c .shared-slice-known2 .given (c .before .before
 
 add-result-2 : tie.Need-add-result-2
 add-result-2 c =
-    omega (arith, c .before .shared-slice-known .given (c .before .before .args .at), c .shared-slice-known2 .given (c .before .before .args .at + 1))
+    omega (
+      arith,
+      c .before .shared-slice-known .given (c .before .before .args .at),
+      c .shared-slice-known2 .given (c .before .before .args .at + 1),
+    )
 
 returns : tie.Need-returns
 unfolding be16

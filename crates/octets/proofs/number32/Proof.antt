@@ -1,11 +1,7 @@
 use Rattle.octets.specs.Octets.{be32}
-use native.Mathlib.Omega.{arith}
 use borrow.Author.Needs.{needs}
 use Rattle.octets.proofs.number32.Statement.{statement}
 use Rattle.octets.proofs.number32.Tie as tie
-use Rattle.octets.proofs.number32.Reads as reads
-use Rattle.octets.proofs.number32.Lts as lts
-use Rattle.octets.proofs.number16.Reads as number16-reads
 
 number16-requires : tie.Need-number16-requires
 number16-requires c κs = search needs

@@ -1,11 +1,7 @@
 use Rattle.octets.specs.Octets.{octets16}
-use native.Mathlib.Omega.{arith}
 use borrow.Author.Needs.{needs}
 use Rattle.octets.proofs.put16.Statement.{statement}
 use Rattle.octets.proofs.put16.Tie as tie
-use Rattle.octets.proofs.put16.Reads as reads
-use Rattle.octets.proofs.put16.Lts as lts
-use Rattle.octets.proofs.put_pair.Reads as put-pair-reads
 
 cast-put-pair : tie.Need-cast-put-pair
 cast-put-pair c = search needs

@@ -8,9 +8,6 @@ use native.Mathlib.Omega.{arith}
 use borrow.Author.Needs.{needs}
 use Rattle.octets.proofs.put32.Statement.{statement}
 use Rattle.octets.proofs.put32.Tie as tie
-use Rattle.octets.proofs.put32.Reads as reads
-use Rattle.octets.proofs.put32.Lts as lts
-use Rattle.octets.proofs.put16.Reads as put16-reads
 
 cast-put16 : tie.Need-cast-put16
 cast-put16 c = search needs

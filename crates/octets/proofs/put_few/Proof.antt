@@ -8,8 +8,6 @@ use borrow.Author.Needs.{needs}
 use native.Mathlib.Omega.{arith}
 use Rattle.octets.proofs.put_few.Statement.{statement}
 use Rattle.octets.proofs.put_few.Tie as tie
-use Rattle.octets.proofs.put_few.Reads as reads
-use Rattle.octets.proofs.put_few.Lts as lts
 
 abbrev Inv-loop : tie.InvT-loop
 Inv-loop room₀ at s from count i₀ room i = (i ≤ count) × (length room ≡ length room₀) × (room ≡ over room₀ at (part s from i))

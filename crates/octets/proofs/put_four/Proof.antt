@@ -3,13 +3,9 @@ use mathlib.Core.List.{List}
 use mathlib.Core.Path.{ap, _∙_}
 use Rattle.octets.specs.Octets.{over, part}
 use Rattle.octets.proofs.Over.{over-block}
-use native.Mathlib.Omega.{arith}
 use borrow.Author.Needs.{needs}
 use Rattle.octets.proofs.put_four.Statement.{statement}
 use Rattle.octets.proofs.put_four.Tie as tie
-use Rattle.octets.proofs.put_four.Reads as reads
-use Rattle.octets.proofs.put_four.Lts as lts
-use Rattle.octets.proofs.put_few.Reads as put-few-reads
 
 slice-aggregate-put-few : tie.Need-slice-aggregate-put-few
 slice-aggregate-put-few c = search needs
@@ -30,8 +26,10 @@ returns : tie.Need-returns
 returns c =
     let a = c .before .before .before .before .before .before .before .before .before .before .args in
     c .before .before .put-few2 .ensures
-    ∙ ap (λ (block : List ℕ). over (a .room .now) (a .at) (part block 0 4)) (c .before .before .before .before .before .before .put-few .ensures)
-    ∙ over-block (a .room .now) (a .s .now) _ (a .at) (a .from) 4 (c .before .before .before .before .before .before .before .before .before .before .pre .1)
+    ∙ ap (λ (block : List ℕ). over (a .room .now) (a .at) (part block 0 4))
+    (c .before .before .before .before .before .before .put-few .ensures)
+    ∙ over-block (a .room .now) (a .s .now) _ (a .at) (a .from) 4
+    (c .before .before .before .before .before .before .before .before .before .before .pre .1)
 
 pub put-four-spec : {M : Type 1} → statement M
 put-four-spec =

@@ -7,9 +7,6 @@ use borrow.Author.Needs.{needs}
 use native.Mathlib.Omega.{arith}
 use Rattle.octets.proofs.put_long.Statement.{statement}
 use Rattle.octets.proofs.put_long.Tie as tie
-use Rattle.octets.proofs.put_long.Reads as reads
-use Rattle.octets.proofs.put_long.Lts as lts
-use Rattle.octets.proofs.put_sixty_four.Reads as put-sixty-four-reads
 
 abbrev Inv-loop : tie.InvT-loop
 Inv-loop room₀ at s from count i₀ room i = (i ≤ count - 1) × (length room ≡ length room₀) × (room ≡ over room₀ at (part s from i))
@@ -45,8 +42,12 @@ loop-again c =
     let l = c .before .before .before .before .before .loop in
     let p : a .at + a .count ≤ length (a .room .now) = c .before .before .before .before .before .before .before .before .pre .1 .0 in
     let q : a .from + a .count ≤ length (a .s .now) = c .before .before .before .before .before .before .before .before .pre .1 .1 in
-    let t : 64 < a .count - l .i = c .before .before .before .before .loop-test .taken in
-    (omega arith, c .before .before .put-sixty-four .kept .0 ∙ l .inv .1, over-again (a .room .now) (a .s .now) (a .at) (a .from) (l .i) (l .i) 64 refl (omega arith) (omega arith) (omega arith) (omega arith) (l .inv .2) (c .before .before .put-sixty-four .ensures))
+    let t : 64 < a .count - l .i = c .before .before .before .before .loop-test .taken in (
+      omega arith,
+      c .before .before .put-sixty-four .kept .0 ∙ l .inv .1,
+      over-again (a .room .now) (a .s .now) (a .at) (a .from) (l .i) (l .i) 64 refl (omega arith) (omega arith) (omega arith)
+          (omega arith) (l .inv .2) (c .before .before .put-sixty-four .ensures),
+    )
 
 sub-last : tie.Need-sub-last Inv-loop μ-loop
 sub-last c = search needs
@@ -67,7 +68,9 @@ returns : tie.Need-returns Inv-loop μ-loop
 returns c =
     let a = c .before .before .before .before .before .before .before .before .args in
     let l = c .before .before .before .before .before .loop in
-    over-again (a .room .now) (a .s .now) (a .at) (a .from) (l .i) (a .count - 64) 64 (omega arith) (omega arith) (omega arith) (c .before .before .before .before .before .before .before .before .pre .1 .0) (c .before .before .before .before .before .before .before .before .pre .1 .1)
+    over-again (a .room .now) (a .s .now) (a .at) (a .from) (l .i) (a .count - 64) 64 (omega arith) (omega arith) (omega arith)
+    (c .before .before .before .before .before .before .before .before .pre .1 .0)
+    (c .before .before .before .before .before .before .before .before .pre .1 .1)
     (l .inv .2) (c .before .before .put-sixty-four2 .ensures)
 
 pub put-long-spec : {M : Type 1} → statement M

@@ -8,8 +8,6 @@ use borrow.Author.Needs.{needs}
 use native.Mathlib.Omega.{arith}
 use Rattle.octets.proofs.put_many_zeros.Statement.{statement}
 use Rattle.octets.proofs.put_many_zeros.Tie as tie
-use Rattle.octets.proofs.put_many_zeros.Reads as reads
-use Rattle.octets.proofs.put_many_zeros.Lts as lts
 
 abbrev Inv-loop : tie.InvT-loop
 Inv-loop room₀ at count i₀ room i = (i ≤ count) × (length room ≡ length room₀) × (room ≡ over room₀ at (replicate i 0))

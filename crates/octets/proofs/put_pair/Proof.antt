@@ -7,8 +7,6 @@ use native.Mathlib.Omega.{arith}
 use borrow.Author.Needs.{needs}
 use Rattle.octets.proofs.put_pair.Statement.{statement}
 use Rattle.octets.proofs.put_pair.Tie as tie
-use Rattle.octets.proofs.put_pair.Reads as reads
-use Rattle.octets.proofs.put_pair.Lts as lts
 
 slice-write-room : tie.Need-slice-write-room
 slice-write-room c = search needs

@@ -4,11 +4,6 @@ use native.Mathlib.Omega.{arith}
 use borrow.Author.Needs.{needs}
 use Rattle.octets.proofs.put_part.Statement.{statement}
 use Rattle.octets.proofs.put_part.Tie as tie
-use Rattle.octets.proofs.put_part.Reads as reads
-use Rattle.octets.proofs.put_part.Lts as lts
-use Rattle.octets.proofs.put_long.Reads as put-long-reads
-use Rattle.octets.proofs.put_short.Reads as put-short-reads
-use Rattle.octets.proofs.put_thirty_two.Reads as put-thirty-two-reads
 
 put-long-requires : tie.Need-put-long-requires
 put-long-requires c κs = search needs
@@ -40,7 +35,9 @@ same-length-2 c = search needs
 returns-2 : tie.Need-returns-2
 returns-2 c =
     let a = c .before .before .before .before .before .before .before .before .before .before .before .before .args in
-    over-again (a .room .now) (a .s .now) (a .at) (a .from) 32 (a .count - 32) 32 (omega arith) (omega arith) (omega arith) (c .before .before .before .before .before .before .before .before .before .before .before .before .pre .0) (c .before .before .before .before .before .before .before .before .before .before .before .before .pre .1)
+    over-again (a .room .now) (a .s .now) (a .at) (a .from) 32 (a .count - 32) 32 (omega arith) (omega arith) (omega arith)
+    (c .before .before .before .before .before .before .before .before .before .before .before .before .pre .0)
+    (c .before .before .before .before .before .before .before .before .before .before .before .before .pre .1)
     (c .before .before .before .before .before .before .put-thirty-two .ensures) (c .before .before .put-thirty-two2 .ensures)
 
 same-length-3 : tie.Need-same-length-3

@@ -4,12 +4,6 @@ use native.Mathlib.Omega.{arith}
 use borrow.Author.Needs.{needs}
 use Rattle.octets.proofs.put_short.Statement.{statement}
 use Rattle.octets.proofs.put_short.Tie as tie
-use Rattle.octets.proofs.put_short.Reads as reads
-use Rattle.octets.proofs.put_short.Lts as lts
-use Rattle.octets.proofs.put_eight.Reads as put-eight-reads
-use Rattle.octets.proofs.put_few.Reads as put-few-reads
-use Rattle.octets.proofs.put_four.Reads as put-four-reads
-use Rattle.octets.proofs.put_sixteen.Reads as put-sixteen-reads
 
 put-sixteen-requires : tie.Need-put-sixteen-requires
 put-sixteen-requires c κs = search needs
@@ -56,7 +50,9 @@ same-length c = search needs
 returns : tie.Need-returns
 returns c =
     let a = c .before .before .before .before .before .before .before .before .before .before .before .args in
-    over-again (a .room .now) (a .s .now) (a .at) (a .from) 16 (a .count - 16) 16 (omega arith) (omega arith) (omega arith) (c .before .before .before .before .before .before .before .before .before .before .before .pre .1 .0) (c .before .before .before .before .before .before .before .before .before .before .before .pre .1 .1)
+    over-again (a .room .now) (a .s .now) (a .at) (a .from) 16 (a .count - 16) 16 (omega arith) (omega arith) (omega arith)
+    (c .before .before .before .before .before .before .before .before .before .before .before .pre .1 .0)
+    (c .before .before .before .before .before .before .before .before .before .before .before .pre .1 .1)
     (c .before .before .before .before .before .before .put-sixteen .ensures) (c .before .before .put-sixteen2 .ensures)
 
 same-length-2 : tie.Need-same-length-2
@@ -65,7 +61,9 @@ same-length-2 c = search needs
 returns-2 : tie.Need-returns-2
 returns-2 c =
     let a = c .before .before .before .before .before .before .before .before .before .before .before .before .args in
-    over-again (a .room .now) (a .s .now) (a .at) (a .from) 8 (a .count - 8) 8 (omega arith) (omega arith) (omega arith) (c .before .before .before .before .before .before .before .before .before .before .before .before .pre .1 .0) (c .before .before .before .before .before .before .before .before .before .before .before .before .pre .1 .1)
+    over-again (a .room .now) (a .s .now) (a .at) (a .from) 8 (a .count - 8) 8 (omega arith) (omega arith) (omega arith)
+    (c .before .before .before .before .before .before .before .before .before .before .before .before .pre .1 .0)
+    (c .before .before .before .before .before .before .before .before .before .before .before .before .pre .1 .1)
     (c .before .before .before .before .before .before .put-eight .ensures) (c .before .before .put-eight2 .ensures)
 
 same-length-3 : tie.Need-same-length-3
@@ -74,7 +72,9 @@ same-length-3 c = search needs
 returns-3 : tie.Need-returns-3
 returns-3 c =
     let a = c .before .before .before .before .before .before .before .before .before .before .before .before .before .args in
-    over-again (a .room .now) (a .s .now) (a .at) (a .from) 4 (a .count - 4) 4 (omega arith) (omega arith) (omega arith) (c .before .before .before .before .before .before .before .before .before .before .before .before .before .pre .1 .0) (c .before .before .before .before .before .before .before .before .before .before .before .before .before .pre .1 .1)
+    over-again (a .room .now) (a .s .now) (a .at) (a .from) 4 (a .count - 4) 4 (omega arith) (omega arith) (omega arith)
+    (c .before .before .before .before .before .before .before .before .before .before .before .before .before .pre .1 .0)
+    (c .before .before .before .before .before .before .before .before .before .before .before .before .before .pre .1 .1)
     (c .before .before .before .before .before .before .put-four .ensures) (c .before .before .put-four2 .ensures)
 
 same-length-4 : tie.Need-same-length-4

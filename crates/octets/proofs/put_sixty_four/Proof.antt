@@ -3,9 +3,6 @@ use native.Mathlib.Omega.{arith}
 use borrow.Author.Needs.{needs}
 use Rattle.octets.proofs.put_sixty_four.Statement.{statement}
 use Rattle.octets.proofs.put_sixty_four.Tie as tie
-use Rattle.octets.proofs.put_sixty_four.Reads as reads
-use Rattle.octets.proofs.put_sixty_four.Lts as lts
-use Rattle.octets.proofs.put_thirty_two.Reads as put-thirty-two-reads
 
 put-thirty-two-requires : tie.Need-put-thirty-two-requires
 put-thirty-two-requires c κs = search needs
@@ -25,7 +22,9 @@ same-length c = search needs
 returns : tie.Need-returns
 returns c =
     let a = c .before .before .before .before .before .before .before .before .before .before .args in
-    over-again (a .room .now) (a .s .now) (a .at) (a .from) 32 32 32 (omega arith) (omega arith) (omega arith) (c .before .before .before .before .before .before .before .before .before .before .pre .0) (c .before .before .before .before .before .before .before .before .before .before .pre .1)
+    over-again (a .room .now) (a .s .now) (a .at) (a .from) 32 32 32 (omega arith) (omega arith) (omega arith)
+    (c .before .before .before .before .before .before .before .before .before .before .pre .0)
+    (c .before .before .before .before .before .before .before .before .before .before .pre .1)
     (c .before .before .before .before .before .before .put-thirty-two .ensures) (c .before .before .put-thirty-two2 .ensures)
 
 pub put-sixty-four-spec : {M : Type 1} → statement M

@@ -3,9 +3,6 @@ use native.Mathlib.Omega.{arith}
 use borrow.Author.Needs.{needs}
 use Rattle.octets.proofs.put_thirty_two.Statement.{statement}
 use Rattle.octets.proofs.put_thirty_two.Tie as tie
-use Rattle.octets.proofs.put_thirty_two.Reads as reads
-use Rattle.octets.proofs.put_thirty_two.Lts as lts
-use Rattle.octets.proofs.put_sixteen.Reads as put-sixteen-reads
 
 put-sixteen-requires : tie.Need-put-sixteen-requires
 put-sixteen-requires c κs = search needs
@@ -25,7 +22,9 @@ same-length c = search needs
 returns : tie.Need-returns
 returns c =
     let a = c .before .before .before .before .before .before .before .before .before .before .args in
-    over-again (a .room .now) (a .s .now) (a .at) (a .from) 16 16 16 (omega arith) (omega arith) (omega arith) (c .before .before .before .before .before .before .before .before .before .before .pre .0) (c .before .before .before .before .before .before .before .before .before .before .pre .1)
+    over-again (a .room .now) (a .s .now) (a .at) (a .from) 16 16 16 (omega arith) (omega arith) (omega arith)
+    (c .before .before .before .before .before .before .before .before .before .before .pre .0)
+    (c .before .before .before .before .before .before .before .before .before .before .pre .1)
     (c .before .before .before .before .before .before .put-sixteen .ensures) (c .before .before .put-sixteen2 .ensures)
 
 pub put-thirty-two-spec : {M : Type 1} → statement M

@@ -5,10 +5,6 @@ use native.Mathlib.Omega.{arith}
 use borrow.Author.Needs.{needs}
 use Rattle.octets.proofs.put_zeros.Statement.{statement}
 use Rattle.octets.proofs.put_zeros.Tie as tie
-use Rattle.octets.proofs.put_zeros.Reads as reads
-use Rattle.octets.proofs.put_zeros.Lts as lts
-use Rattle.octets.proofs.put_many_zeros.Reads as put-many-zeros-reads
-use Rattle.octets.proofs.put_pair.Reads as put-pair-reads
 
 slice-write-room : tie.Need-slice-write-room
 slice-write-room c = search needs
@@ -35,7 +31,9 @@ same-length : tie.Need-same-length
 same-length c = search needs
 
 returns-2 : tie.Need-returns-2
-returns-2 c = rw (c .match .keys2) (over-one (c .before .before .args .room .now) (c .before .before .args .at) 0 (omega (arith, c .before .before .pre, c .match .keys2)))
+returns-2 c =
+    rw (c .match .keys2) (over-one (c .before .before .args .room .now) (c .before .before .args .at) 0
+    (omega (arith, c .before .before .pre, c .match .keys2)))
 
 same-length-2 : tie.Need-same-length-2
 same-length-2 c = search needs
@@ -49,7 +47,10 @@ same-length-3 c = search needs
 returns-4 : tie.Need-returns-4
 returns-4 c =
     let a = c .before .before .before .before .before .before .args in
-    rw (c .before .before .before .before .match .keys4) (over-turn (a .room .now) (c .before .before .put-pair2 .last .0) (a .at) 2 0 (0 ∷ 0 ∷ []) refl (omega (arith, c .before .before .before .before .before .before .pre, c .before .before .before .before .match .keys4)) (c .before .before .put-pair2 .ensures))
+    rw (c .before .before .before .before .match .keys4)
+    (over-turn (a .room .now) (c .before .before .put-pair2 .last .0) (a .at) 2 0 (0 ∷ 0 ∷ []) refl
+    (omega (arith, c .before .before .before .before .before .before .pre, c .before .before .before .before .match .keys4))
+    (c .before .before .put-pair2 .ensures))
 
 same-length-4 : tie.Need-same-length-4
 same-length-4 c = search needs

@@ -1,15 +1,8 @@
+-- `outgoing::to_send` meets its contract. Assumes nothing.
 use Rattle.outgoing.specs.Outgoing.{outgoing}
-use native.Mathlib.Omega.{arith}
 use borrow.Author.Needs.{needs}
 use Rattle.outgoing.proofs.to_send.Statement.{statement}
 use Rattle.outgoing.proofs.to_send.Tie as tie
-use Rattle.outgoing.proofs.to_send.Reads as reads
-use Rattle.outgoing.proofs.to_send.Lts as lts
-use Rattle.outgoing.proofs.caused.Reads as caused-reads
-use Rattle.outgoing.proofs.granted.Reads as granted-reads
-use Rattle.outgoing.proofs.idle.Reads as idle-reads
-use Rattle.outgoing.proofs.info.Reads as info-reads
-use Rattle.outgoing.proofs.taken.Reads as taken-reads
 
 enum-told : tie.Need-enum-told
 enum-told c = search needs

@@ -1,18 +1,13 @@
+-- `packets::entries` ends, for each line starts behind the last; a line has its number.
 use Prim.Native.Nat.{_≤_, _-_, _+_}
 use mathlib.Core.Path.{_≡_}
 use lib.ListN.{length}
 use borrow.Author.Needs.{needs}
-use native.Mathlib.Omega.{arith}
 use Rattle.packets.proofs.entries.Statement.{statement}
 use Rattle.packets.proofs.entries.Tie as tie
-use Rattle.packets.proofs.entries.Reads as reads
-use Rattle.packets.proofs.entries.Lts as lts
-use Rattle.packets.proofs.entry.Reads as entry-reads
-use Rattle.packets.proofs.find.Reads as find-reads
 
 abbrev Inv-loop : tie.InvT-loop
-Inv-loop all room₀ from₀ count₀ room from count =
-    (from ≤ length all + 1) × (count ≤ from + 1) × (length room ≡ length room₀)
+Inv-loop all room₀ from₀ count₀ room from count = (from ≤ length all + 1) × (count ≤ from + 1) × (length room ≡ length room₀)
 
 abbrev μ-loop : tie.MeasureT-loop
 μ-loop all room₀ from₀ count₀ room from count = length all + 1 - from

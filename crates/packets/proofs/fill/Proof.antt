@@ -1,23 +1,24 @@
-use borrow.Author.Tests.{ltb-true}
-use lib.ListN.{length-set}
-use Prim.Native.Nat.{_≤_, _-_, _+_}
+-- `packets::fill` ends, each turn with one octet fewer to put.
 use mathlib.Core.Path.{_≡_}
 use lib.ListN.{length}
 use borrow.Author.Needs.{needs}
-use native.Mathlib.Omega.{arith}
 use Rattle.packets.proofs.fill.Statement.{statement}
 use Rattle.packets.proofs.fill.Tie as tie
-use Rattle.packets.proofs.fill.Reads as reads
-use Rattle.packets.proofs.fill.Lts as lts
 
 abbrev Inv-loop : tie.InvT-loop
-Inv-loop out₀ at b n k₀ left₀ out k left = (k ≤ length out) × (length out ≡ length out₀)
+Inv-loop out₀ at b n k₀ left₀ out k left = length out ≡ length out₀
 
 abbrev μ-loop : tie.MeasureT-loop
 μ-loop out₀ at b n k₀ left₀ out k left = left
 
 loop-holds : tie.Need-loop-holds Inv-loop μ-loop
 loop-holds c = search needs
+
+same-length : tie.Need-same-length Inv-loop μ-loop
+same-length c = search needs
+
+returns : tie.Need-returns Inv-loop μ-loop
+returns c = search needs
 
 slice-write-out : tie.Need-slice-write-out Inv-loop μ-loop
 slice-write-out c = search needs
@@ -32,13 +33,7 @@ loop-less : tie.Need-loop-less Inv-loop μ-loop
 loop-less c = search needs
 
 loop-again : tie.Need-loop-again Inv-loop μ-loop
-loop-again c = (simp length-set (omega (arith, ltb-true)), simp length-set (c .before .before .loop .inv .1))
-
-same-length : tie.Need-same-length Inv-loop μ-loop
-same-length c = search needs
-
-returns : tie.Need-returns Inv-loop μ-loop
-returns c = search needs
+loop-again c = search needs
 
 same-length-2 : tie.Need-same-length-2 Inv-loop μ-loop
 same-length-2 c = search needs
@@ -53,12 +48,12 @@ fill-spec =
     Inv-loop
     μ-loop
     loop-holds
+    same-length
+    returns
     slice-write-out
     add-k
     sub-left
     loop-less
     loop-again
-    same-length
-    returns
     same-length-2
     returns-2)

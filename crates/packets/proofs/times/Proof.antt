@@ -1,40 +1,23 @@
-use Prim.Native.Nat.{_≤_, _-_, _+_}
-use mathlib.Core.Path.{_≡_}
-use lib.ListN.{length}
+-- `packets::times` stays within four digits.
+use Prim.Native.Nat.{_≤_, _-_}
 use borrow.Author.Needs.{needs}
-use native.Mathlib.Omega.{arith}
 use Rattle.packets.proofs.times.Statement.{statement}
 use Rattle.packets.proofs.times.Tie as tie
-use Rattle.packets.proofs.times.Reads as reads
-use Rattle.packets.proofs.times.Lts as lts
-use Rattle.packets.proofs.digit.Reads as digit-reads
 
 abbrev Inv-loop : tie.InvT-loop
-Inv-loop s at n₀ i₀ n i = (n ≤ 9999) × (i ≤ length s)
+Inv-loop s n₀ i₀ n i = (i ≤ 4) × (n ≤ 9999)
 
 abbrev μ-loop : tie.MeasureT-loop
-μ-loop s at n₀ i₀ n i = length s - i
+μ-loop s n₀ i₀ n i = 4 - i
 
 loop-holds : tie.Need-loop-holds Inv-loop μ-loop
 loop-holds c = search needs
 
-shared-slice-read-digit : tie.Need-shared-slice-read-digit Inv-loop μ-loop
-shared-slice-read-digit c = search needs
-
 digit-requires : tie.Need-digit-requires Inv-loop μ-loop
 digit-requires c κs = search needs
 
-returns : tie.Need-returns Inv-loop μ-loop
-returns c = search needs
-
-returns-2 : tie.Need-returns-2 Inv-loop μ-loop
-returns-2 c = search needs
-
 mul-n : tie.Need-mul-n Inv-loop μ-loop
 mul-n c = search needs
-
-cast-n : tie.Need-cast-n Inv-loop μ-loop
-cast-n c = search needs
 
 add-n : tie.Need-add-n Inv-loop μ-loop
 add-n c = search needs
@@ -48,8 +31,11 @@ loop-less c = search needs
 loop-again : tie.Need-loop-again Inv-loop μ-loop
 loop-again c = search needs
 
-returns-3 : tie.Need-returns-3 Inv-loop μ-loop
-returns-3 c = search needs
+returns : tie.Need-returns Inv-loop μ-loop
+returns c = search needs
+
+returns-2 : tie.Need-returns-2 Inv-loop μ-loop
+returns-2 c = search needs
 
 pub times-spec : {M : Type 1} → statement M
 times-spec =
@@ -58,14 +44,11 @@ times-spec =
     Inv-loop
     μ-loop
     loop-holds
-    shared-slice-read-digit
     digit-requires
-    returns
-    returns-2
     mul-n
-    cast-n
     add-n
     add-i
     loop-less
     loop-again
-    returns-3)
+    returns
+    returns-2)

@@ -6,9 +6,6 @@ use native.Mathlib.Omega.{arith}
 use borrow.Author.Needs.{needs}
 use Rattle.reading.proofs.cause_at.Statement.{statement}
 use Rattle.reading.proofs.cause_at.Tie as tie
-use Rattle.reading.proofs.cause_at.Reads as reads
-use Rattle.reading.proofs.cause_at.Lts as lts
-use Rattle.octets.proofs.number16.Reads as number16-reads
 
 returns : tie.Need-returns
 unfolding causeAt if_then_else_

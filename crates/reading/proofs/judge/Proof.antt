@@ -1,6 +1,6 @@
-use mathlib.Core.Path.{subst}
-use Rattle.reading.specs.declared.Opening.{Opening}
-use Rattle.reading.specs.Walk.{Opens}
+use mathlib.Core.Path.{sym, ap, _∙_}
+use Rattle.header.specs.Opening.{told}
+use Rattle.reading.specs.Reading.{reading}
 use borrow.Author.Needs.{needs}
 use Rattle.reading.proofs.judge.Statement.{statement}
 use Rattle.reading.proofs.judge.Tie as tie
@@ -14,7 +14,7 @@ enum-known-kind c = search needs
 judge-fields-requires : tie.Need-judge-fields-requires
 judge-fields-requires c κs = (
   c .before .before .before .before .before .before .pre,
-  subst (λ (o : Opening). Opens o (c .before .before .before .before .before .before .args .s .now)) (c .before .before .kind .given .1) (c .before .before .before .before .opened .ensures),
+  sym (c .before .before .before .before .opened .ensures) ∙ ap told (c .before .before .kind .given .1),
 )
 
 enum-known-r : tie.Need-enum-known-r
@@ -24,8 +24,9 @@ returns : tie.Need-returns
 returns c = c .judge-fields .ensures
 
 returns-2 : tie.Need-returns-2
+unfolding reading
 returns-2 c = (
-  subst (λ (o : Opening). Opens o (c .before .before .before .before .before .args .s .now)) (c .before .r .given .1) (c .before .before .before .opened .ensures),
+  rw (sym (c .before .before .before .opened .ensures) ∙ ap told (c .before .r .given .1)),
   c .before .before .before .before .before .pre,
 )
 

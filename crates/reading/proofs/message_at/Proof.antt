@@ -1,18 +1,9 @@
 use lib.Dec.{eqb}
-use Rattle.reading.specs.Reading.{messageAt, ackBit}
-use native.Mathlib.Omega.{arith}
+use Rattle.header.specs.Header.{ackBit}
+use Rattle.reading.specs.Reading.{messageAt}
 use borrow.Author.Needs.{needs}
 use Rattle.reading.proofs.message_at.Statement.{statement}
 use Rattle.reading.proofs.message_at.Tie as tie
-use Rattle.reading.proofs.message_at.Reads as reads
-use Rattle.reading.proofs.message_at.Lts as lts
-use Rattle.octets.proofs.number32.Reads as number32-reads
-use Rattle.reading.proofs.cause_at.Reads as cause-at-reads
-use Rattle.reading.proofs.number_at.Reads as number-at-reads
-use Rattle.reading.proofs.octet_at.Reads as octet-at-reads
-use Rattle.reading.proofs.part_at.Reads as part-at-reads
-use Rattle.reading.proofs.queue_at.Reads as queue-at-reads
-use Rattle.reading.proofs.word_at.Reads as word-at-reads
 
 shared-slice-read-t5 : tie.Need-shared-slice-read-t5
 shared-slice-read-t5 c = search needs
@@ -36,7 +27,10 @@ element-copy-out-cause-at : tie.Need-element-copy-out-cause-at
 element-copy-out-cause-at c = search needs
 
 cause-at-requires : tie.Need-cause-at-requires
-cause-at-requires c κs = (c .before .before .before .before .before .before .before .before .pre .two 2, c .before .before .before .before .before .before .before .before .pre .cause)
+cause-at-requires c κs = (
+  c .before .before .before .before .before .before .before .before .pre .two 2,
+  c .before .before .before .before .before .before .before .before .pre .cause,
+)
 
 element-copy-out-queue-at : tie.Need-element-copy-out-queue-at
 element-copy-out-queue-at c = search needs
@@ -54,62 +48,90 @@ element-copy-out-word-at-2 : tie.Need-element-copy-out-word-at-2
 element-copy-out-word-at-2 c = search needs
 
 word-at-requires-2 : tie.Need-word-at-requires-2
-word-at-requires-2 c κs = c .before .before .before .before .before .before .before .before .before .before .before .before .before .before .pre .two 5
+word-at-requires-2 c κs =
+    c .before .before .before .before .before .before .before .before .before .before .before .before .before .before .pre .two 5
 
 element-copy-out-part-at-2 : tie.Need-element-copy-out-part-at-2
 element-copy-out-part-at-2 c = search needs
 
 part-at-requires-2 : tie.Need-part-at-requires-2
-part-at-requires-2 c κs = c .before .before .before .before .before .before .before .before .before .before .before .before .before .before .before .before .pre .two 6
+part-at-requires-2 c κs =
+    c .before .before .before .before .before .before .before .before .before .before .before .before .before .before .before .before .pre
+    .two 6
 
 element-copy-out-word-at-3 : tie.Need-element-copy-out-word-at-3
 element-copy-out-word-at-3 c = search needs
 
 word-at-requires-3 : tie.Need-word-at-requires-3
-word-at-requires-3 c κs = c .before .before .before .before .before .before .before .before .before .before .before .before .before .before .before .before .before .before .pre .two 8
+word-at-requires-3 c κs =
+    c .before .before .before .before .before .before .before .before .before .before .before .before .before .before .before .before
+    .before .before .pre .two 8
 
 element-copy-out-word-at-4 : tie.Need-element-copy-out-word-at-4
 element-copy-out-word-at-4 c = search needs
 
 word-at-requires-4 : tie.Need-word-at-requires-4
-word-at-requires-4 c κs = c .before .before .before .before .before .before .before .before .before .before .before .before .before .before .before .before .before .before .before .before .pre .two 10
+word-at-requires-4 c κs =
+    c .before .before .before .before .before .before .before .before .before .before .before .before .before .before .before .before
+    .before .before .before .before .pre .two 10
 
 element-copy-out-octet-at-2 : tie.Need-element-copy-out-octet-at-2
 element-copy-out-octet-at-2 c = search needs
 
 octet-at-requires-2 : tie.Need-octet-at-requires-2
-octet-at-requires-2 c κs = c .before .before .before .before .before .before .before .before .before .before .before .before .before .before .before .before .before .before .before .before .before .before .pre .two 12
+octet-at-requires-2 c κs =
+    c .before .before .before .before .before .before .before .before .before .before .before .before .before .before .before .before
+    .before .before .before .before .before .before .pre .two 12
 
 element-copy-out-word-at-5 : tie.Need-element-copy-out-word-at-5
 element-copy-out-word-at-5 c = search needs
 
 word-at-requires-5 : tie.Need-word-at-requires-5
-word-at-requires-5 c κs = c .before .before .before .before .before .before .before .before .before .before .before .before .before .before .before .before .before .before .before .before .before .before .before .before .pre .two 13
+word-at-requires-5 c κs =
+    c .before .before .before .before .before .before .before .before .before .before .before .before .before .before .before .before
+    .before .before .before .before .before .before .before .before .pre .two 13
 
 element-copy-out-number-at : tie.Need-element-copy-out-number-at
 element-copy-out-number-at c = search needs
 
 number-at-requires : tie.Need-number-at-requires
-number-at-requires c κs = c .before .before .before .before .before .before .before .before .before .before .before .before .before .before .before .before .before .before .before .before .before .before .before .before .before .before .pre .four
+number-at-requires c κs =
+    c .before .before .before .before .before .before .before .before .before .before .before .before .before .before .before .before
+    .before .before .before .before .before .before .before .before .before .before .pre .four
 
 returns : tie.Need-returns
 unfolding messageAt
 returns c = λ i. record {
-  kind = c .before .before .before .before .before .before .before .before .before .before .before .before .before .before .before .before .before .before .before .before .before .before .before .before .before .before .before .args .kind;
-  ack = eqb (ackBit (c .before .before .before .before .before .before .before .before .before .before .before .before .before .before .before .before .before .before .before .before .before .before .before .before .before .before .before .args .s .now)) 1;
-  ssrc = c .before .before .before .before .before .before .before .before .before .before .before .before .before .before .before .before .before .before .before .before .before .before .before .before .number32 .ensures i;
-  priority = c .before .before .before .before .before .before .before .before .before .before .before .before .before .before .before .before .before .before .before .before .before .before .octet-at .ensures i;
-  duration = c .before .before .before .before .before .before .before .before .before .before .before .before .before .before .before .before .before .before .before .before .word-at .ensures i;
-  cause = c .before .before .before .before .before .before .before .before .before .before .before .before .before .before .before .before .before .before .cause-at .ensures i;
-  queue = c .before .before .before .before .before .before .before .before .before .before .before .before .before .before .before .before .queue-at .ensures i;
-  granted = c .before .before .before .before .before .before .before .before .before .before .before .before .before .before .part-at .ensures i;
+  kind =
+      c .before .before .before .before .before .before .before .before .before .before .before .before .before .before .before .before
+      .before .before .before .before .before .before .before .before .before .before .before .args .kind;
+  ack =
+      eqb (ackBit (c .before .before .before .before .before .before .before .before .before .before .before .before .before .before .before
+      .before .before .before .before .before .before .before .before .before .before .before .before .args .s .now)) 1;
+  ssrc =
+      c .before .before .before .before .before .before .before .before .before .before .before .before .before .before .before .before
+      .before .before .before .before .before .before .before .before .number32 .ensures i;
+  priority =
+      c .before .before .before .before .before .before .before .before .before .before .before .before .before .before .before .before
+      .before .before .before .before .before .before .octet-at .ensures i;
+  duration =
+      c .before .before .before .before .before .before .before .before .before .before .before .before .before .before .before .before
+      .before .before .before .before .word-at .ensures i;
+  cause =
+      c .before .before .before .before .before .before .before .before .before .before .before .before .before .before .before .before
+      .before .before .cause-at .ensures i;
+  queue =
+      c .before .before .before .before .before .before .before .before .before .before .before .before .before .before .before .before
+      .queue-at .ensures i;
+  granted =
+      c .before .before .before .before .before .before .before .before .before .before .before .before .before .before .part-at .ensures i;
   permission = c .before .before .before .before .before .before .before .before .before .before .before .before .word-at2 .ensures i;
   user = c .before .before .before .before .before .before .before .before .before .before .part-at2 .ensures i;
   sequence = c .before .before .before .before .before .before .before .before .word-at3 .ensures i;
   source = c .before .before .before .before .before .before .word-at4 .ensures i;
-  subject = c .before .before .before .before .octet-at2 .ensures i;
+  «message_type» = c .before .before .before .before .octet-at2 .ensures i;
   indicator = c .before .before .word-at5 .ensures i;
-  party = c .number-at .ensures i;
+  «ssrc_field» = c .number-at .ensures i;
 }
 
 pub message-at-spec : {M : Type 1} → statement M

@@ -1,13 +1,9 @@
 use borrow.Author.Tests.{eq-eqb, ne-eqb}
 use Rattle.words.specs.Choice.{if_then_else_}
 use Rattle.reading.specs.Reading.{numberAt}
-use native.Mathlib.Omega.{arith}
 use borrow.Author.Needs.{needs}
 use Rattle.reading.proofs.number_at.Statement.{statement}
 use Rattle.reading.proofs.number_at.Tie as tie
-use Rattle.reading.proofs.number_at.Reads as reads
-use Rattle.reading.proofs.number_at.Lts as lts
-use Rattle.octets.proofs.number32.Reads as number32-reads
 
 returns : tie.Need-returns
 unfolding numberAt if_then_else_

@@ -6,8 +6,6 @@ use native.Mathlib.Omega.{arith}
 use borrow.Author.Needs.{needs}
 use Rattle.reading.proofs.part_at.Statement.{statement}
 use Rattle.reading.proofs.part_at.Tie as tie
-use Rattle.reading.proofs.part_at.Reads as reads
-use Rattle.reading.proofs.part_at.Lts as lts
 
 returns : tie.Need-returns
 unfolding partAt if_then_else_

@@ -10,8 +10,6 @@ use native.Mathlib.Omega.{arith}
 use borrow.Author.Needs.{needs}
 use Rattle.reading.proofs.part_in.Statement.{statement}
 use Rattle.reading.proofs.part_in.Tie as tie
-use Rattle.reading.proofs.part_in.Reads as reads
-use Rattle.reading.proofs.part_in.Lts as lts
 
 enum-known-p : tie.Need-enum-known-p
 enum-known-p c = search needs
@@ -53,7 +51,8 @@ returns-2 c =
     let from = c .before .before .before .before .p .given .0 .0 in
     let count = c .before .before .before .before .p .given .0 .1 .0 in
     let h : from + count ≤ length s = omega (arith, c .before .before .if1 .taken, c .before .if2 .taken) in
-    rw (c .before .before .before .before .p .given .1, le-leb (from + count) (length s) h) (ap (λ (k : ℕ). take k (drop from s)) (add-sub-cancel-left from count), refl)
+    rw (c .before .before .before .before .p .given .1, le-leb (from + count) (length s) h)
+    (ap (λ (k : ℕ). take k (drop from s)) (add-sub-cancel-left from count), refl)
 
 sub-result-3 : tie.Need-sub-result-3
 sub-result-3 c = search needs

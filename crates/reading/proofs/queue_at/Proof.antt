@@ -1,12 +1,9 @@
 use borrow.Author.Tests.{eq-eqb, ne-eqb}
 use Rattle.words.specs.Choice.{if_then_else_}
 use Rattle.reading.specs.Reading.{queueAt}
-use native.Mathlib.Omega.{arith}
 use borrow.Author.Needs.{needs}
 use Rattle.reading.proofs.queue_at.Statement.{statement}
 use Rattle.reading.proofs.queue_at.Tie as tie
-use Rattle.reading.proofs.queue_at.Reads as reads
-use Rattle.reading.proofs.queue_at.Lts as lts
 
 returns : tie.Need-returns
 unfolding queueAt if_then_else_

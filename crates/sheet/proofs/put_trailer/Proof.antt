@@ -1,9 +1,10 @@
+-- `sheet::put_trailer` meets its contract: one run of octets after the other. Assumes nothing.
 use Rattle.octets.specs.Octets.{octets16}
 use mathlib.Core.List.{[], _∷_, _++_}
 use lib.ListN.{length}
 use Prim.Native.Nat.{_≤_}
 use mathlib.Core.Path.{refl}
-use Rattle.sheet.proofs.Walks.{over-then}
+use Rattle.octets.proofs.Over.{run as over-then}
 use Rattle.sheet.specs.Layout.{trailer, form, letters}
 use native.Mathlib.Omega.{arith}
 use borrow.Author.Needs.{needs}
@@ -37,14 +38,27 @@ same-length c = search needs
 returns : tie.Need-returns
 unfolding trailer octets16
 returns c =
-    let a = c .before .before .before .before .before .before .before .before .before .before .before .before .before .before .before .before .before .args in
+    let a =
+    c .before .before .before .before .before .before .before .before .before .before .before .before .before .before .before .before
+    .before .args in
     let room = a .room .now in
     let at = a .at in
-    let h : at ≤ length room = omega (arith, c .before .before .before .before .before .before .before .before .before .before .before .before .before .before .before .before .before .pre) in
-    let e1 = c .before .before .before .before .before .before .before .before .before .before .before .before .before .before .put16 .ensures in
-    let e2 = over-then room _ _ at 2 (octets16 (a .offset)) (octets16 0) refl h e1 (c .before .before .before .before .before .before .before .before .before .before .put162 .ensures) in
-    let e3 = over-then room _ _ at 4 (octets16 (a .offset) ++ octets16 0) (a .count ∷ form ∷ []) refl h e2 (c .before .before .before .before .before .before .put-pair .ensures) in
-    over-then room _ _ at 6 (octets16 (a .offset) ++ octets16 0 ++ (a .count ∷ form ∷ [])) (octets16 letters) refl h e3 (c .before .before .put163 .ensures)
+    let h : at ≤ length room =
+    omega (
+      arith,
+      c .before .before .before .before .before .before .before .before .before .before .before .before .before .before
+          .before .before .before .pre,
+    ) in
+    let e1 =
+    c .before .before .before .before .before .before .before .before .before .before .before .before .before .before .put16 .ensures in
+    let e2 =
+    over-then room _ _ at 2 (octets16 (a .offset)) (octets16 0) h refl e1
+    (c .before .before .before .before .before .before .before .before .before .before .put162 .ensures) in
+    let e3 =
+    over-then room _ _ at 4 (octets16 (a .offset) ++ octets16 0) (a .count ∷ form ∷ []) h refl e2
+    (c .before .before .before .before .before .before .put-pair .ensures) in
+    over-then room _ _ at 6 (octets16 (a .offset) ++ octets16 0 ++ (a .count ∷ form ∷ [])) (octets16 letters) h refl e3
+    (c .before .before .put163 .ensures)
 
 pub put-trailer-spec : {M : Type 1} → statement M
 put-trailer-spec =

@@ -1,5 +1,4 @@
--- `thursday::show_waiting` is safe and ends: as many places of the wall screen's list are read as there are entries in line, at most fifteen.
--- Assumes nothing.
+-- `thursday::show_waiting` ends, each turn an entry further; a line has at most fifteen.
 use Prim.Native.Nat.{_≤_, _-_}
 use mathlib.Core.Path.{_≡_}
 use lib.ListN.{length}
@@ -8,19 +7,16 @@ use Rattle.thursday.proofs.show_waiting.Statement.{statement}
 use Rattle.thursday.proofs.show_waiting.Tie as tie
 
 abbrev Inv-loop : tie.InvT-loop
-Inv-loop n entries i₀ t7 i = (i ≤ n) × (n ≤ 15) × (length entries ≡ 15) × (length t7 ≡ 6)
+Inv-loop n entries i₀ i = (i ≤ n) × (n ≤ 15) × (length entries ≡ 15)
 
 abbrev μ-loop : tie.MeasureT-loop
-μ-loop n entries i₀ t7 i = n - i
+μ-loop n entries i₀ i = n - i
 
 count-requires : tie.Need-count-requires Inv-loop μ-loop
 count-requires c κs = search needs
 
 listed-requires : tie.Need-listed-requires Inv-loop μ-loop
 listed-requires c κs = search needs
-
-slice-aggregate-say : tie.Need-slice-aggregate-say Inv-loop μ-loop
-slice-aggregate-say c = search needs
 
 say-requires : tie.Need-say-requires Inv-loop μ-loop
 say-requires c κs = search needs
@@ -34,11 +30,8 @@ mul-e c = search needs
 array-copy-out-e : tie.Need-array-copy-out-e Inv-loop μ-loop
 array-copy-out-e c = search needs
 
-slice-aggregate-show-holder : tie.Need-slice-aggregate-show-holder Inv-loop μ-loop
-slice-aggregate-show-holder c = search needs
-
-show-holder-requires : tie.Need-show-holder-requires Inv-loop μ-loop
-show-holder-requires c κs = search needs
+show-floor-requires : tie.Need-show-floor-requires Inv-loop μ-loop
+show-floor-requires c κs = search needs
 
 add-i : tie.Need-add-i Inv-loop μ-loop
 add-i c = search needs
@@ -60,13 +53,11 @@ show-waiting-spec =
     μ-loop
     count-requires
     listed-requires
-    slice-aggregate-say
     say-requires
     loop-holds
     mul-e
     array-copy-out-e
-    slice-aggregate-show-holder
-    show-holder-requires
+    show-floor-requires
     add-i
     loop-less
     loop-again

@@ -2,39 +2,63 @@ use Prim.Native.Nat.{_+_, _≤_}
 use mathlib.Core.Path.{refl}
 use lib.ListN.{length, drop}
 use Rattle.message.specs.Table.{rowIn}
-use Rattle.writing.specs.Wire.{body}
+use Rattle.field_writing.specs.Wire.{body}
 use Rattle.writing.specs.Puts.{restFields}
-use Rattle.writing.proofs.Bodies.{field-fits, field-rest, lay-field, lay-end}
+use Rattle.field_writing.proofs.Bodies.{field-fits, field-rest, lay-field, lay-end}
 use borrow.Author.Needs.{needs}
 use Rattle.words.specs.Choice.{if_then_else_}
 use Rattle.writing.proofs.put_rest.Statement.{statement}
 use Rattle.writing.proofs.put_rest.Tie as tie
-use Rattle.writing.proofs.put_rest.Reads as reads
-use Rattle.writing.proofs.put_rest.Lts as lts
-use Rattle.writing.proofs.put_identity.Reads as put-identity-reads
-use Rattle.writing.proofs.put_number.Reads as put-number-reads
-use Rattle.writing.proofs.put_octet.Reads as put-octet-reads
-use Rattle.writing.proofs.put_word.Reads as put-word-reads
 
 -- room is left behind each field for those that follow
-fits-1 : (c : tie.After-put-identity) → c .put-identity .result + length (body (drop 1 (restFields (c .before .before .before .before .args .m) (c .before .before .before .before .args .src .now)))) ≤ length (c .put-identity .last .0)
+fits-1 : (c : tie.After-put-identity) →
+    c .put-identity .result
+    + length (body (drop 1 (restFields (c .before .before .before .before .args .m) (c .before .before .before .before .args .src .now))))
+    ≤ length (c .put-identity .last .0)
 fits-1 c = field-rest _ _ _ _ _ (c .before .before .before .before .pre .1) (c .put-identity .ensures)
 
-fits-2 : (c : tie.After-put-word) → c .put-word .result + length (body (drop 2 (restFields (c .before .before .before .before .before .before .before .before .args .m) (c .before .before .before .before .before .before .before .before .args .src .now)))) ≤ length (c .put-word .last .0)
+fits-2 : (c : tie.After-put-word) →
+    c .put-word .result + length
+    (body (drop 2 (restFields (c .before .before .before .before .before .before .before .before .args .m)
+    (c .before .before .before .before .before .before .before .before .args .src .now)))) ≤ length (c .put-word .last .0)
 fits-2 c = field-rest _ _ _ _ _ (fits-1 (c .before .before .before .before)) (c .put-word .ensures)
 
-fits-3 : (c : tie.After-put-word2) → c .put-word2 .result + length (body (drop 3 (restFields (c .before .before .before .before .before .before .before .before .before .before .before .before .args .m) (c .before .before .before .before .before .before .before .before .before .before .before .before .args .src .now)))) ≤ length (c .put-word2 .last .0)
+fits-3 : (c : tie.After-put-word2) →
+    c .put-word2 .result + length
+    (body (drop 3 (restFields (c .before .before .before .before .before .before .before .before .before .before .before .before .args .m)
+    (c .before .before .before .before .before .before .before .before .before .before .before .before .args .src .now))))
+    ≤ length (c .put-word2 .last .0)
 fits-3 c = field-rest _ _ _ _ _ (fits-2 (c .before .before .before .before)) (c .put-word2 .ensures)
 
-fits-4 : (c : tie.After-put-octet) → c .put-octet .result + length (body (drop 4 (restFields (c .before .before .before .before .before .before .before .before .before .before .before .before .before .before .before .before .args .m) (c .before .before .before .before .before .before .before .before .before .before .before .before .before .before .before .before .args .src .now)))) ≤ length (c .put-octet .last .0)
+fits-4 : (c : tie.After-put-octet) →
+    c .put-octet .result + length
+    (body (drop 4 (restFields
+    (c .before .before .before .before .before .before .before .before .before .before .before .before .before .before .before .before .args
+    .m) (c .before .before .before .before .before .before .before .before .before .before .before .before .before .before .before .before
+    .args .src .now)))) ≤ length (c .put-octet .last .0)
 fits-4 c = field-rest _ _ _ _ _ (fits-3 (c .before .before .before .before)) (c .put-octet .ensures)
 
-fits-5 : (c : tie.After-put-word3) → c .put-word3 .result + length (body (drop 5 (restFields (c .before .before .before .before .before .before .before .before .before .before .before .before .before .before .before .before .before .before .before .before .args .m) (c .before .before .before .before .before .before .before .before .before .before .before .before .before .before .before .before .before .before .before .before .args .src .now)))) ≤ length (c .put-word3 .last .0)
+fits-5 : (c : tie.After-put-word3) →
+    c .put-word3 .result + length
+    (body (drop 5 (restFields
+    (c .before .before .before .before .before .before .before .before .before .before .before .before .before .before .before .before
+    .before .before .before .before .args .m)
+    (c .before .before .before .before .before .before .before .before .before .before .before .before .before .before .before .before
+    .before .before .before .before .args .src .now)))) ≤ length (c .put-word3 .last .0)
 fits-5 c = field-rest _ _ _ _ _ (fits-4 (c .before .before .before .before)) (c .put-word3 .ensures)
 
 put-identity-requires : tie.Need-put-identity-requires
 unfolding rowIn if_then_else_
-put-identity-requires c κs = (refl, (c .before .before .before .pre .0 .short .user, (c .before .before .before .pre .0 .user, field-fits _ _ _ (c .before .before .before .args .room .now) _ (c .before .before .before .pre .1))))
+put-identity-requires c κs = (
+  refl,
+  (
+    c .before .before .before .pre .0 .short .user,
+    (
+      c .before .before .before .pre .0 .user,
+      field-fits _ _ _ (c .before .before .before .args .room .now) _ (c .before .before .before .pre .1),
+    ),
+  ),
+)
 
 put-word-requires : tie.Need-put-word-requires
 unfolding rowIn if_then_else_
@@ -59,12 +83,27 @@ same-length : tie.Need-same-length
 same-length c = search needs
 
 returns : tie.Need-returns
-returns c = lay-field _ _ _ _ _ (c .before .before .before .before .before .before .before .before .before .before .before .before .before .before .before .before .before .before .before .before .before .before .before .before .before .before .pre .1) (c .before .before .before .before .before .before .before .before .before .before .before .before .before .before .before .before .before .before .before .before .before .before .put-identity .ensures) (
-    lay-field _ _ _ _ _ (fits-1 (c .before .before .before .before .before .before .before .before .before .before .before .before .before .before .before .before .before .before .before .before .before .before)) (c .before .before .before .before .before .before .before .before .before .before .before .before .before .before .before .before .before .before .put-word .ensures) (
-    lay-field _ _ _ _ _ (fits-2 (c .before .before .before .before .before .before .before .before .before .before .before .before .before .before .before .before .before .before)) (c .before .before .before .before .before .before .before .before .before .before .before .before .before .before .put-word2 .ensures) (
-    lay-field _ _ _ _ _ (fits-3 (c .before .before .before .before .before .before .before .before .before .before .before .before .before .before)) (c .before .before .before .before .before .before .before .before .before .before .put-octet .ensures) (
-    lay-field _ _ _ _ _ (fits-4 (c .before .before .before .before .before .before .before .before .before .before)) (c .before .before .before .before .before .before .put-word3 .ensures) (
-    lay-field _ _ _ _ _ (fits-5 (c .before .before .before .before .before .before)) (c .before .before .put-number .ensures) (lay-end _ _))))))
+returns c =
+    lay-field _ _ _ _ _ (c .before .before .before .before .before .before .before .before .before .before .before .before .before .before
+    .before .before .before .before .before .before .before .before .before .before .before .before .pre .1)
+    (c .before .before .before .before .before .before .before .before .before .before .before .before .before .before .before .before
+    .before .before .before .before .before .before .put-identity .ensures) (
+    lay-field _ _ _ _ _ (fits-1
+    (c .before .before .before .before .before .before .before .before .before .before .before .before .before .before .before .before
+    .before .before .before .before .before .before))
+    (c .before .before .before .before .before .before .before .before .before .before .before .before .before .before .before .before
+    .before .before .put-word .ensures) (
+    lay-field _ _ _ _ _ (fits-2
+    (c .before .before .before .before .before .before .before .before .before .before .before .before .before .before .before .before
+    .before .before)) (c .before .before .before .before .before .before .before .before .before .before .before .before .before .before
+    .put-word2 .ensures) (
+    lay-field _ _ _ _ _ (fits-3
+    (c .before .before .before .before .before .before .before .before .before .before .before .before .before .before))
+    (c .before .before .before .before .before .before .before .before .before .before .put-octet .ensures) (
+    lay-field _ _ _ _ _ (fits-4 (c .before .before .before .before .before .before .before .before .before .before))
+    (c .before .before .before .before .before .before .put-word3 .ensures) (
+    lay-field _ _ _ _ _ (fits-5 (c .before .before .before .before .before .before)) (c .before .before .put-number .ensures)
+    (lay-end _ _))))))
 
 pub put-rest-spec : {M : Type 1} → statement M
 put-rest-spec =

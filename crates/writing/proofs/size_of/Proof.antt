@@ -1,12 +1,8 @@
-use Rattle.writing.proofs.Sizes.{front-whole, rest-whole}
+use Rattle.writing.proofs.Lengths.{front-whole, rest-whole}
 use native.Mathlib.Omega.{arith}
 use borrow.Author.Needs.{needs}
 use Rattle.writing.proofs.size_of.Statement.{statement}
 use Rattle.writing.proofs.size_of.Tie as tie
-use Rattle.writing.proofs.size_of.Reads as reads
-use Rattle.writing.proofs.size_of.Lts as lts
-use Rattle.writing.proofs.front_size.Reads as front-size-reads
-use Rattle.writing.proofs.rest_size.Reads as rest-size-reads
 
 front-size-requires : tie.Need-front-size-requires
 front-size-requires c κs = search needs
@@ -15,10 +11,24 @@ rest-size-requires : tie.Need-rest-size-requires
 rest-size-requires c κs = search needs
 
 add-result : tie.Need-add-result
-add-result c = omega (arith, c .before .front-size .ensures, c .rest-size .ensures, front-whole (c .before .before .args .m) (c .before .before .pre) .small, rest-whole (c .before .before .args .m) (c .before .before .pre) .small)
+add-result c =
+    omega (
+      arith,
+      c .before .front-size .ensures,
+      c .rest-size .ensures,
+      front-whole (c .before .before .args .m) (c .before .before .pre) .small,
+      rest-whole (c .before .before .args .m) (c .before .before .pre) .small,
+    )
 
 add-result-2 : tie.Need-add-result-2
-add-result-2 c = omega (arith, c .before .front-size .ensures, c .rest-size .ensures, front-whole (c .before .before .args .m) (c .before .before .pre) .small, rest-whole (c .before .before .args .m) (c .before .before .pre) .small)
+add-result-2 c =
+    omega (
+      arith,
+      c .before .front-size .ensures,
+      c .rest-size .ensures,
+      front-whole (c .before .before .args .m) (c .before .before .pre) .small,
+      rest-whole (c .before .before .args .m) (c .before .before .pre) .small,
+    )
 
 returns : tie.Need-returns
 returns c = search needs

@@ -1,2 +1,0 @@
-pub mod Timers
-pub mod Events

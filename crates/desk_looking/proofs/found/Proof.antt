@@ -1,0 +1,13 @@
+use Rattle.desk_looking.proofs.Signed.{as-it-is}
+use borrow.Author.Needs.{needs}
+use Rattle.desk_looking.proofs.found.Statement.{statement}
+use Rattle.desk_looking.proofs.found.Tie as tie
+
+cast-result : tie.Need-cast-result
+cast-result c = search needs
+
+returns : tie.Need-returns
+returns c = as-it-is _ (c .pre)
+
+pub found-spec : {M : Type 1} → statement M
+found-spec = tie.close (tie.spec cast-result returns)

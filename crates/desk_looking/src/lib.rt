@@ -1,0 +1,126 @@
+// What a function that looks something up or writes something out answers: a number of 0 or more, or minus the number of a refusal.
+// specs/Looking.antt has each answer and what is left in the lent room.
+use hall::Found;
+use line::Line;
+use saving::Saving;
+use steps::Kind;
+use steps::Phase;
+use timers::Running;
+use writing::Writing;
+ghost use mathlib.Core.Path.{_≡_};
+ghost use Prim.Native.Nat.{_*_, _<_, _≤_};
+ghost use lib.ListN.{length};
+ghost use lib.IntN.{pos, negℤ};
+ghost use Rattle.octets.specs.Octets.{over};
+ghost use Rattle.desk_looking.specs.Looking.{signed, holderAnswer, bit, timerSet, seatAnswer, sizeIn, pairs, screened, savedAnswer, tells};
+ghost use Rattle.line.specs.Line.{waiting};
+ghost use Rattle.report_octets.specs.declared.Told.the-variants.{Says};
+ghost use Rattle.saving.specs.Saving.{told};
+ghost use Rattle.writing.specs.Writing as writes;
+ghost use Rattle.desk_octets.specs.Places.{deskSize};
+
+pub fn found(n: u32) -> i32
+    requires { ⌜ n < 2147483648 ⌝ }
+    ensures { λ r. ⌜ r ≡ pos n ⌝ }
+{
+    n as i32
+}
+
+pub fn refusal(n: u8) -> i32
+    ensures { λ r. ⌜ r ≡ negℤ (pos n) ⌝ }
+{
+    0 - (n as i32)
+}
+
+pub fn holder_number(phase: Phase) -> i32
+    ensures { λ r. ⌜ r ≡ signed (holderAnswer phase) ⌝ }
+{
+    match phase {
+        Phase::Stopped => refusal(22),
+        Phase::Idle(_) => refusal(22),
+        Phase::Taken(e, _) => found(256 * e.seat as u32 + e.priority as u32),
+        Phase::Revoking(e, _) => found(256 * e.seat as u32 + e.priority as u32),
+    }
+}
+
+fn bit_of(b: bool, n: u32) -> u32
+    ensures { λ r. ⌜ r ≡ bit b n ⌝ }
+    ensures { λ r. ⌜ r ≤ n ⌝ }
+{
+    if b { n } else { 0 }
+}
+
+pub fn timer_set(t: Running) -> u32
+    ensures { λ r. ⌜ r ≡ timerSet t ⌝ }
+    ensures { λ r. ⌜ r < 2147483648 ⌝ }
+{
+    let first = bit_of(t.t1, 2) + bit_of(t.t2, 4) + bit_of(t.t3, 8) + bit_of(t.t4, 16);
+    first + bit_of(t.t7, 128) + bit_of(t.t8, 256) + bit_of(t.t20, 1048576)
+}
+
+pub fn seat_number(seat: Found) -> i32
+    ensures { λ r. ⌜ r ≡ signed (seatAnswer seat) ⌝ }
+{
+    match seat {
+        Found::At(s) => found(s as u32),
+        Found::Nowhere => refusal(22),
+    }
+}
+
+// Writers: how many they wrote, or minus the number of a refusal, and the room.
+
+// Writes the line into the room, two octets an entry.
+fn put_pairs(room: &mut [u8], line: Line)
+    requires { ⌜ 2 * length (waiting line) ≤ length (now room) ⌝ }
+    ensures { λ _. ⌜ now (room .exit) ≡ over (now (room .entry)) 0 (pairs (waiting line)) ⌝ }
+{
+    let n = line::count(line);
+    let mut i = 0;
+    while i < n {
+        let e = line::entry_at(line, i);
+        octets::put_pair(room, 2 * i, e.seat, e.priority);
+        i += 1;
+    }
+}
+
+pub fn show(line: Line, room: &mut [u8]) -> i32
+    ensures { λ r. ⌜ (r, now (room .exit)) ≡ screened (waiting line) (now (room .entry)) ⌝ }
+{
+    let n = line::count(line);
+    if room.len() < 2 * n {
+        return refusal(13);
+    }
+    put_pairs(room, line);
+    found(n as u32)
+}
+
+pub fn saved_number(saving: Saving) -> i32
+    requires { ⌜ told saving .written ≤ 1124 ⌝ }
+    ensures { λ r. ⌜ r ≡ signed (savedAnswer (told saving)) ⌝ }
+{
+    match saving {
+        Saving::Saved(n) => found(n as u32),
+        Saving::NoRoom => refusal(13),
+    }
+}
+
+// A packet has at most 440 octets.
+pub fn written_number(answer: Writing) -> i32
+    requires { ⌜ sizeIn (writes.told answer) ≤ 440 ⌝ }
+    ensures { λ r. ⌜ r ≡ signed (writes.told answer) ⌝ }
+{
+    match answer {
+        Writing::Written(n) => found(n as u32),
+        Writing::Refused(r) => refusal(message::refusal_number(r)),
+    }
+}
+
+pub fn tell(desk: &[u8], kind: Kind, room: &mut [u8]) -> i32
+    requires { ⌜ deskSize ≤ length (now desk) ⌝ }
+    ensures { λ r. ⌜ (r, now (room .exit)) ≡ tells (now (desk .entry)) (now (room .entry)) (Says kind) ⌝ }
+{
+    let settings = desk_reading::settings_at(desk);
+    let particulars = report_octets::particulars_of(kind);
+    let identity = desk_reading::name_at(desk, particulars.seat);
+    written_number(outgoing::send(settings, kind, identity, room))
+}

@@ -1,0 +1,5 @@
+pub mod Filled
+pub mod InLine
+pub mod Core
+pub mod Seats
+pub mod Sound

@@ -1,0 +1,12 @@
+pub mod All
+pub mod Narrow
+pub mod Numbers
+pub mod Desks
+pub mod Shape
+pub mod Refusals
+pub mod Acts
+pub mod Steps
+pub mod Made
+pub mod Loaded
+pub mod Sheets
+pub mod Wall

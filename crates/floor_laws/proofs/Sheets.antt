@@ -1,0 +1,125 @@
+-- What was loaded is saved octet for octet, and what was saved loads: over what `floor_save` and `floor_load` promise. Assumes nothing.
+use Rattle.desk_octets.specs.Places.{deskSize}
+use Prim.Native.Nat.{ℕ, _≤_, _<_}
+use native.Mathlib.Omega.{arith}
+use mathlib.Core.Path.{_≡_, ap, _∙_, sym}
+use mathlib.Core.Bool.{true, false}
+use mathlib.Core.List.{List}
+use lib.ListN.{length, take}
+use lib.IntN.{ℤ, pos, negsuc}
+use Rattle.words.specs.Choice.{if_then_else_, by-test}
+use Rattle.hall.specs.declared.Hall.{Hall}
+use Rattle.octets.specs.Octets.{over, Octets}
+use Rattle.message.specs.Answers.{refused, result}
+use Rattle.events.specs.declared.Desk.{Desk}
+use Rattle.sheet.specs.Layout.{seatsOf, sheetOf}
+use Rattle.loading.specs.Loading.{loading}
+use Rattle.saving.specs.Saving.{tooShort, saving, writtenBy}
+use Rattle.sheet_laws.specs.Sheets.{IsDesk}
+use Rattle.sheet_laws.proofs.Saved.{saves as saves-all, written as written-all}
+use Rattle.sheet_laws.proofs.Back.{saved-loads}
+use Rattle.sheet_laws.proofs.Again.{written-back}
+use Rattle.desk_octets.specs.Form.{coreAt, hallAt, namesAt}
+use Rattle.desk_test.specs.Lent.{formed}
+use Rattle.desk_looking.specs.Looking.{answers, saveOn}
+use Rattle.floor.specs.Promises.{SavePromise, LoadPromise}
+use Rattle.floor_laws.specs.Kept.{deskIn, loadedAs, LoadedIsSaved, SavedIsLoaded}
+use Rattle.floor_laws.proofs.Desks.{right-at}
+use Rattle.floor_laws.proofs.Made.{first-over}
+use Rattle.floor_laws.proofs.Loaded.{loads, loaded-number, loaded-stands}
+use borrow.Author.Tests.{ltb-true, ltb-false}
+use Rattle.saving.proofs.Saves.{saves-no-room, room-untouched, saves-whole, room-written}
+use Rattle.identities.specs.declared.Names.{Names}
+
+-- what is saved, by cases
+module _ (d room : List ℕ) where
+  abbrev sheet : List ℕ
+  sheet = sheetOf (hallAt d) (namesAt d)
+
+  saves : formed d ≡ true → length sheet ≤ length room → saveOn d room ≡ answers (result (length sheet)) (over room 0 sheet)
+  unfolding if_then_else_
+  saves q t = rw (q, saves-whole (hallAt d) (namesAt d) room t, room-written (hallAt d) (namesAt d) room t)
+
+  saves-short : formed d ≡ true → length room < length sheet → saveOn d room ≡ answers (refused 13) room
+  unfolding if_then_else_
+  saves-short q t = rw (q, saves-no-room (hallAt d) (namesAt d) room t, room-untouched (hallAt d) (namesAt d) room t)
+
+  saves-not : formed d ≡ false → saveOn d room ≡ answers (refused 20) room
+  unfolding if_then_else_
+  saves-not q = rw q
+
+  -- what was saved is the sheet of a desk in the form
+  pub record Saved (n : ℕ) (room′ : List ℕ) : Type 0 where
+    pub inForm : formed d ≡ true
+    pub octets : take n room′ ≡ sheet
+
+  no-number : (n m : ℕ) (room′ : List ℕ) → _≡_ {A = ℤ × List ℕ} (pos n, room′) (negsuc m, room) → Saved n room′
+  no-number n m room′ p = let e : pos n ≡ negsuc m = ap (λ (w : ℤ × List ℕ). w .0) p in let z : _≡_ {A = ℕ} 0 1 = cc in absurd (omega arith)
+
+  whole : (n : ℕ) (room′ : List ℕ) → formed d ≡ true → _≡_ {A = ℤ × List ℕ} (pos n, room′) (pos (length sheet), over room 0 sheet) →
+      Saved n room′
+  whole n room′ q p =
+      let e : pos n ≡ pos (length sheet) = ap (λ (w : ℤ × List ℕ). w .0) p in
+      let l : n ≡ length sheet = cc in
+      let r : room′ ≡ over room 0 sheet = ap (λ (w : ℤ × List ℕ). w .1) p in
+      record { inForm = q; octets = rw (l, r) (first-over room sheet) }
+
+  saved-so : (n : ℕ) (room′ : List ℕ) → SavePromise d room (pos n) room′ → Saved n room′
+  saved-so n room′ p =
+      by-test (formed d)
+      (λ q. by-test (tooShort (hallAt d) (namesAt d) room)
+      (λ t. no-number n 12 room′ (p ∙ saves-short q (ltb-true (length room) (length sheet) t)))
+      (λ t. whole n room′ q (p ∙ saves q (ltb-false (length room) (length sheet) t))))
+      (λ q. no-number n 19 room′ (p ∙ saves-not q))
+
+-- a room as long as the sheet has the sheet written into it
+module _ (h : Hall) (ns : Names) where
+  its-room : saving h ns (sheetOf h ns) .number ≡ 0
+  its-room = saves-all h ns (sheetOf h ns) (omega arith)
+
+  its-sheet : writtenBy h ns (sheetOf h ns) ≡ sheetOf h ns
+  its-sheet = written-all h ns (sheetOf h ns) its-room
+
+sheet-back : (s : List ℕ) → Octets s → loading s .number ≡ 0 → sheetOf (loading s .hall) (loading s .names) ≡ s
+sheet-back s o a =
+    let h = loading s .hall in
+    let ns = loading s .names in
+    sym (its-sheet h ns) ∙ written-back s (sheetOf h ns) o a .octets (its-room h ns)
+
+pub loaded-is-saved : LoadedIsSaved
+loaded-is-saved desk s desk′ p o room n room′ q l =
+    let d = deskIn desk′ in
+    let h = loaded-stands desk s desk′ p o in
+    let e : sheet d room ≡ s =
+    ap (λ (k : Desk). sheetOf (k .hall) (k .names)) (h .stands) ∙ sheet-back s o (loaded-number desk s desk′ p o) in
+    let w : (n, room′) ≡ answers (result (length s)) (over room 0 s) =
+    q ∙ rw e at (saves d room (h .inForm) (rw e l)) in
+    (ap (λ (v : ℤ × List ℕ). v .0) w, ap (λ (v : ℤ × List ℕ). v .1) w)
+
+module _ (d desk : List ℕ) (m : ℕ) (desk′ : List ℕ) where
+  -- what loading makes of the sheet is what the octets hold
+  taken : (s : List ℕ) → s ≡ sheetOf (hallAt d) (namesAt d) → LoadPromise desk s m desk′ → Octets s → deskSize ≤ length desk → Octets d →
+      formed d ≡ true →
+      IsDesk (loadedAs m (deskIn desk′)) (seatsOf (hallAt d) (namesAt d)) (hallAt d .settings)
+  taken s e p o l k q =
+      let i : IsDesk (loading s) (seatsOf (hallAt d) (namesAt d)) (hallAt d .settings) =
+      rw (e ∙ sym (its-sheet (hallAt d) (namesAt d)))
+      (saved-loads (hallAt d) (namesAt d) (sheetOf (hallAt d) (namesAt d)) (right-at d k q .sound .seats)
+      (its-room (hallAt d) (namesAt d))) in
+      let z : m ≡ 0 = ap (λ (w : ℕ × List ℕ). w .0) p ∙ loads desk s (i .accepted) l in
+      let h = loaded-stands desk s desk′ (rw z at p) o in
+      let c : coreAt (deskIn desk′) ≡ loading s .core = ap (λ (x : Desk). x .core) (h .stands) in
+      let a : hallAt (deskIn desk′) ≡ loading s .hall = ap (λ (x : Desk). x .hall) (h .stands) in
+      let b : namesAt (deskIn desk′) ≡ loading s .names = ap (λ (x : Desk). x .names) (h .stands) in
+      record {
+        accepted = z;
+        isFresh = c ∙ i .isFresh;
+        settings = ap (λ (x : Hall). x .settings) a ∙ i .settings;
+        seats = rw (a, b) (i .seats);
+        numbered = λ t u. rw a (i .numbered t u);
+      }
+
+pub saved-is-loaded : SavedIsLoaded
+saved-is-loaded d room n room′ p k desk m desk′ q o l =
+    let w = saved-so d room n room′ p in
+    taken d desk m desk′ (take n room′) (w .octets) q o l k (w .inForm)

@@ -1,3 +1,0 @@
-pub mod Columns
-pub mod Pieces
-pub mod Places

@@ -1,2 +1,0 @@
-// One desk has one string of octets, and one string stands for one desk: laws of crate form, stated in specs/ and proved in proofs/. No
-// code runs here.

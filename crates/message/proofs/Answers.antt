@@ -1,0 +1,36 @@
+-- A refusal has a number of its own: by its number it is known. Assumes nothing.
+use mathlib.Core.List.{List, [], _∷_}
+use mathlib.Core.Path.{_≡_, refl, sym, ap, _∙_}
+use lib.ListN.{getD}
+use Rattle.message.specs.Answers.{Answer, refused, number}
+use Rattle.message.specs.declared.Refusal.{Refusal}
+use Rattle.message.specs.declared.Refusal.the-variants.{TooShort, TooLong, NotVersion2, Padded, NotApplication, WrongLength, NotNamed}
+use Rattle.message.specs.declared.Refusal.the-variants.{UnlistedType, PastTheEnd, AgainstTheTable, Missing, Unreadable, NoRoom}
+
+-- the refusal that each number names, from 1 on; 0 names none
+abbrev refusals : List Refusal
+refusals =
+    TooShort ∷ TooShort ∷ TooLong ∷ NotVersion2 ∷ Padded ∷ NotApplication ∷ WrongLength ∷ NotNamed ∷ UnlistedType ∷ PastTheEnd
+    ∷ AgainstTheTable ∷ Missing ∷ Unreadable ∷ NoRoom ∷ []
+
+named : (r : Refusal) → getD refusals (number r) TooShort ≡ r
+named TooShort = refl
+named TooLong = refl
+named NotVersion2 = refl
+named Padded = refl
+named NotApplication = refl
+named WrongLength = refl
+named NotNamed = refl
+named UnlistedType = refl
+named PastTheEnd = refl
+named AgainstTheTable = refl
+named Missing = refl
+named Unreadable = refl
+named NoRoom = refl
+
+pub number-one : (a b : Refusal) → number a ≡ number b → a ≡ b
+number-one a b e = sym (named a) ∙ ap (λ n. getD refusals n TooShort) e ∙ named b
+
+-- the same of two answers that are refusals
+pub refusal-one : {A : Type 0} (a b : Refusal) → _≡_ {A = Answer A} (refused (number a)) (refused (number b)) → a ≡ b
+refusal-one a b e = number-one a b (cc)

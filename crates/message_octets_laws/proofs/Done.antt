@@ -1,0 +1,97 @@
+-- 0 is answered only where a packet was read and the room has 40 octets. Assumes nothing.
+use Prim.Native.Nat.{ℕ, zero, suc, _≤_}
+use native.Mathlib.Omega.{arith}
+use mathlib.Core.Bool.{Bool, true, false}
+use mathlib.Core.List.{List}
+use mathlib.Core.Path.{_≡_, refl, sym, _∙_}
+use lib.Dec.{ltb}
+use lib.ListN.{length}
+use borrow.Author.Tests.{ltb-false}
+use Rattle.words.specs.Choice.{if_then_else_, by-test, if-yes}
+use Rattle.message.specs.Answers.{Answer, refused, result}
+use Rattle.message.specs.Types.{typed}
+use Rattle.message.specs.Message.{said, complete}
+use Rattle.message.specs.declared.Kind.{Kind}
+use Rattle.message.specs.declared.Typed.{Typed}
+use Rattle.message.specs.declared.Typed.the-variants.{Listed, Unlisted}
+use Rattle.message.specs.declared.Message.{Message}
+use Rattle.field.specs.declared.Found.{Found}
+use Rattle.field.specs.declared.Step.{Step}
+use Rattle.field.specs.declared.Step.the-variants.{Field, End, PastTheEnd, AgainstTheTable}
+use Rattle.field.specs.Fields.{Fields, whole, fault, infront, stepAt, stepThen, fieldsFrom, fieldsIn}
+use Rattle.walk.specs.Starts.{startOf}
+use Rattle.header.specs.Header.{headerSize, typeBits}
+use Rattle.header.specs.Opening.{ofType, opening}
+use Rattle.reading.specs.Reading.{messageAt, judged, opened, reading}
+use Rattle.message_octets.specs.Held.{answered, readHeld}
+use Rattle.message_octets_laws.specs.Laws.{WasRead, ReadIf0}
+use Rattle.message_octets.specs.Places.{messageSize}
+
+-- an answer that is no refusal, or one with a number
+abbrev Numbered : {A : Type 0} → Answer A → Type 0
+Numbered (refused n) = 1 ≤ n
+Numbered (result a) = Unit {0}
+
+-- a walk ends with a number that is not 0
+abbrev Ended : Fields → Type 0
+Ended (whole fs) = Unit {0}
+Ended (fault n) = 1 ≤ n
+
+front-ended : (f : Found) (fs : Fields) → Ended fs → Ended (infront f fs)
+front-ended f (whole fs) e = tt
+front-ended f (fault n) e = e
+
+step-ended : (t : Step) (rest : ℕ → Fields) → ((p : ℕ) → Ended (rest p)) → Ended (stepThen t rest)
+step-ended End rest e = tt
+step-ended PastTheEnd rest e = omega arith
+step-ended AgainstTheTable rest e = omega arith
+step-ended (Field f) rest e = front-ended f (rest (f .next)) (e (f .next))
+
+ended : (steps : ℕ) (s : List ℕ) (at : ℕ) → Ended (fieldsFrom steps s at)
+unfolding fieldsFrom
+ended zero s at = tt
+ended (suc steps) s at = step-ended (stepAt s at) (λ next. fieldsFrom steps s next) (λ p. ended steps s p)
+
+choice : {A : Type 0} (t : Bool) (a b : Answer A) → Numbered a → Numbered b → Numbered (if t then a else b)
+unfolding if_then_else_
+choice true a b p q = p
+choice false a b p q = q
+
+judged-numbered : (k : Kind) (s : List ℕ) (fs : Fields) → Ended fs → Numbered (judged k s fs)
+judged-numbered k s (fault n) e = e
+judged-numbered k s (whole fs) e =
+    choice (complete (said (messageAt k s (startOf fs)) s)) (result (messageAt k s (startOf fs))) (refused 11) tt (omega arith)
+
+type-numbered : (t : Typed) → Numbered (ofType t)
+type-numbered Unlisted = omega arith
+type-numbered (Listed k) = tt
+
+some : (n : ℕ) → 1 ≤ suc n
+some n = omega arith
+
+opening-numbered : (s : List ℕ) → Numbered (opening s)
+unfolding opening
+opening-numbered s =
+    choice _ (refused 1) _ (some 0) (choice _ (refused 2) _ (some 1) (choice _ (refused 3) _ (some 2) (choice _ (refused 4) _ (some 3)
+    (choice _ (refused 5) _ (some 4)
+    (choice _ (refused 6) _ (some 5) (choice _ (refused 7) _ (some 6) (type-numbered (typed (typeBits s)))))))))
+
+opened-numbered : (s : List ℕ) (a : Answer Kind) → Numbered a → Numbered (opened a s)
+unfolding fieldsIn
+opened-numbered s (refused n) p = p
+opened-numbered s (result k) p = judged-numbered k s (fieldsIn s) (ended (length s) s headerSize)
+
+numbered : (s : List ℕ) → Numbered (reading s)
+unfolding reading
+numbered s = opened-numbered s (opening s) (opening-numbered s)
+
+done : (a : Answer Message) (packet : List ℕ) (room : ℕ) → reading packet ≡ a → Numbered a → answered a room ≡ 0 → WasRead packet room
+done (refused n) packet room e p z = absurd (omega arith)
+done (result m) packet room e p z =
+    by-test (ltb room messageSize)
+    (λ t. let z′ : _≡_ {A = ℕ} 13 0 = sym (if-yes (ltb room messageSize) 13 0 t) ∙ z in absurd (omega arith))
+    (λ t. record { message = m; read = e; long = ltb-false room messageSize t })
+
+pub read-if-0 : ReadIf0
+unfolding readHeld
+read-if-0 packet room z = done (reading packet) packet room refl (numbered packet) z

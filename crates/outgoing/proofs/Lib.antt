@@ -1,2 +1,0 @@
--- The desk's messages read back.
-pub mod Back

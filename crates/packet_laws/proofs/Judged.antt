@@ -1,0 +1,95 @@
+-- What the reader's walk has judged of each field that it found, and that those fields do not take more octets than there are.
+-- Assumes nothing.
+use Prim.Native.Nat.{ℕ, zero, suc, _+_, _-_, _≤_, _<_}
+use native.Mathlib.Omega.{arith}
+use mathlib.Core.Path.{_≡_, refl, ap}
+use mathlib.Core.Logic.{_⊎_, inl, inr}
+use mathlib.Core.List.{List, [], _∷_}
+use lib.Dec.{eqb}
+use lib.ListN.{length, getD}
+use borrow.Author.Tests.{eqb-true}
+use Rattle.words.specs.Choice.{if_then_else_, by-test}
+use Rattle.octets.specs.Octets.{be16}
+use Rattle.message.specs.Table.{padded}
+use Rattle.message.specs.Message.{Field}
+use Rattle.field.specs.declared.Found.{Found}
+use Rattle.field.specs.declared.Step.{Step}
+use Rattle.field.specs.Fields.{Fields, whole, fault, infront, stepThen, stepAt, fieldsFrom, idAt, lengthAt}
+use Rattle.walk.specs.Starts.{startOf}
+use Rattle.field.proofs.Steps.{Sound, step-sound}
+use Rattle.packet_laws.proofs.Numbers.{length-place}
+use Rattle.packet_laws.proofs.Fits.{Agrees, agrees}
+
+-- how many octets the first field with this ID takes, and all fields together
+unfoldable pub sizeOf : List Found → ℕ → ℕ
+sizeOf [] i = 0
+sizeOf (f ∷ fs) i = if eqb i (f .id) then padded (f .len) else sizeOf fs i
+
+unfoldable pub total : List Found → ℕ
+total [] = 0
+total (f ∷ fs) = padded (f .len) + total fs
+
+-- the content of a field with this ID starts at a place: it is inside, it is not against the table, and the field takes this size
+pub record Good (s : List ℕ) (i at size : ℕ) : Type 0 where
+  pub starts : 0 < at
+  pub fit : Agrees i (getD s (at - 1) 0) (be16 s at)
+  pub inside : at + getD s (at - 1) 0 ≤ length s
+  pub sized : size ≡ padded (getD s (at - 1) 0)
+
+abbrev pub Judged : List ℕ → ℕ → ℕ → ℕ → Type 0
+Judged s i at size = (at ≡ 0) ⊎ Good s i at size
+
+-- the walk's fields, each judged, and all within the packet
+pub record AllJudged (s : List ℕ) (p : ℕ) (fs : List Found) : Type 0 where
+  pub each : (i : ℕ) → Judged s i (startOf fs i) (sizeOf fs i)
+  pub ends : p ≤ length s → p + total fs ≤ length s
+
+-- one more field in front: it is the first with its ID, and with another ID the first is as it was
+good : (s : List ℕ) (p : ℕ) (f : Found) → Sound s p f → Good s (idAt s p) (p + 2) (padded (lengthAt s p))
+unfolding padded
+good s p f h =
+    record {
+      starts = omega arith;
+      fit = rw length-place (agrees (idAt s p) (lengthAt s p) (be16 s (p + 2)) (h .fine));
+      inside = rw length-place (omega (arith, h .fits));
+      sized = rw length-place;
+    }
+
+front : (s : List ℕ) (p : ℕ) (f : Found) (fs : List Found) → Sound s p f → AllJudged s (f .next) fs → AllJudged s p (f ∷ fs)
+unfolding startOf sizeOf total if_then_else_
+front s p f fs h w =
+    let n : f .next ≡ p + padded (lengthAt s p) = ap (λ (g : Found). g .next) (h .is) in
+    rw (h .is)
+    (record {
+      each = λ i.
+          by-test (eqb i (idAt s p)) (λ q. rw (q, eqb-true i (idAt s p) q) (inr (good s p f h))) (λ q. rw q (w .each i));
+      ends = λ l. omega (arith, h .fits, h .inside, w .ends (omega (arith, h .fits)));
+    })
+
+ended : (s : List ℕ) (p : ℕ) (fs : List Found) → [] ≡ fs → AllJudged s p fs
+unfolding startOf total
+ended s p fs e = rw (← e) (record { each = λ i. inl refl; ends = λ l. omega arith })
+
+-- the rest of a walk that was whole
+record Rest (f : Found) (rest : Fields) (fs : List Found) : Type 0 where
+  found : List Found
+  all : rest ≡ whole found
+  is : f ∷ found ≡ fs
+
+rest-of : (f : Found) (rest : Fields) (fs : List Found) → infront f rest ≡ whole fs → Rest f rest fs
+rest-of f (whole gs) fs e = record { found = gs; all = refl; is = cc }
+rest-of f (fault n) fs e = record { found = []; all = cc; is = cc }
+
+pub all-judged : (s : List ℕ) (steps p : ℕ) (fs : List Found) → fieldsFrom steps s p ≡ whole fs → AllJudged s p fs
+unfolding fieldsFrom
+all-judged s zero p fs e = ended s p fs (cc)
+all-judged s (suc steps) p fs e = go (stepAt s p) refl e (λ q gs. all-judged s steps q gs)
+  where
+    go : (t : Step) → stepAt s p ≡ t → stepThen t (λ next. fieldsFrom steps s next) ≡ whole fs
+        → ((q : ℕ) (gs : List Found) → fieldsFrom steps s q ≡ whole gs → AllJudged s q gs) → AllJudged s p fs
+    go Step.End q h more = ended s p fs (cc)
+    go Step.PastTheEnd q h more = ended s p fs (cc)
+    go Step.AgainstTheTable q h more = ended s p fs (cc)
+    go (Step.Field f) q h more =
+        let r = rest-of f (fieldsFrom steps s (f .next)) fs h in
+        rw (← r .is) (front s p f (r .found) (step-sound s p f q) (more (f .next) (r .found) (r .all)))

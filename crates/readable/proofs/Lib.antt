@@ -1,0 +1,3 @@
+-- Laws that the functions here share, and that the writers above cite.
+pub mod Chains
+pub mod Fits

@@ -1,0 +1,120 @@
+-- The settings as octets: they read back, the octets are written again, and each fits. Assumes nothing.
+use Prim.Native.Nat.{ℕ, zero, suc, _+_, _/_, _<_}
+use native.Mathlib.Nat.{add-zero}
+use native.Mathlib.Omega.{arith}
+use mathlib.Core.List.{List, [], _∷_, _++_}
+use mathlib.Core.Path.{_≡_, refl, ap, sym, _∙_}
+use lib.ListN.{getD, take, drop}
+use Rattle.octets.specs.Octets.{be16, be32, octets16, octets32, part, Octets}
+use Rattle.hall.specs.declared.Settings.{Settings}
+use Rattle.seat_octets.specs.Layout.{settingsOctets, settingsIn}
+use Rattle.seat_octets.specs.Laws.{SettingsLong, SettingsBack, SettingsForth, SettingsAreOctets, SettingsReadFit}
+use Rattle.seat_octets.proofs.Numbers.{number-again, long-again, octet-at, be16-at, be32-at, run, run-is, word-back, long-back}
+
+pub settings-long : SettingsLong
+unfolding settingsOctets octets32 octets16
+settings-long g = refl
+
+-- what stands in their octets, with others behind them
+module _ (g : Settings) (q : List ℕ) where
+  opens : Type 0
+  unfolding settingsOctets octets32 octets16 be16 be32
+  opens = ℕ
+
+  ssrc-there : be32 (settingsOctets g ++ q) 0 ≡ g .ssrc
+  unfolding opens
+  ssrc-there = long-again (g .ssrc)
+
+  level-there : getD (settingsOctets g ++ q) 4 0 ≡ g .level
+  unfolding opens
+  level-there = refl
+
+  limit-there : getD (settingsOctets g ++ q) 5 0 ≡ g .limit
+  unfolding opens
+  limit-there = refl
+
+  c7-there : getD (settingsOctets g ++ q) 6 0 ≡ g .c7
+  unfolding opens
+  c7-there = refl
+
+  c20-there : getD (settingsOctets g ++ q) 7 0 ≡ g .c20
+  unfolding opens
+  c20-there = refl
+
+  duration-there : be16 (settingsOctets g ++ q) 8 ≡ g .duration
+  unfolding opens
+  duration-there = number-again (g .duration)
+
+  zeros-there : be16 (settingsOctets g ++ q) 10 ≡ 0
+  unfolding opens
+  zeros-there = refl
+
+pub settings-back : SettingsBack
+unfolding settingsIn
+settings-back s p q at g is here =
+    let r = settingsOctets g ++ q in (
+      rw (
+        be32-at s p r is at 0 (omega arith) ∙ ssrc-there g q,
+        octet-at s p r is (at + 4) 4 (omega arith) ∙ level-there g q,
+        octet-at s p r is (at + 5) 5 (omega arith) ∙ limit-there g q,
+        octet-at s p r is (at + 6) 6 (omega arith) ∙ c7-there g q,
+        octet-at s p r is (at + 7) 7 (omega arith) ∙ c20-there g q,
+        be16-at s p r is (at + 8) 8 (omega arith) ∙ duration-there g q,
+      ),
+      be16-at s p r is (at + 10) 10 (omega arith) ∙ zeros-there g q,
+    )
+
+-- the octets where the settings were read, from their numbers, with what stands where their zeros are
+abbrev row : List ℕ → ℕ → ℕ → ℕ → List ℕ
+row s m at zs =
+    octets32 (be32 s m) ++ getD s (at + 4) 0 ∷ getD s (at + 5) 0 ∷ getD s (at + 6) 0 ∷ getD s (at + 7) 0 ∷ octets16 (be16 s (at + 8))
+    ++ octets16 zs
+
+row-run : (s : List ℕ) → Octets s → (at : ℕ) → row s (at + 0) at (be16 s (at + 10)) ≡ run s at 0 12
+row-run s o at = rw (long-back s o at 0, word-back s o at 8, word-back s o at 10)
+
+pub settings-forth : SettingsForth
+unfolding settingsOctets settingsIn part
+settings-forth s at o h z =
+    ap (λ (m : ℕ). row s m at 0) (sym (add-zero at)) ∙ ap (row s (at + 0) at) (sym z) ∙ row-run s o at ∙ run-is s at 0 12 (omega arith)
+    ∙ ap (λ (m : ℕ). take 12 (drop m s)) (add-zero at)
+
+-- octets one by one
+abbrev Each : List ℕ → Type 0
+Each [] = Unit {0}
+Each (x ∷ l) = (x < 256) × Each l
+
+each-at : (l : List ℕ) → Each l → Octets l
+each-at [] e i = omega arith
+each-at (x ∷ l) e zero = e .0
+each-at (x ∷ l) e (suc i) = each-at l (e .1) i
+
+pub settings-are-octets : SettingsAreOctets
+unfolding settingsOctets octets32 octets16
+settings-are-octets g k =
+    let a : g .ssrc / 65536 < 65536 = omega (arith, k .ssrc) in
+    each-at (settingsOctets g) (
+      omega (arith, a),
+      (
+        omega arith,
+        (
+          omega arith,
+          (
+            omega arith,
+            (k .level, (k .limit, (k .c7, (k .c20, (omega (arith, k .duration), (omega arith, (omega arith, (omega arith, tt)))))))),
+          ),
+        ),
+      ),
+    )
+
+pub settings-read-fit : SettingsReadFit
+unfolding settingsIn be32 be16
+settings-read-fit s at o =
+    record {
+      ssrc = omega (arith, o at, o (at + 1), o (at + 2), o (at + 2 + 1));
+      level = o (at + 4);
+      limit = o (at + 5);
+      c7 = o (at + 6);
+      c20 = o (at + 7);
+      duration = omega (arith, o (at + 8), o (at + 8 + 1));
+    }

@@ -1,0 +1,89 @@
+-- `seat_octets::put_settings` meets its contract: one run of octets after the other. Assumes nothing.
+use Rattle.octets.specs.Octets.{octets16, octets32}
+use mathlib.Core.List.{[], _∷_, _++_}
+use lib.ListN.{length}
+use Prim.Native.Nat.{_≤_}
+use mathlib.Core.Path.{refl}
+use Rattle.octets.proofs.Over.{run as over-then}
+use Rattle.seat_octets.specs.Layout.{settingsOctets}
+use native.Mathlib.Omega.{arith}
+use borrow.Author.Needs.{needs}
+use Rattle.seat_octets.proofs.put_settings.Statement.{statement}
+use Rattle.seat_octets.proofs.put_settings.Tie as tie
+
+put32-requires : tie.Need-put32-requires
+put32-requires c κs = search needs
+
+add-put-pair : tie.Need-add-put-pair
+add-put-pair c = search needs
+
+put-pair-requires : tie.Need-put-pair-requires
+put-pair-requires c κs = search needs
+
+add-put-pair-2 : tie.Need-add-put-pair-2
+add-put-pair-2 c = search needs
+
+put-pair-requires-2 : tie.Need-put-pair-requires-2
+put-pair-requires-2 c κs = search needs
+
+add-put16 : tie.Need-add-put16
+add-put16 c = search needs
+
+put16-requires : tie.Need-put16-requires
+put16-requires c κs = search needs
+
+add-put16-2 : tie.Need-add-put16-2
+add-put16-2 c = search needs
+
+put16-requires-2 : tie.Need-put16-requires-2
+put16-requires-2 c κs = search needs
+
+same-length : tie.Need-same-length
+same-length c = search needs
+
+returns : tie.Need-returns
+unfolding settingsOctets octets32 octets16
+returns c =
+    let a =
+    c .before .before .before .before .before .before .before .before .before .before .before .before .before .before .before .before
+    .before .before .before .before .before .args in
+    let room = a .room .now in
+    let at = a .at in
+    let s = a .settings in
+    let h : at ≤ length room =
+    omega (
+      arith,
+      c .before .before .before .before .before .before .before .before .before .before .before .before .before .before
+          .before .before .before .before .before .before .before .pre,
+    ) in
+    let e1 =
+    c .before .before .before .before .before .before .before .before .before .before .before .before .before .before .before .before
+    .before .before .put32 .ensures in
+    let e2 =
+    over-then room _ _ at 4 (octets32 (s .ssrc)) (s .level ∷ s .limit ∷ []) h refl e1
+    (c .before .before .before .before .before .before .before .before .before .before .before .before .before .before .put-pair
+    .ensures) in
+    let e3 =
+    over-then room _ _ at 6 (octets32 (s .ssrc) ++ (s .level ∷ s .limit ∷ [])) (s .c7 ∷ s .c20 ∷ []) h refl e2
+    (c .before .before .before .before .before .before .before .before .before .before .put-pair2 .ensures) in
+    let e4 =
+    over-then room _ _ at 8 (octets32 (s .ssrc) ++ (s .level ∷ s .limit ∷ []) ++ (s .c7 ∷ s .c20 ∷ [])) (octets16 (s .duration)) h refl
+    e3 (c .before .before .before .before .before .before .put16 .ensures) in
+    over-then room _ _ at 10 (octets32 (s .ssrc) ++ (s .level ∷ s .limit ∷ []) ++ (s .c7 ∷ s .c20 ∷ []) ++ octets16 (s .duration))
+    (octets16 0) h refl e4 (c .before .before .put162 .ensures)
+
+pub put-settings-spec : {M : Type 1} → statement M
+put-settings-spec =
+    tie.close
+    (tie.spec
+    put32-requires
+    add-put-pair
+    put-pair-requires
+    add-put-pair-2
+    put-pair-requires-2
+    add-put16
+    put16-requires
+    add-put16-2
+    put16-requires-2
+    same-length
+    returns)

@@ -1,0 +1,55 @@
+-- A seat's flags and the settings of a desk as octets, the same on a sheet (document 01, "The sheet") and among a desk's octets
+-- (docs/FORMS.md). All numbers are big-endian; places count from where the settings begin.
+--
+--     flags     bit 0 queueing, bit 1 receive only, others zero
+--     settings  0..3    SSRC of the desk
+--               4       pre-emptive level
+--               5       line limit
+--               6       C7 limit
+--               7       C20 limit
+--               8..9    duration
+--               10..11  zeros
+--
+-- Assumes nothing.
+use Prim.Native.Nat.{ℕ, _+_, _/_, _%_, _<_}
+use mathlib.Core.List.{List, _∷_, _++_}
+use lib.Dec.{eqb}
+use lib.ListN.{getD}
+use Rattle.words.specs.Choice.{if_then_else_}
+use Rattle.octets.specs.Octets.{be16, be32, octets16, octets32}
+use Rattle.hall.specs.declared.Flags.{Flags}
+use Rattle.hall.specs.declared.Settings.{Settings}
+use Rattle.hall.specs.Seats.{settingsOf}
+
+unfoldable pub flagsOctet : Flags → ℕ
+flagsOctet f = (if f .queueing then 1 else 0) + (if f .«receive_only» then 2 else 0)
+
+unfoldable pub flagsOf : ℕ → Flags
+flagsOf n = record { queueing = eqb (n % 2) 1; «receive_only» = eqb (n / 2 % 2) 1 }
+
+-- the greatest octet that says flags: all of them set
+abbrev pub flagsTop : ℕ
+flagsTop = 3
+
+abbrev pub settingsSize : ℕ
+settingsSize = 12
+
+unfoldable pub settingsOctets : Settings → List ℕ
+settingsOctets s = octets32 (s .ssrc) ++ s .level ∷ s .limit ∷ s .c7 ∷ s .c20 ∷ octets16 (s .duration) ++ octets16 0
+
+-- the settings that stand at a place, and what stands where their zeros are
+unfoldable pub settingsIn : List ℕ → ℕ → Settings
+settingsIn s at =
+    settingsOf (be32 s at) (getD s (at + 4) 0) (getD s (at + 5) 0) (getD s (at + 6) 0) (getD s (at + 7) 0) (be16 s (at + 8))
+
+abbrev pub zerosIn : List ℕ → ℕ → ℕ
+zerosIn s at = be16 s (at + 10)
+
+-- each setting fits the octets that it has
+pub record SettingsFit (s : Settings) : Type 0 where
+  pub ssrc : s .ssrc < 4294967296
+  pub level : s .level < 256
+  pub limit : s .limit < 256
+  pub c7 : s .c7 < 256
+  pub c20 : s .c20 < 256
+  pub duration : s .duration < 65536

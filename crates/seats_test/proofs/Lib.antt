@@ -1,0 +1,4 @@
+pub mod Same
+pub mod Laws
+pub mod Names
+pub mod Seated

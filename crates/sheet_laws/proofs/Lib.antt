@@ -1,0 +1,11 @@
+pub mod Saved
+pub mod Read
+pub mod Lossless
+pub mod Rows
+pub mod Joins
+pub mod Kept
+pub mod Back
+pub mod Coincide
+pub mod Lengths
+pub mod Printed
+pub mod Again

@@ -1,0 +1,48 @@
+-- What a sheet that was saved is: the one place of these laws that knows why saving refuses. Assumes nothing.
+use Prim.Native.Nat.{ℕ, _+_, _≤_}
+use native.Mathlib.Omega.{arith}
+use mathlib.Core.List.{List}
+use mathlib.Core.Path.{_≡_, sym, ap, _∙_}
+use lib.ListN.{length, take, drop}
+use lib.Seq.{take-append-seam}
+use borrow.Author.Tests.{ltb-true, ltb-false}
+use Rattle.words.specs.Choice.{by-test}
+use Rattle.octets.specs.Octets.{over}
+use Rattle.hall.specs.declared.Hall.{Hall}
+use Rattle.identities.specs.declared.Names.{Names}
+use Rattle.sheet.specs.Layout.{sheetOf}
+use Rattle.saving.specs.Saving.{Save, tooShort, saving, writtenBy}
+use Rattle.saving.proofs.Saves.{saves-no-room, saves-whole, room-written}
+
+first-over : (room xs : List ℕ) → take (length xs) (over room 0 xs) ≡ xs
+unfolding over
+first-over room xs = take-append-seam xs (drop (0 + length xs) room)
+
+module _ (h : Hall) (ns : Names) (room : List ℕ) where
+  -- a room that is long enough
+  pub saves : length (sheetOf h ns) ≤ length room → saving h ns room .number ≡ 0
+  saves f = ap (λ (a : Save). a .number) (saves-whole h ns room f)
+
+  -- a refusal writes nothing
+  pub refused-none : (saving h ns room .number ≡ 0 → ⊥) → saving h ns room .written ≡ 0
+  refused-none z =
+      by-test (tooShort h ns room)
+      (λ t. ap (λ (a : Save). a .written) (saves-no-room h ns room (ltb-true (length room) (length (sheetOf h ns)) t)))
+      (λ t. absurd (z (saves (ltb-false (length room) (length (sheetOf h ns)) t))))
+
+  module _ (z : saving h ns room .number ≡ 0) where
+    pub fits : length (sheetOf h ns) ≤ length room
+    fits =
+        by-test (tooShort h ns room)
+        (λ t.
+        let q : 13 ≡ 0 =
+        sym (ap (λ (a : Save). a .number) (saves-no-room h ns room (ltb-true (length room) (length (sheetOf h ns)) t))) ∙ z in
+        absurd (omega arith))
+        (λ t. ltb-false (length room) (length (sheetOf h ns)) t)
+
+    pub length-written : saving h ns room .written ≡ length (sheetOf h ns)
+    length-written = ap (λ (a : Save). a .written) (saves-whole h ns room fits)
+
+    pub written : writtenBy h ns room ≡ sheetOf h ns
+    unfolding writtenBy
+    written = rw (length-written, room-written h ns room fits) (first-over room (sheetOf h ns))

@@ -1,4 +1,0 @@
-pub mod Test
-pub mod Shaped
-pub mod Passes
-pub mod Line
