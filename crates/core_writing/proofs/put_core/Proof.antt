@@ -1,3 +1,4 @@
+-- `core_writing::put_core` keeps its promise, `now (room .exit) ≡ over (now (room .entry)) phasePlace (coreOctets core)`. Assumes nothing.
 use Rattle.desk_octets.specs.Places.{phasePlace, sequencePlace, c7Place, countPlace}
 use Rattle.desk_octets.proofs.Pieces.{core-whole}
 use Rattle.desk_octets.specs.Form.{phaseOctets}

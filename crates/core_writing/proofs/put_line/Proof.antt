@@ -1,3 +1,4 @@
+-- `core_writing::put_line` keeps its promise, `now (room .exit) ≡ over (now (room .entry)) countPlace (lineOctets line)`. Assumes nothing.
 use Rattle.desk_octets.specs.Places.{countPlace, waitingColumn, waitingZero, prioritiesColumn, prioritiesZero}
 use Rattle.desk_octets.proofs.Pieces.{line-whole}
 use Rattle.desk_octets.specs.Columns.{column}

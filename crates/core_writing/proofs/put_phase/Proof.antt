@@ -1,3 +1,5 @@
+-- `core_writing::put_phase` keeps its promise, `now (room .exit) ≡ over (now (room .entry)) phasePlace (phaseOctets phase)`. Assumes
+-- nothing.
 use Rattle.desk_octets.specs.Places.{phasePlace, holderPlace, causePlace}
 use Rattle.desk_octets.proofs.Pieces.{phase-whole}
 use Rattle.desk_octets.proofs.Turns.{next-piece}

@@ -1,3 +1,5 @@
+-- `core_writing::put_priorities` keeps its promise, `now (room .exit) ≡ over (now (room .entry)) prioritiesColumn (column (priorityIn
+-- entries) 0 15)`. Assumes nothing.
 use Rattle.desk_octets.specs.Places.{prioritiesColumn}
 use Rattle.desk_octets.proofs.Turns.{column-turn}
 use Rattle.line.specs.Line.{empty}

@@ -1,3 +1,4 @@
+-- `desk_looking::bit_of` keeps its promise, `r ≡ bit b n`. Assumes nothing.
 use Rattle.words.specs.Choice.{if-yes, if-no}
 use mathlib.Core.Path.{sym}
 use native.Mathlib.Omega.{arith}

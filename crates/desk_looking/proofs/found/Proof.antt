@@ -1,3 +1,4 @@
+-- `desk_looking::found` keeps its promise, `r ≡ pos n`. Assumes nothing.
 use Rattle.desk_looking.proofs.Signed.{as-it-is}
 use borrow.Author.Needs.{needs}
 use Rattle.desk_looking.proofs.found.Statement.{statement}

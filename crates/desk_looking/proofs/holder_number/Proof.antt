@@ -1,3 +1,4 @@
+-- `desk_looking::holder_number` keeps its promise, `r ≡ signed (holderAnswer phase)`. Assumes nothing.
 use Rattle.desk_looking.proofs.Signed.{passed}
 use mathlib.Core.Path.{_∙_}
 use borrow.Author.Needs.{needs}

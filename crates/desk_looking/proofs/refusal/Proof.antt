@@ -1,3 +1,4 @@
+-- `desk_looking::refusal` keeps its promise, `r ≡ negℤ (pos n)`. Assumes nothing.
 use Rattle.desk_looking.proofs.Signed.{minus-fits, minus-is}
 use native.Mathlib.Omega.{arith}
 use borrow.Author.Needs.{needs}

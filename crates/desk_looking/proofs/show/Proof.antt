@@ -1,3 +1,4 @@
+-- `desk_looking::show` keeps its promise, `(r, now (room .exit)) ≡ screened (waiting line) (now (room .entry))`. Assumes nothing.
 use Rattle.line.specs.Line.{waiting}
 use lib.IntN.{pos}
 use lib.ListN.{length}

@@ -1,3 +1,5 @@
+-- `desk_looking::tell` keeps its promise, `(r, now (room .exit)) ≡ tells (now (desk .entry)) (now (room .entry)) (Says kind)`. Assumes
+-- nothing.
 use Rattle.outgoing.specs.Outgoing.{outgoing}
 use lib.ListN.{length}
 use Rattle.desk_looking.specs.Looking.{signed}

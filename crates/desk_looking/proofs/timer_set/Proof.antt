@@ -1,3 +1,4 @@
+-- `desk_looking::timer_set` keeps its promise, `r ≡ timerSet t`. Assumes nothing.
 use Rattle.desk_looking.specs.Looking.{timerSet}
 use native.Mathlib.Omega.{arith}
 use borrow.Author.Needs.{needs}

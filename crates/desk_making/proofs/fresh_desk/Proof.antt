@@ -1,3 +1,5 @@
+-- `desk_making::fresh_desk` keeps its promise, `(r, now (desk .exit)) ≡ written (now (desk .entry)) n fresh (emptyHall settings) noNames`.
+-- A fresh desk with these settings, unless their answer refuses them. Assumes nothing.
 use borrow.Author.Needs.{needs}
 use Rattle.desk_making.proofs.fresh_desk.Statement.{statement}
 use Rattle.desk_making.proofs.fresh_desk.Tie as tie

@@ -1,3 +1,5 @@
+-- `desk_making::write_desk` keeps its promise, `(r, now (desk .exit)) ≡ written (now (desk .entry)) n core hall names`. Writes a desk,
+-- unless it was refused or the room is too short for it. Assumes nothing.
 use Rattle.desk_making.proofs.Making.{unwritten, too-short, written-so}
 use borrow.Author.Tests.{ne-eqb, eq-eqb, lt-leb, le-leb}
 use mathlib.Core.Path.{sym}

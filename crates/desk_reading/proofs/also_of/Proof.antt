@@ -1,3 +1,4 @@
+-- `desk_reading::also_of` keeps its promise, `r ≡ alsoOf n`. Assumes nothing.
 use Rattle.desk_octets.specs.Form.{alsoOf}
 use Rattle.words.specs.Choice.{if_then_else_}
 use borrow.Author.Tests.{eq-eqb, ne-eqb}

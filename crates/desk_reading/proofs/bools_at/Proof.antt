@@ -1,3 +1,4 @@
+-- `desk_reading::bools_at` keeps its promise, `r ≡ boolsAt (now (s .entry)) at`. Assumes nothing.
 use Rattle.desk_octets.proofs.Turns.{fill-turn}
 use Rattle.desk_octets.proofs.Columns.{column-is}
 use Rattle.desk_octets.specs.Form.{boolsAt, boolAt}

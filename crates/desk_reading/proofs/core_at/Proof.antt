@@ -1,3 +1,4 @@
+-- `desk_reading::core_at` keeps its promise, `r ≡ coreAt (now (s .entry))`. Assumes nothing.
 use Rattle.desk_octets.specs.Form.{coreAt}
 use borrow.Author.Needs.{needs}
 use Rattle.desk_reading.proofs.core_at.Statement.{statement}

@@ -1,3 +1,5 @@
+-- `desk_reading::name_at` keeps its promise, `now r ≡ octetsOf (nameAt (namesAt (now (s .entry))) seat)`. The identity of a seat, as the
+-- part of the octets that holds it. Assumes nothing.
 use Rattle.desk_octets.proofs.Pieces.{identity-is, no-identity}
 use native.Mathlib.Omega.{arith}
 use borrow.Author.Needs.{needs}

@@ -1,3 +1,4 @@
+-- `desk_reading::name_in` keeps its promise, `r ≡ nameIn (now (s .entry)) seat`. Assumes nothing.
 use Rattle.desk_octets.specs.Places.{identitiesColumn, lengthsColumn}
 use Rattle.desk_octets.specs.Columns.{column}
 use Rattle.desk_octets.proofs.Turns.{fill-turn}

@@ -1,3 +1,4 @@
+-- `desk_reading::phase_at` keeps its promise, `r ≡ phaseAt (now (s .entry))`. Assumes nothing.
 use Rattle.desk_octets.specs.Form.{phaseAt}
 use borrow.Author.Needs.{needs}
 use Rattle.desk_reading.proofs.phase_at.Statement.{statement}

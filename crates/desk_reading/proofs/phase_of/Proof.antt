@@ -1,3 +1,4 @@
+-- `desk_reading::phase_of` keeps its promise, `r ≡ phaseOf kind timers holder cause`. Assumes nothing.
 use Rattle.desk_octets.specs.Form.{phaseOf}
 use Rattle.words.specs.Choice.{if_then_else_}
 use borrow.Author.Tests.{eq-eqb, ne-eqb}

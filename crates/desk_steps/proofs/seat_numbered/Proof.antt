@@ -1,3 +1,5 @@
+-- `desk_steps::seat_numbered` keeps its promise, `r ≡ seatNumbered seat`. A number that no seat has stands for every such number. Assumes
+-- nothing.
 use Rattle.desk_steps.specs.Steps.{seatNumbered}
 use Rattle.words.specs.Choice.{if_then_else_}
 use borrow.Author.Tests.{lt-ltb, le-ltb}

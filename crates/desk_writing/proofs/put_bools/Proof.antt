@@ -1,3 +1,4 @@
+-- `desk_writing::put_bools` keeps its promise, `now (room .exit) ≡ over (now (room .entry)) at (boolOctets bools)`. Assumes nothing.
 use Rattle.words.specs.Choice.{one as flag}
 use Rattle.desk_octets.proofs.Turns.{column-turn}
 use Rattle.desk_octets.specs.Form.{boolOctets}

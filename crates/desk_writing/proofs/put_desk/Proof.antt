@@ -1,3 +1,5 @@
+-- `desk_writing::put_desk` keeps its promise, `now (room .exit) ≡ over (now (room .entry)) 0 (octetsOf core hall names)`. Writes a whole
+-- desk into the first 1,200 octets of a room. Assumes nothing.
 use Rattle.desk_octets.specs.Places.{phasePlace, takenColumn, lengthsColumn}
 use Rattle.octets.proofs.Over.{run}
 use Rattle.desk_octets.proofs.Lengths.{length-core, length-head}

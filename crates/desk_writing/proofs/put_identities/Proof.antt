@@ -1,3 +1,5 @@
+-- `desk_writing::put_identities` keeps its promise, `now (room .exit) ≡ over (now (room .entry)) identitiesColumn (rows (λ s. nameOctets
+-- (nameAt names s)) 0 16)`. Assumes nothing.
 use Rattle.desk_octets.specs.Places.{identitiesColumn}
 use Rattle.desk_octets.proofs.Pieces.{length-name}
 use Rattle.desk_octets.proofs.Turns.{rows-turn}

@@ -1,3 +1,5 @@
+-- `desk_writing::put_lengths` keeps its promise, `now (room .exit) ≡ over (now (room .entry)) lengthsColumn (lengthOctets names)`. Assumes
+-- nothing.
 use Rattle.desk_octets.specs.Places.{lengthsColumn}
 use Rattle.desk_octets.proofs.Turns.{column-turn}
 use Rattle.identities.specs.Identity.{octetsOf, nameAt}

@@ -1,3 +1,4 @@
+-- `desk_writing::put_name` keeps its promise, `now (room .exit) ≡ over (now (room .entry)) at (nameOctets name)`. Assumes nothing.
 use Rattle.desk_octets.proofs.Turns.{column-turn}
 use Rattle.desk_octets.specs.Form.{nameOctets}
 use Rattle.octets.proofs.Over.{over-none}

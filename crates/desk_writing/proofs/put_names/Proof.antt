@@ -1,3 +1,5 @@
+-- `desk_writing::put_names` keeps its promise, `now (room .exit) ≡ over (now (room .entry)) lengthsColumn (namesOctets names)`. Assumes
+-- nothing.
 use Rattle.desk_octets.specs.Places.{lengthsColumn, identitiesColumn}
 use Rattle.desk_octets.specs.Form.{namesOctets, lengthOctets}
 use Rattle.desk_octets.specs.Columns.{column}

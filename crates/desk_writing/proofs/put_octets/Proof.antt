@@ -1,3 +1,4 @@
+-- `desk_writing::put_octets` keeps its promise, `now (room .exit) ≡ over (now (room .entry)) at (seatOctets octets)`. Assumes nothing.
 use Rattle.desk_octets.proofs.Turns.{column-turn}
 use Rattle.desk_octets.specs.Form.{seatOctets}
 use Rattle.octets.proofs.Over.{over-none}

@@ -1,3 +1,4 @@
+-- `desk_writing::put_words` keeps its promise, `now (room .exit) ≡ over (now (room .entry)) at (wordOctets words)`. Assumes nothing.
 use Rattle.desk_octets.proofs.Turns.{rows-turn}
 use Rattle.desk_octets.specs.Form.{wordOctets}
 use Rattle.octets.proofs.Over.{over-none}

@@ -1,3 +1,4 @@
+-- `field::field_at` keeps its promise, `r ≡ stepAt (now (s .entry)) at`. Judges the field that starts at a place. Assumes nothing.
 use Prim.Native.Nat.{_+_, _<_}
 use mathlib.Core.Path.{sym, ap, _∙_}
 use Rattle.message.specs.Table.{against}

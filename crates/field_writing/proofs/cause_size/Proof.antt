@@ -1,3 +1,4 @@
+-- `field_writing::cause_size` keeps its promise, `r ≡ causeSize c`. Assumes nothing.
 use native.Mathlib.Omega.{arith}
 use borrow.Author.Needs.{needs}
 use Rattle.field_writing.proofs.cause_size.Statement.{statement}

@@ -1,3 +1,4 @@
+-- `field_writing::part_size` keeps its promise, `r ≡ partSize p`. Assumes nothing.
 use native.Mathlib.Omega.{arith}
 use borrow.Author.Needs.{needs}
 use Rattle.field_writing.proofs.part_size.Statement.{statement}

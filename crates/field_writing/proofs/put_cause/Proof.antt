@@ -1,3 +1,5 @@
+-- `field_writing::put_cause` keeps its promise, `Laid (now (room .entry)) at (optional 2 (ofCause (now (src .entry)) c)) (now (room .exit))
+-- r`. Lays Reject Cause: the cause, and the phrase behind it. Assumes nothing.
 use Prim.Native.Nat.{ℕ, _+_, _≤_}
 use mathlib.Core.List.{List, [], _∷_, _++_}
 use mathlib.Core.Path.{ap, refl}

@@ -1,3 +1,5 @@
+-- `field_writing::put_identity` keeps its promise, `Laid (now (room .entry)) at (optional id (ofPart (now (src .entry)) p)) (now (room
+-- .exit)) r`. Lays the field of an identity. Assumes nothing.
 use Prim.Native.Nat.{_+_, _≤_}
 use mathlib.Core.List.{[], _∷_, _++_}
 use mathlib.Core.Path.{ap, refl}

@@ -1,3 +1,5 @@
+-- `field_writing::put_number` keeps its promise, `Laid (now (room .entry)) at (optional 14 (ofNumber n)) (now (room .exit)) r`. Lays the
+-- field SSRC, with the two spare octets behind it. Assumes nothing.
 use Rattle.octets.proofs.Lays.{lay-rest, lay-join, lay-as, lay-none}
 use Prim.Native.Nat.{_+_, _≤_}
 use mathlib.Core.List.{[], _∷_, _++_}

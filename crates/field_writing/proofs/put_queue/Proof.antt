@@ -1,3 +1,5 @@
+-- `field_writing::put_queue` keeps its promise, `Laid (now (room .entry)) at (optional 3 (ofQueue q)) (now (room .exit)) r`. Lays Queue
+-- Info. Assumes nothing.
 use mathlib.Core.Path.{ap}
 use lib.ListN.{length}
 use Rattle.field_writing.specs.Wire.{optional}

@@ -1,3 +1,5 @@
+-- `field_writing::put_text` keeps its promise, `Laid (now (room .entry)) at (part (now (src .entry)) from count ++ replicate (padding len)
+-- 0) (now (room .exit)) r`. Lays a part of the source, with the padding of a field of length `len` behind it. Assumes nothing.
 use Prim.Native.Nat.{ℕ, _+_, _≤_}
 use mathlib.Core.List.{List, _++_}
 use mathlib.Core.Path.{_≡_, ap, sym}

@@ -1,3 +1,5 @@
+-- `field_writing::put_two` keeps its promise, `Laid (now (room .entry)) at (id ∷ 2 ∷ first ∷ second ∷ []) (now (room .exit)) r`. Lays a
+-- field of length 2 at `at`. Assumes nothing.
 use Prim.Native.Nat.{ℕ, _+_}
 use mathlib.Core.List.{List, [], _∷_}
 use mathlib.Core.Path.{ap, _∙_}

@@ -1,3 +1,5 @@
+-- `field_writing::put_word` keeps its promise, `Laid (now (room .entry)) at (optional id (ofWord w)) (now (room .exit)) r`. Lays the field
+-- of a number of 16 bits. Assumes nothing.
 use mathlib.Core.Path.{ap}
 use lib.ListN.{length}
 use Rattle.field_writing.specs.Wire.{optional}

@@ -1,3 +1,4 @@
+-- `floor::floor_c20` keeps its promise, `C20Promise (now (desk .entry)) r`. Assumes nothing.
 use Rattle.desk_looking.proofs.Signed.{passed}
 use Rattle.steps.specs.declared.Core.{Core}
 use lib.IntN.{pos}

@@ -1,3 +1,4 @@
+-- `floor::floor_c7` keeps its promise, `C7Promise (now (desk .entry)) r`. Assumes nothing.
 use Rattle.desk_looking.proofs.Signed.{passed}
 use Rattle.steps.specs.declared.Core.{Core}
 use lib.IntN.{pos}

@@ -1,3 +1,4 @@
+-- `floor::floor_holder` keeps its promise, `HolderPromise (now (desk .entry)) r`. Assumes nothing.
 use Rattle.desk_looking.proofs.Signed.{passed}
 use Rattle.desk_looking.specs.Looking.{signed, holderAnswer}
 use Rattle.steps.specs.declared.Core.{Core}

@@ -1,3 +1,5 @@
+-- `floor::floor_join` keeps its promise, `JoinPromise (now (desk .entry)) (now (identity .entry)) ssrc highest queueing «receive_only» r
+-- (now (desk .exit))`. Takes the lowest free seat. Assumes nothing.
 use Rattle.desk_test.proofs.Desks.{has-room}
 use Rattle.words.specs.Choice.{if-yes, if-no}
 use mathlib.Core.Path.{sym, _∙_}

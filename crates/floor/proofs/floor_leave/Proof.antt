@@ -1,3 +1,5 @@
+-- `floor::floor_leave` keeps its promise, `LeavePromise (now (desk .entry)) seat (now (report .entry)) r (now (desk .exit)) (now (report
+-- .exit))`. A seat leaves. Assumes nothing.
 use Rattle.desk_test.proofs.Desks.{has-room}
 use Rattle.desk_steps.proofs.Steps.{no-desk-so}
 use Rattle.desk_steps.specs.Steps.{outcomeOn}

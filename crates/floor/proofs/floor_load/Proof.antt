@@ -1,3 +1,5 @@
+-- `floor::floor_load` keeps its promise, `LoadPromise (now (desk .entry)) (now (sheet .entry)) r (now (desk .exit))`. Makes a fresh desk
+-- from a sheet. Assumes nothing.
 use borrow.Author.Needs.{needs}
 use Rattle.floor.proofs.floor_load.Statement.{statement}
 use Rattle.floor.proofs.floor_load.Tie as tie

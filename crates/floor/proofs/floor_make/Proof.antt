@@ -1,3 +1,5 @@
+-- `floor::floor_make` keeps its promise, `MakePromise (now (desk .entry)) ssrc level limit c7 c20 duration r (now (desk .exit))`. Makes a
+-- fresh desk. Assumes nothing.
 use Rattle.desk_making.proofs.Making.{octets-hold}
 use Rattle.desk_making.specs.Making.{inOctets, settable, written, makeOn}
 use Rattle.hall.specs.declared.Settings.{Settings}

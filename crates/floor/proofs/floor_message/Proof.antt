@@ -1,3 +1,5 @@
+-- `floor::floor_message` keeps its promise, `MessagePromise (now (desk .entry)) (now (report .entry)) which (now (room .entry)) r (now
+-- (room .exit))`. A report's message as its packet. Assumes nothing.
 use borrow.Author.Tests.{not-true, not-false}
 use Rattle.desk_test.proofs.Desks.{has-room}
 use Rattle.desk_looking.proofs.Signed.{passed, pair-same}

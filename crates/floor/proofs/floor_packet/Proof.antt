@@ -1,3 +1,5 @@
+-- `floor::floor_packet` keeps its promise, `PacketPromise (now (desk .entry)) (now (packet .entry)) (now (report .entry)) r (now (desk
+-- .exit)) (now (report .exit))`. A packet came in. Assumes nothing.
 use Rattle.desk_test.proofs.Desks.{has-room}
 use Rattle.desk_steps.proofs.Steps.{no-desk-so}
 use Rattle.desk_steps.specs.Steps.{outcomeOn, stepOn}

@@ -1,3 +1,4 @@
+-- `floor::floor_phase` keeps its promise, `PhasePromise (now (desk .entry)) r`. Assumes nothing.
 use Rattle.desk_looking.proofs.Signed.{passed}
 use Rattle.steps.specs.declared.Core.{Core}
 use Rattle.desk_octets.specs.Form.{kindOctet}

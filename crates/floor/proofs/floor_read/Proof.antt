@@ -1,3 +1,5 @@
+-- `floor::floor_read` keeps its promise, `ReadPromise (now (packet .entry)) (now (message .entry)) r (now (message .exit))`. Reads a packet
+-- into a message's 40 octets. Assumes nothing.
 use Rattle.desk_looking.proofs.Signed.{pair-same}
 use borrow.Author.Needs.{needs}
 use Rattle.floor.proofs.floor_read.Statement.{statement}

@@ -1,3 +1,4 @@
+-- `floor::floor_running` keeps its promise, `RunningPromise (now (desk .entry)) r`. Assumes nothing.
 use Rattle.desk_looking.proofs.Signed.{passed}
 use Rattle.desk_looking.specs.Looking.{timerSet}
 use Rattle.timers.specs.Timers.{running}

@@ -1,3 +1,5 @@
+-- `floor::floor_seat_by_identity` keeps its promise, `SeatByIdentityPromise (now (desk .entry)) (now (identity .entry)) r`. Assumes
+-- nothing.
 use Rattle.desk_looking.proofs.Signed.{passed}
 use Rattle.desk_test.proofs.Desks.{has-room}
 use Rattle.desk_looking.proofs.Looks.{looks-so, looks-not}

@@ -1,3 +1,4 @@
+-- `floor::floor_seat_by_ssrc` keeps its promise, `SeatBySsrcPromise (now (desk .entry)) ssrc r`. Assumes nothing.
 use Rattle.desk_looking.proofs.Signed.{passed}
 use Rattle.desk_test.proofs.Desks.{has-room}
 use Rattle.desk_looking.proofs.Looks.{looks-so, looks-not}

@@ -1,3 +1,4 @@
+-- `floor::floor_seats` keeps its promise, `SeatsPromise (now (desk .entry)) r`. Assumes nothing.
 use Rattle.desk_looking.proofs.Signed.{passed}
 use Rattle.report_octets.specs.Report.{maskOf}
 use Rattle.hall.specs.declared.Hall.{Hall}

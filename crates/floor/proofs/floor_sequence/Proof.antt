@@ -1,3 +1,4 @@
+-- `floor::floor_sequence` keeps its promise, `SequencePromise (now (desk .entry)) r`. Assumes nothing.
 use Rattle.desk_looking.proofs.Signed.{passed}
 use Rattle.steps.specs.declared.Core.{Core}
 use lib.IntN.{pos}

@@ -1,3 +1,5 @@
+-- `floor::floor_write` keeps its promise, `WritePromise (now (message .entry)) (now (source .entry)) (now (room .entry)) r (now (room
+-- .exit))`. Writes a message as a packet. Assumes nothing.
 use Rattle.message_octets.specs.Held.{heldAt}
 use lib.ListN.{length}
 use Rattle.desk_looking.specs.Looking.{signed}

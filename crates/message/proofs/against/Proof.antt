@@ -1,3 +1,5 @@
+-- `message::against` keeps its promise, `r ≡ against id len number`. Whether a field's length, or the number that its content begins with,
+-- is against the table. Assumes nothing.
 use Prim.Native.Nat.{_<_}
 use mathlib.Core.Path.{sym, _∙_}
 use native.Mathlib.Omega.{arith}

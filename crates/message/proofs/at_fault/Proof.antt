@@ -1,3 +1,5 @@
+-- `message::at_fault` keeps its promise, `r ≡ atFault id number`. Whether a field's content is at fault: only IDs 5 and 10 can be. Assumes
+-- nothing.
 use borrow.Author.Tests.{eq-eqb, ne-eqb}
 use Rattle.words.specs.Choice.{if_then_else_}
 use Rattle.message.specs.Table.{atFault}

@@ -1,3 +1,4 @@
+-- `message::is_listed` keeps its promise, `r ≡ listed id`. Whether the table has an ID. Assumes nothing.
 use Prim.Native.Nat.{_<_}
 use mathlib.Core.Path.{sym, _∙_}
 use borrow.Author.Needs.{needs}

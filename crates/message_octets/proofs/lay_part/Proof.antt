@@ -1,3 +1,5 @@
+-- `message_octets::lay_part` keeps its promise, `Lays (now (room .entry)) to (placeOctets (reads.partAt (now (s .entry)) at)) (now (room
+-- .exit))`. Assumes nothing.
 use Prim.Native.Nat.{_-_}
 use mathlib.Core.Path.{refl, sym}
 use native.Mathlib.Nat.{add-zero}

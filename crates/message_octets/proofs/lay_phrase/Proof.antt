@@ -1,3 +1,5 @@
+-- `message_octets::lay_phrase` keeps its promise, `Lays (now (room .entry)) to (placeOctets (phraseIn (reads.causeAt (now (s .entry)) at)))
+-- (now (room .exit))`. Where a cause's phrase stands; the bit of its field is added where the cause is laid. Assumes nothing.
 use Prim.Native.Nat.{_-_}
 use mathlib.Core.Path.{refl}
 use borrow.Author.Tests.{eq-eqb, ne-eqb}

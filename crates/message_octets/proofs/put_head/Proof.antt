@@ -1,3 +1,5 @@
+-- `message_octets::put_head` keeps its promise, `now (room .exit) ≡ over (now (room .entry)) 0 (headBy kind (now (s .entry)) fields)`.
+-- Assumes nothing.
 use Prim.Native.Nat.{_+_, zero-le}
 use mathlib.Core.List.{[], _∷_}
 use mathlib.Core.Path.{_≡_, refl}

@@ -1,3 +1,5 @@
+-- `message_octets::put_held` keeps its promise, `now (room .exit) ≡ over (now (room .entry)) 0 (heldOctets (reads.messageAt kind (now (s
+-- .entry)) (λ i. getD (now (starts .entry)) i 0)))`. Writes a packet's message into the first 40 octets of a room. Assumes nothing.
 use Prim.Native.Nat.{ℕ}
 use mathlib.Core.Path.{_≡_}
 use lib.ListN.{getD}

@@ -1,3 +1,5 @@
+-- `message_writing::all_fit` keeps its promise, `r ≡ (lies (messageIn (now (s .entry)) fields) (now (src .entry)) && fitting (messageIn
+-- (now (s .entry)) fields))`. Whether the identities and the phrase are in the source, and no field is against the table. Assumes nothing.
 use Rattle.message_octets.specs.Held.{messageWith}
 use Rattle.message_writing.specs.Writes.{messageIn}
 use mathlib.Core.Bool.{_&&_}

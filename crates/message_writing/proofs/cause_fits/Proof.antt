@@ -1,3 +1,5 @@
+-- `message_writing::cause_fits` keeps its promise, `r ≡ (phraseLies (now (src .entry)) (causeAt (now (s .entry)) fields) && phraseFits
+-- (causeAt (now (s .entry)) fields))`. Assumes nothing.
 use Rattle.readable.proofs.Chains.{and-yes, and-no}
 use borrow.Author.Needs.{needs}
 use Rattle.message_writing.proofs.cause_fits.Statement.{statement}

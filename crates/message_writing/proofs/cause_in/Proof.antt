@@ -1,3 +1,5 @@
+-- `message_writing::cause_in` keeps its promise, `r ≡ causeIf (bitOf fields worth) (be16 (now (s .entry)) at) (be16 (now (s .entry))
+-- phrase) (be16 (now (s .entry)) (phrase + 2))`. The cause stands at one place, where its phrase is at another. Assumes nothing.
 use mathlib.Core.Path.{sym, _∙_}
 use borrow.Author.Needs.{needs}
 use Rattle.message_writing.proofs.cause_in.Statement.{statement}

@@ -1,3 +1,4 @@
+-- `message_writing::cause_size` keeps its promise, `r ≡ causeSize (causeAt (now (s .entry)) fields)`. Assumes nothing.
 use borrow.Author.Needs.{needs}
 use Rattle.message_writing.proofs.cause_size.Statement.{statement}
 use Rattle.message_writing.proofs.cause_size.Tie as tie

@@ -1,3 +1,5 @@
+-- `message_writing::four_if` keeps its promise, `r ≡ fourIf (bitOf fields worth)`. How many octets a field of length 2 takes, by its bit.
+-- Assumes nothing.
 use Rattle.message_writing.proofs.Laws.{four-is}
 use native.Mathlib.Omega.{arith}
 use borrow.Author.Needs.{needs}

@@ -1,3 +1,5 @@
+-- `message_writing::has_required` keeps its promise, `r ≡ hasRequired (typed number) fields`. Whether a type is listed, and has what it
+-- requires. Assumes nothing.
 use mathlib.Core.Path.{sym, _∙_}
 use borrow.Author.Needs.{needs}
 use Rattle.message_writing.proofs.has_required.Statement.{statement}

@@ -1,3 +1,5 @@
+-- `message_writing::has_unlisted` keeps its promise, `r ≡ unlistedField fields`. Whether a bit is set for an ID that is not in the table:
+-- 7, 9, 11 or 15. Assumes nothing.
 use Rattle.message_octets.specs.Held.{unlistedField}
 use borrow.Author.Needs.{needs}
 use Rattle.message_writing.proofs.has_unlisted.Statement.{statement}

@@ -1,3 +1,4 @@
+-- `message_writing::number_in` keeps its promise, `r ≡ numberIf (bitOf fields worth) (be32 (now (s .entry)) at)`. Assumes nothing.
 use mathlib.Core.Path.{sym, _∙_}
 use borrow.Author.Needs.{needs}
 use Rattle.message_writing.proofs.number_in.Statement.{statement}

@@ -1,3 +1,4 @@
+-- `message_writing::octet_in` keeps its promise, `r ≡ octetIf (bitOf fields worth) (getD (now (s .entry)) at 0)`. Assumes nothing.
 use mathlib.Core.Path.{sym, _∙_}
 use borrow.Author.Needs.{needs}
 use Rattle.message_writing.proofs.octet_in.Statement.{statement}

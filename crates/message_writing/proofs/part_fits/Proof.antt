@@ -1,3 +1,5 @@
+-- `message_writing::part_fits` keeps its promise, `r ≡ (partLies (now (src .entry)) (partAt (now (s .entry)) fields worth at) &&
+-- identityFits (partAt (now (s .entry)) fields worth at))`. Assumes nothing.
 use Rattle.readable.proofs.Chains.{and-yes, and-no}
 use borrow.Author.Needs.{needs}
 use Rattle.message_writing.proofs.part_fits.Statement.{statement}

@@ -1,3 +1,4 @@
+-- `message_writing::part_in` keeps its promise, `r ≡ partAt (now (s .entry)) fields worth at`. Assumes nothing.
 use mathlib.Core.Path.{sym, _∙_}
 use borrow.Author.Needs.{needs}
 use Rattle.message_writing.proofs.part_in.Statement.{statement}

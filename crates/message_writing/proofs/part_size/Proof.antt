@@ -1,3 +1,4 @@
+-- `message_writing::part_size` keeps its promise, `r ≡ partSize (partAt (now (s .entry)) fields worth at)`. Assumes nothing.
 use Rattle.message_writing.proofs.part_size.Statement.{statement}
 use Rattle.message_writing.proofs.part_size.Tie as tie
 

@@ -1,3 +1,5 @@
+-- `message_writing::put_cause` keeps its promise, `Laid (now (room .entry)) at (optional 2 (ofCause (now (src .entry)) (causeAt (now (s
+-- .entry)) fields))) (now (room .exit)) r`. Assumes nothing.
 use borrow.Author.Needs.{needs}
 use Rattle.message_writing.proofs.put_cause.Statement.{statement}
 use Rattle.message_writing.proofs.put_cause.Tie as tie

@@ -1,3 +1,5 @@
+-- `message_writing::put_front` keeps its promise, `Laid (now (room .entry)) at (body (frontFields (messageIn (now (s .entry)) fields) (now
+-- (src .entry)))) (now (room .exit)) r`. Lays the fields 0 to 5, in ascending order. Assumes nothing.
 use Rattle.message_octets.specs.Held.{messageWith}
 use Rattle.message_writing.specs.Writes.{messageIn}
 use Prim.Native.Nat.{_+_, _≤_}

@@ -1,3 +1,5 @@
+-- `message_writing::put_identity` keeps its promise, `Laid (now (room .entry)) at (optional id (ofPart (now (src .entry)) (partAt (now (s
+-- .entry)) fields worth place))) (now (room .exit)) r`. Assumes nothing.
 use borrow.Author.Needs.{needs}
 use Rattle.message_writing.proofs.put_identity.Statement.{statement}
 use Rattle.message_writing.proofs.put_identity.Tie as tie

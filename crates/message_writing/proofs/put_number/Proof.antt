@@ -1,3 +1,5 @@
+-- `message_writing::put_number` keeps its promise, `Laid (now (room .entry)) at (optional 14 (ofNumber (numberIf (bitOf fields 16384) (be32
+-- (now (s .entry)) ssrcFieldPlace)))) (now (room .exit)) r`. Assumes nothing.
 use borrow.Author.Needs.{needs}
 use Rattle.message_writing.proofs.put_number.Statement.{statement}
 use Rattle.message_writing.proofs.put_number.Tie as tie

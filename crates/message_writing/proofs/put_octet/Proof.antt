@@ -1,3 +1,5 @@
+-- `message_writing::put_octet` keeps its promise, `Laid (now (room .entry)) at (optional id (ofOctet (octetIf (bitOf fields worth) (getD
+-- (now (s .entry)) place 0)))) (now (room .exit)) r`. Assumes nothing.
 use borrow.Author.Needs.{needs}
 use Rattle.message_writing.proofs.put_octet.Statement.{statement}
 use Rattle.message_writing.proofs.put_octet.Tie as tie

@@ -1,3 +1,5 @@
+-- `message_writing::put_queue` keeps its promise, `Laid (now (room .entry)) at (optional 3 (ofQueue (queueIf (bitOf fields 8) (getD (now (s
+-- .entry)) queuePlace 0) (getD (now (s .entry)) (queuePlace + 1) 0)))) (now (room .exit)) r`. Assumes nothing.
 use borrow.Author.Needs.{needs}
 use Rattle.message_writing.proofs.put_queue.Statement.{statement}
 use Rattle.message_writing.proofs.put_queue.Tie as tie

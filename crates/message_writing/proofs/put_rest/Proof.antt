@@ -1,3 +1,5 @@
+-- `message_writing::put_rest` keeps its promise, `Laid (now (room .entry)) at (body (restFields (messageIn (now (s .entry)) fields) (now
+-- (src .entry)))) (now (room .exit)) r`. Lays the fields 6 to 14, in ascending order. Assumes nothing.
 use Rattle.message_octets.specs.Held.{messageWith}
 use Rattle.message_writing.specs.Writes.{messageIn}
 use Prim.Native.Nat.{_+_, _≤_}

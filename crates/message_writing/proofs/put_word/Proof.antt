@@ -1,3 +1,5 @@
+-- `message_writing::put_word` keeps its promise, `Laid (now (room .entry)) at (optional id (ofWord (wordIf (bitOf fields worth) (be16 (now
+-- (s .entry)) place)))) (now (room .exit)) r`. Assumes nothing.
 use borrow.Author.Needs.{needs}
 use Rattle.message_writing.proofs.put_word.Statement.{statement}
 use Rattle.message_writing.proofs.put_word.Tie as tie

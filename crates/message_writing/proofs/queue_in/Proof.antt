@@ -1,3 +1,5 @@
+-- `message_writing::queue_in` keeps its promise, `r ≡ queueIf (bitOf fields worth) (getD (now (s .entry)) at 0) (getD (now (s .entry)) (at
+-- + 1) 0)`. Assumes nothing.
 use mathlib.Core.Path.{sym, _∙_}
 use borrow.Author.Needs.{needs}
 use Rattle.message_writing.proofs.queue_in.Statement.{statement}

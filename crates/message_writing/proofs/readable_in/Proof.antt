@@ -1,3 +1,5 @@
+-- `message_writing::readable_in` keeps its promise, `r ≡ readableIn (heldAt (now (s .entry))) (now (src .entry))`. Whether 40 octets hold a
+-- message that a reader would accept. Assumes nothing.
 use mathlib.Core.Path.{sym, ap, _∙_}
 use Rattle.readable.proofs.Chains.{and-yes, and-no}
 use Rattle.message_octets.specs.Held.{unlistedField}

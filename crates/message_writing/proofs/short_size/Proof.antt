@@ -1,3 +1,4 @@
+-- `message_writing::short_size` keeps its promise, `r ≡ shortSize fields`. How many octets all fields of one length take. Assumes nothing.
 use Rattle.message_writing.specs.Writes.{shortSize}
 use native.Mathlib.Omega.{arith}
 use borrow.Author.Needs.{needs}

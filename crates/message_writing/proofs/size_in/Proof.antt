@@ -1,3 +1,5 @@
+-- `message_writing::size_in` keeps its promise, `r ≡ headerSize + (frontSize (messageIn (now (s .entry)) fields) + restSize (messageIn (now
+-- (s .entry)) fields))`. The octets of the whole packet. Assumes nothing.
 use Rattle.message_octets.specs.Held.{messageWith}
 use Rattle.message_writing.specs.Writes.{messageIn}
 use Rattle.field_writing.proofs.Sizes.{part-whole, cause-whole}

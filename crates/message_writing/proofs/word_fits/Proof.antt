@@ -1,3 +1,5 @@
+-- `message_writing::word_fits` keeps its promise, `r ≡ contentFits id (wordIf (bitOf fields worth) (be16 (now (s .entry)) at))`. Assumes
+-- nothing.
 use borrow.Author.Needs.{needs}
 use Rattle.message_writing.proofs.word_fits.Statement.{statement}
 use Rattle.message_writing.proofs.word_fits.Tie as tie

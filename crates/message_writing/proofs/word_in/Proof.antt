@@ -1,3 +1,4 @@
+-- `message_writing::word_in` keeps its promise, `r ≡ wordIf (bitOf fields worth) (be16 (now (s .entry)) at)`. Assumes nothing.
 use mathlib.Core.Path.{sym, _∙_}
 use borrow.Author.Needs.{needs}
 use Rattle.message_writing.proofs.word_in.Statement.{statement}

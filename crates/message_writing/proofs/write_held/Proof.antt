@@ -1,3 +1,5 @@
+-- `message_writing::write_held` keeps its promise, `WritesOf (heldAt (now (held .entry))) (now (source .entry)) (now (room .entry)) r (now
+-- (room .exit))`. Writes the message that octets hold as a packet, its identities and its phrase out of the lent source. Assumes nothing.
 use Rattle.header.specs.Header.{headed, firstOctet}
 use Rattle.message_octets.specs.Held.{messageWith, heldAt}
 use Rattle.message_writing.specs.Writes.{messageIn}

@@ -1,3 +1,4 @@
+-- `octets::number16` keeps its promise, `r ≡ be16 (now (s .entry)) at`. The number in the two octets from `at` on. Assumes nothing.
 use Prim.Native.Nat.{_+_}
 use Rattle.octets.specs.Octets.{be16}
 use native.Mathlib.Omega.{arith}

@@ -1,3 +1,4 @@
+-- `octets::number32` keeps its promise, `r ≡ be32 (now (s .entry)) at`. The number in the four octets from `at` on. Assumes nothing.
 use Rattle.octets.specs.Octets.{be32}
 use borrow.Author.Needs.{needs}
 use Rattle.octets.proofs.number32.Statement.{statement}

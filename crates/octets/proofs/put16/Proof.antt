@@ -1,3 +1,5 @@
+-- `octets::put16` keeps its promise, `now (room .exit) ≡ over (now (room .entry)) at (octets16 n)`. Writes a number as two octets at `at`.
+-- Assumes nothing.
 use Rattle.octets.specs.Octets.{octets16}
 use borrow.Author.Needs.{needs}
 use Rattle.octets.proofs.put16.Statement.{statement}

@@ -1,3 +1,5 @@
+-- `octets::put32` keeps its promise, `now (room .exit) ≡ over (now (room .entry)) at (octets32 n)`. Writes a number as four octets at `at`.
+-- Assumes nothing.
 use Prim.Native.Nat.{ℕ, _+_, _/_, _%_, _≤_}
 use mathlib.Core.Path.{_∙_, ap}
 use mathlib.Core.List.{List}

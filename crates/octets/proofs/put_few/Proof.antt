@@ -1,3 +1,5 @@
+-- `octets::put_few` keeps its promise, `now (room .exit) ≡ over (now (room .entry)) at (part (now (s .entry)) from count)`. Copies a part
+-- octet by octet. Assumes nothing.
 use lib.ListN.{getD}
 use Prim.Native.Nat.{_+_, _-_, _≤_}
 use mathlib.Core.Path.{_≡_, refl, sym, _∙_, ap}

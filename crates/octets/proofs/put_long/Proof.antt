@@ -1,3 +1,5 @@
+-- `octets::put_long` keeps its promise, `now (room .exit) ≡ over (now (room .entry)) at (part (now (s .entry)) from count)`. Copies blocks
+-- of 64 octets. Assumes nothing.
 use Prim.Native.Nat.{_+_, _-_, _≤_, _<_}
 use mathlib.Core.Path.{_≡_, refl, sym, _∙_}
 use lib.ListN.{length}

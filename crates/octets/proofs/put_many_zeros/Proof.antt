@@ -1,3 +1,4 @@
+-- `octets::put_many_zeros` keeps its promise, `now (room .exit) ≡ over (now (room .entry)) at (replicate count 0)`. Assumes nothing.
 use lib.ListN.{length-replicate}
 use Prim.Native.Nat.{_+_, _-_, _≤_}
 use mathlib.Core.Path.{_≡_, refl, sym, _∙_, ap}

@@ -1,3 +1,5 @@
+-- `octets::put_pair` keeps its promise, `now (room .exit) ≡ over (now (room .entry)) at (first ∷ second ∷ [])`. Writes two octets at `at`.
+-- Assumes nothing.
 use native.Mathlib.Numerals.{add-one}
 use mathlib.Core.List.{[], _∷_}
 use lib.ListN.{length-set}

@@ -1,3 +1,5 @@
+-- `octets::put_part` keeps its promise, `now (room .exit) ≡ over (now (room .entry)) at (part (now (s .entry)) from count)`. Copies the
+-- part of `s` that begins at `from` and has `count` octets into the room at `at`. Assumes nothing.
 use Prim.Native.Nat.{_-_}
 use Rattle.octets.proofs.Over.{over-again}
 use native.Mathlib.Omega.{arith}

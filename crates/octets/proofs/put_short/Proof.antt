@@ -1,3 +1,5 @@
+-- `octets::put_short` keeps its promise, `now (room .exit) ≡ over (now (room .entry)) at (part (now (s .entry)) from count)`. Copies two
+-- blocks, one where the part starts and one where it ends. Assumes nothing.
 use Prim.Native.Nat.{_-_}
 use Rattle.octets.proofs.Over.{over-again}
 use native.Mathlib.Omega.{arith}

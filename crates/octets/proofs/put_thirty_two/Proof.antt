@@ -1,3 +1,5 @@
+-- `octets::put_thirty_two` keeps its promise, `now (room .exit) ≡ over (now (room .entry)) at (part (now (s .entry)) from 32)`. Assumes
+-- nothing.
 use Rattle.octets.proofs.Over.{over-again}
 use native.Mathlib.Omega.{arith}
 use borrow.Author.Needs.{needs}

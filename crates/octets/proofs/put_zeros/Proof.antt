@@ -1,3 +1,5 @@
+-- `octets::put_zeros` keeps its promise, `now (room .exit) ≡ over (now (room .entry)) at (replicate count 0)`. Writes `count` zero octets
+-- at `at`: mostly a field's padding, which has at most three. Assumes nothing.
 use mathlib.Core.List.{[], _∷_}
 use mathlib.Core.Path.{refl, sym}
 use Rattle.octets.proofs.Over.{over-none, over-one, over-turn}

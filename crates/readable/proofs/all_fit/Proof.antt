@@ -1,3 +1,4 @@
+-- `readable::all_fit` keeps its promise, `r ≡ fitting m`. Whether no field is against the table. Assumes nothing.
 use mathlib.Core.Bool.{_&&_}
 use mathlib.Core.Logic.{⊎-elim}
 use mathlib.Core.Path.{_≡_, _∙_}

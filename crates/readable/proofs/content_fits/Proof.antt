@@ -1,3 +1,5 @@
+-- `readable::content_fits` keeps its promise, `r ≡ contentFits id w`. Whether a number is one that the table allows, by the test that the
+-- reader has. Assumes nothing.
 use borrow.Author.Needs.{needs}
 use Rattle.readable.proofs.content_fits.Statement.{statement}
 use Rattle.readable.proofs.content_fits.Tie as tie

@@ -1,3 +1,4 @@
+-- `readable::identity_fits` keeps its promise, `r ≡ identityFits p`. L of an identity is 1 to 62. Assumes nothing.
 use borrow.Author.Tests.{le-leb, lt-leb}
 use borrow.Author.Needs.{needs}
 use Rattle.readable.proofs.identity_fits.Statement.{statement}

@@ -1,3 +1,5 @@
+-- `readable::lies` keeps its promise, `r ≡ lies m (now (src .entry))`. Whether the identities and the phrase are in the source. Assumes
+-- nothing.
 use mathlib.Core.Bool.{_&&_}
 use mathlib.Core.Logic.{⊎-elim}
 use mathlib.Core.Path.{_≡_, _∙_}

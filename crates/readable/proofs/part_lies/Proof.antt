@@ -1,3 +1,5 @@
+-- `readable::part_lies` keeps its promise, `r ≡ partLies (now (src .entry)) p`. Whether what a field holds is in the source. Assumes
+-- nothing.
 use borrow.Author.Needs.{needs}
 use Rattle.readable.proofs.part_lies.Statement.{statement}
 use Rattle.readable.proofs.part_lies.Tie as tie

@@ -1,3 +1,4 @@
+-- `readable::phrase_fits` keeps its promise, `r ≡ phraseFits c`. L of a cause is 2 more than its phrase, and at most 255. Assumes nothing.
 use borrow.Author.Needs.{needs}
 use Rattle.readable.proofs.phrase_fits.Statement.{statement}
 use Rattle.readable.proofs.phrase_fits.Tie as tie

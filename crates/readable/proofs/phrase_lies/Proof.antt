@@ -1,3 +1,4 @@
+-- `readable::phrase_lies` keeps its promise, `r ≡ phraseLies (now (src .entry)) c`. Assumes nothing.
 use borrow.Author.Needs.{needs}
 use Rattle.readable.proofs.phrase_lies.Statement.{statement}
 use Rattle.readable.proofs.phrase_lies.Tie as tie

@@ -1,3 +1,4 @@
+-- `readable::readable` keeps its promise, `r ≡ readable m (now (src .entry))`. Whether a reader would accept the message. Assumes nothing.
 use Rattle.message.specs.Message.{lies}
 use Rattle.readable.specs.Fitting.{fitting}
 use Rattle.readable.proofs.Fits.{readable-by}

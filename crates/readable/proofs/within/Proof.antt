@@ -1,3 +1,4 @@
+-- `readable::within` keeps its promise, `r ≡ leb (from + count) len`. Whether a part lies within `len` octets. Assumes nothing.
 use Prim.Native.Nat.{_+_, _-_}
 use mathlib.Core.Path.{sym, _∙_}
 use lib.Dec.{leb}

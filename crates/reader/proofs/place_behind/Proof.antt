@@ -1,3 +1,5 @@
+-- `reader::place_behind` keeps its promise, `r ≡ behind step at`. The place behind what stands at a place, once that is known. Assumes
+-- nothing.
 use borrow.Author.Needs.{needs}
 use Rattle.reader.proofs.place_behind.Statement.{statement}
 use Rattle.reader.proofs.place_behind.Tie as tie

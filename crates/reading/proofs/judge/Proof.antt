@@ -1,3 +1,5 @@
+-- `reading::judge` keeps its promise, `Judges r (now (s .entry)) (now (starts .exit))`. Judges a packet, and notes where its fields'
+-- contents start: with its type they are its message, of which a caller makes what it needs. Assumes nothing.
 use mathlib.Core.Path.{sym, ap, _∙_}
 use Rattle.header.specs.Opening.{told}
 use Rattle.reading.specs.Reading.{reading}

@@ -1,3 +1,5 @@
+-- `reading::message_at` keeps its promise, `r ≡ messageAt kind (now (s .entry)) (λ i. getD (now (starts .entry)) i 0)`. The message of a
+-- packet of this type, from the starts of its fields' contents. Assumes nothing.
 use lib.Dec.{eqb}
 use Rattle.header.specs.Header.{ackBit}
 use Rattle.reading.specs.Reading.{messageAt}

@@ -1,3 +1,5 @@
+-- `reading::octet_at` keeps its promise, `r ≡ octetAt (now (s .entry)) at`. What a message has of a field whose content starts at `at`;
+-- nothing where that is 0. Assumes nothing.
 use borrow.Author.Tests.{eq-eqb, ne-eqb}
 use Rattle.words.specs.Choice.{if_then_else_}
 use Rattle.reading.specs.Reading.{octetAt}

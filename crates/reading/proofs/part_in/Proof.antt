@@ -1,3 +1,5 @@
+-- `reading::part_in` keeps its promise, `now r ≡ partIn (now (s .entry)) p`. The part of the packet that holds an identity or a phrase,
+-- itself and no copy of it; an empty part where the packet has none there. Assumes nothing.
 use Prim.Native.Nat.{ℕ, _+_, _≤_, _<_}
 use native.Mathlib.Nat.{add-sub-cancel-left}
 use mathlib.Core.Logic.{⊎-elim}

@@ -1,3 +1,5 @@
+-- `reading::read` keeps its promise, `Reads (now (s .entry)) r`. Reads a packet: its message, or the first refusal that applies. Assumes
+-- nothing.
 use mathlib.Core.Path.{sym, ap, subst, _∙_}
 use Rattle.message.specs.Answers.{result}
 use Rattle.header.specs.declared.Opening.{Opening}

@@ -1,3 +1,4 @@
+-- `report_octets::are_alike` keeps its promise, `r ≡ alike q p`. Assumes nothing.
 use Rattle.report_octets.specs.Report.{alike}
 use mathlib.Core.Path.{refl}
 use Rattle.report_octets.proofs.are_alike.Statement.{statement}

@@ -1,3 +1,4 @@
+-- `report_octets::kind_of` keeps its promise, `r ≡ kindOf q`. Assumes nothing.
 use Rattle.report_octets.specs.Report.{kindOf}
 use borrow.Author.Tests.{ne-eqb}
 use Rattle.words.specs.Choice.{if_then_else_}

@@ -1,3 +1,4 @@
+-- `report_octets::message_in` keeps its promise, `t ≡ messageIn (now (r .entry)) which`. Message 0 or 1 of a report. Assumes nothing.
 use Rattle.report_octets.specs.Report.{messageIn}
 use borrow.Author.Tests.{ne-eqb, eq-eqb}
 use Rattle.words.specs.Choice.{if_then_else_}

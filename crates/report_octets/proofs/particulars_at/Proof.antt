@@ -1,3 +1,4 @@
+-- `report_octets::particulars_at` keeps its promise, `q ≡ particularsAt (now (r .entry)) at`. Assumes nothing.
 use Rattle.report_octets.specs.Report.{particularsAt}
 use borrow.Author.Needs.{needs}
 use Rattle.report_octets.proofs.particulars_at.Statement.{statement}

@@ -1,3 +1,4 @@
+-- `report_octets::particulars_of` keeps its promise, `r ≡ particulars kind`. Assumes nothing.
 use Rattle.report_octets.specs.Report.{particulars}
 use borrow.Author.Needs.{needs}
 use Rattle.report_octets.proofs.particulars_of.Statement.{statement}

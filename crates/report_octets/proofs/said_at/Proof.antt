@@ -1,3 +1,4 @@
+-- `report_octets::said_at` keeps its promise, `t ≡ saidAt (now (r .entry)) at`. Assumes nothing.
 use borrow.Author.Needs.{needs}
 use Rattle.report_octets.proofs.said_at.Statement.{statement}
 use Rattle.report_octets.proofs.said_at.Tie as tie

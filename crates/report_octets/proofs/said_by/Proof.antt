@@ -1,3 +1,5 @@
+-- `report_octets::said_by` keeps its promise, `r ≡ saidBy q behind`. A message is taken only if its octets are those that would be written
+-- for it. Assumes nothing.
 use Rattle.report_octets.specs.Report.{saidBy}
 use Rattle.words.specs.Choice.{if_then_else_, if-yes, if-no}
 use mathlib.Core.Path.{sym}

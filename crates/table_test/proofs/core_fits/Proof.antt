@@ -1,3 +1,4 @@
+-- `table_test::core_fits` keeps its promise, `r ≡ coreFits (now (s .entry))`. Assumes nothing.
 use Rattle.desk_octets.specs.Form.{coreFits}
 use borrow.Author.Needs.{needs}
 use Rattle.table_test.proofs.core_fits.Statement.{statement}

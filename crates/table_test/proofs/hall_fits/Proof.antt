@@ -1,3 +1,4 @@
+-- `table_test::hall_fits` keeps its promise, `r ≡ hallFits (now (s .entry))`. Assumes nothing.
 use Rattle.desk_octets.specs.Form.{hallFits}
 use borrow.Author.Needs.{needs}
 use Rattle.table_test.proofs.hall_fits.Statement.{statement}

@@ -1,3 +1,4 @@
+-- `table_test::is_canonical` keeps its promise, `r ≡ canonical (now (s .entry))`. Assumes nothing.
 use Rattle.desk_octets.specs.Form.{canonical, namesFit}
 use borrow.Author.Tests.{eq-eqb, ne-eqb}
 use borrow.Author.Needs.{needs}

@@ -1,3 +1,4 @@
+-- `table_test::letters_fit` keeps its promise, `r ≡ lettersFit (now (s .entry))`. Assumes nothing.
 use Rattle.desk_octets.specs.Form.{lettersFit}
 use borrow.Author.Needs.{needs}
 use Rattle.table_test.proofs.letters_fit.Statement.{statement}

@@ -1,3 +1,4 @@
+-- `table_test::phase_fits` keeps its promise, `r ≡ phaseFits kind timers holder cause`. Assumes nothing.
 use Rattle.desk_octets.specs.Form.{phaseFits}
 use Rattle.words.specs.Choice.{if_then_else_}
 use borrow.Author.Tests.{eq-eqb, ne-eqb}

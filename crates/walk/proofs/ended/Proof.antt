@@ -1,3 +1,4 @@
+-- `walk::ended` keeps its promise, `r ≡ endedBy step`. How a walk ended, by what the reader handed out last. Assumes nothing.
 use borrow.Author.Needs.{needs}
 use Rattle.walk.proofs.ended.Statement.{statement}
 use Rattle.walk.proofs.ended.Tie as tie

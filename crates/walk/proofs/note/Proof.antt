@@ -1,3 +1,5 @@
+-- `walk::note` keeps its promise, `now (starts .exit) ≡ noted (now (starts .entry)) id start`. Notes where a field's content starts, unless
+-- one with its ID came before it: of a repeated ID the first counts. Assumes nothing.
 use borrow.Author.Tests.{lt-ltb, le-ltb, eq-eqb, ne-eqb}
 use Rattle.words.specs.Choice.{if_then_else_}
 use Rattle.walk.specs.Walk.{noted}

@@ -1,3 +1,5 @@
+-- `walk::noted_field` keeps its promise, `(r ≡ isField step) × (now (starts .exit) ≡ notedStep (now (starts .entry)) step)`. Notes what was
+-- handed out, where it is a field; whether it is one. Assumes nothing.
 use mathlib.Core.Path.{refl}
 use borrow.Author.Needs.{needs}
 use Rattle.walk.proofs.noted_field.Statement.{statement}

@@ -1,3 +1,4 @@
+-- `writing::front_size` keeps its promise, `r ≡ frontSize m`. The octets that the fields 0 to 5 take. Assumes nothing.
 use Rattle.field_writing.proofs.Sizes.{octet-whole, word-whole, queue-whole, part-whole, cause-whole}
 use native.Mathlib.Omega.{arith}
 use borrow.Author.Needs.{needs}

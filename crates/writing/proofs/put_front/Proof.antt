@@ -1,3 +1,5 @@
+-- `writing::put_front` keeps its promise, `Laid (now (room .entry)) at (body (frontFields m (now (src .entry)))) (now (room .exit)) r`.
+-- Lays the fields 0 to 5, in ascending order. Assumes nothing.
 use Prim.Native.Nat.{_+_, _≤_}
 use mathlib.Core.Path.{refl}
 use lib.ListN.{length, drop}

@@ -1,3 +1,5 @@
+-- `writing::put_rest` keeps its promise, `Laid (now (room .entry)) at (body (restFields m (now (src .entry)))) (now (room .exit)) r`. Lays
+-- the fields 6 to 14, in ascending order. Assumes nothing.
 use Prim.Native.Nat.{_+_, _≤_}
 use mathlib.Core.Path.{refl}
 use lib.ListN.{length, drop}

@@ -1,3 +1,4 @@
+-- `writing::rest_size` keeps its promise, `r ≡ restSize m`. The octets that the fields 6 to 14 take. Assumes nothing.
 use Rattle.field_writing.proofs.Sizes.{octet-whole, word-whole, number-whole, part-whole}
 use native.Mathlib.Omega.{arith}
 use borrow.Author.Needs.{needs}

@@ -1,3 +1,4 @@
+-- `writing::size_of` keeps its promise, `r ≡ headerSize + (frontSize m + restSize m)`. The octets of the whole packet. Assumes nothing.
 use Rattle.writing.proofs.Lengths.{front-whole, rest-whole}
 use native.Mathlib.Omega.{arith}
 use borrow.Author.Needs.{needs}
