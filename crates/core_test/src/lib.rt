@@ -17,9 +17,10 @@ ghost use mathlib.Core.Path.{_≡_};
 ghost use mathlib.Core.Bool.{true};
 ghost use Prim.Native.Nat.{_≤_, _<_};
 ghost use lib.ListN.{length};
+ghost use Rattle.octets.specs.Octets.{nthOctet};
 ghost use Rattle.words.specs.Below.{allBelow};
 ghost use Rattle.hall.specs.Seats.{isPresent};
-ghost use Rattle.desk_octets.specs.Form.{octetAt, coreAt, hallAt, coreFits};
+ghost use Rattle.desk_octets.specs.Form.{coreAt, hallAt, coreFits};
 ghost use Rattle.core_test.specs.Test.{inOrder, placeSound, placeBehind, lineSound, holderSound, floorSound, coreSound};
 ghost use Rattle.core_test.specs.Line.{lineIn, isAnother};
 ghost use Rattle.desk_octets.specs.Places.{holderPlace, countPlace, deskSize};
@@ -56,7 +57,7 @@ fn are_others(s: &[u8], seat: u8, n: usize) -> bool
 
 fn is_in_order(s: &[u8], n: usize, i: usize) -> bool
     requires { ⌜ deskSize ≤ length (now s) ⌝ }
-    requires { ⌜ (n ≡ octetAt (now s) countPlace) × (n ≤ 15) ⌝ }
+    requires { ⌜ (n ≡ nthOctet (now s) countPlace) × (n ≤ 15) ⌝ }
     requires { ⌜ i < n ⌝ }
     ensures { λ r. ⌜ r ≡ inOrder (lineIn (now (s .entry))) i ⌝ }
 {
@@ -71,7 +72,7 @@ fn is_in_order(s: &[u8], n: usize, i: usize) -> bool
 
 fn place_is_sound(s: &[u8], n: usize, i: usize) -> bool
     requires { ⌜ deskSize ≤ length (now s) ⌝ }
-    requires { ⌜ (n ≡ octetAt (now s) countPlace) × (n ≤ 15) ⌝ }
+    requires { ⌜ (n ≡ nthOctet (now s) countPlace) × (n ≤ 15) ⌝ }
     requires { ⌜ i < n ⌝ }
     ensures { λ r. ⌜ r ≡ placeSound (hallAt (now (s .entry))) (lineIn (now (s .entry))) i ⌝ }
 {
@@ -84,7 +85,7 @@ fn place_is_sound(s: &[u8], n: usize, i: usize) -> bool
 
 fn places_are_sound(s: &[u8], n: usize) -> bool
     requires { ⌜ deskSize ≤ length (now s) ⌝ }
-    requires { ⌜ (n ≡ octetAt (now s) countPlace) × (n ≤ 15) ⌝ }
+    requires { ⌜ (n ≡ nthOctet (now s) countPlace) × (n ≤ 15) ⌝ }
     ensures { λ r. ⌜ r ≡ allBelow (placeSound (hallAt (now (s .entry))) (lineIn (now (s .entry)))) n ⌝ }
 {
     let mut ok = true;
@@ -101,7 +102,7 @@ fn places_are_sound(s: &[u8], n: usize) -> bool
 fn places_behind(s: &[u8], n: usize) -> bool
     requires { ⌜ deskSize ≤ length (now s) ⌝ }
     requires { ⌜ coreFits (now s) ≡ true ⌝ }
-    requires { ⌜ n ≡ octetAt (now s) countPlace ⌝ }
+    requires { ⌜ n ≡ nthOctet (now s) countPlace ⌝ }
     ensures { λ r. ⌜ r ≡ allBelow (placeBehind (coreAt (now (s .entry)) .line)) 15 ⌝ }
 {
     let mut ok = true;
@@ -117,7 +118,7 @@ fn places_behind(s: &[u8], n: usize) -> bool
 fn line_is_sound(s: &[u8], n: usize) -> bool
     requires { ⌜ deskSize ≤ length (now s) ⌝ }
     requires { ⌜ coreFits (now s) ≡ true ⌝ }
-    requires { ⌜ n ≡ octetAt (now s) countPlace ⌝ }
+    requires { ⌜ n ≡ nthOctet (now s) countPlace ⌝ }
     ensures { λ r. ⌜ r ≡ lineSound (hallAt (now (s .entry))) (coreAt (now (s .entry)) .line) ⌝ }
 {
     let places = places_are_sound(s, n);
@@ -130,8 +131,8 @@ fn line_is_sound(s: &[u8], n: usize) -> bool
 
 fn holder_is_sound(s: &[u8], n: usize) -> bool
     requires { ⌜ deskSize ≤ length (now s) ⌝ }
-    requires { ⌜ (n ≡ octetAt (now s) countPlace) × (n ≤ 15) ⌝ }
-    ensures { λ r. ⌜ r ≡ holderSound (hallAt (now (s .entry))) (lineIn (now (s .entry))) (octetAt (now (s .entry)) holderPlace) ⌝ }
+    requires { ⌜ (n ≡ nthOctet (now s) countPlace) × (n ≤ 15) ⌝ }
+    ensures { λ r. ⌜ r ≡ holderSound (hallAt (now (s .entry))) (lineIn (now (s .entry))) (nthOctet (now (s .entry)) holderPlace) ⌝ }
 {
     let seat = s[HOLDER_PLACE];
     let present = is_present(s, seat);
@@ -141,7 +142,7 @@ fn holder_is_sound(s: &[u8], n: usize) -> bool
 
 fn floor_is_sound(s: &[u8], n: usize) -> bool
     requires { ⌜ deskSize ≤ length (now s) ⌝ }
-    requires { ⌜ (n ≡ octetAt (now s) countPlace) × (n ≤ 15) ⌝ }
+    requires { ⌜ (n ≡ nthOctet (now s) countPlace) × (n ≤ 15) ⌝ }
     ensures { λ r. ⌜ r ≡ floorSound (hallAt (now (s .entry))) (lineIn (now (s .entry))) (coreAt (now (s .entry)) .phase) ⌝ }
 {
     let kind = s[PHASE_PLACE];

@@ -22,7 +22,7 @@ ghost use Rattle.words.specs.Choice.{one as flag};
 ghost use Rattle.octets.specs.Octets.{over};
 ghost use Rattle.line.specs.Line.{empty};
 ghost use Rattle.desk_octets.specs.Columns.{column};
-ghost use Rattle.desk_octets.specs.Form.{letters, kindOctet, alsoOctet, timersOctet, holderIn, causeIn, phaseOctets, seatIn, priorityIn, lineOctets, coreOctets};
+ghost use Rattle.desk_octets.specs.Form.{deskLetters, kindOctet, alsoOctet, timersOctet, holderIn, causeIn, phaseOctets, entrySeat, entryPriority, lineOctets, coreOctets};
 ghost use Rattle.desk_octets.specs.Places.{phasePlace, countPlace, waitingColumn, prioritiesColumn, deskSize};
 
 pub fn flag_octet(b: bool) -> u8
@@ -97,7 +97,7 @@ fn cause_in(phase: Phase) -> u16
 
 pub fn put_letters(room: &mut [u8])
     requires { ⌜ deskSize ≤ length (now room) ⌝ }
-    ensures { λ _. ⌜ now (room .exit) ≡ over (now (room .entry)) 0 letters ⌝ }
+    ensures { λ _. ⌜ now (room .exit) ≡ over (now (room .entry)) 0 deskLetters ⌝ }
 {
     octets::put_pair(room, 0, 70, 68);
     octets::put_pair(room, 2, 1, 0);
@@ -118,7 +118,7 @@ fn put_phase(room: &mut [u8], phase: Phase)
 
 fn put_seats(room: &mut [u8], entries: [Entry; 15])
     requires { ⌜ deskSize ≤ length (now room) ⌝ }
-    ensures { λ _. ⌜ now (room .exit) ≡ over (now (room .entry)) waitingColumn (column (seatIn entries) 0 15) ⌝ }
+    ensures { λ _. ⌜ now (room .exit) ≡ over (now (room .entry)) waitingColumn (column (entrySeat entries) 0 15) ⌝ }
 {
     let mut i = 0;
     while i < 15 {
@@ -130,7 +130,7 @@ fn put_seats(room: &mut [u8], entries: [Entry; 15])
 
 fn put_priorities(room: &mut [u8], entries: [Entry; 15])
     requires { ⌜ deskSize ≤ length (now room) ⌝ }
-    ensures { λ _. ⌜ now (room .exit) ≡ over (now (room .entry)) prioritiesColumn (column (priorityIn entries) 0 15) ⌝ }
+    ensures { λ _. ⌜ now (room .exit) ≡ over (now (room .entry)) prioritiesColumn (column (entryPriority entries) 0 15) ⌝ }
 {
     let mut i = 0;
     while i < 15 {

@@ -36,7 +36,7 @@ use Rattle.marks.proofs.InLine.{none-in, first-in, behind-in, only-at, gone-out
 use Rattle.marks.proofs.Did.{Did, rests, gives, places, shifts, strikes, passes, frees, halts, closes}
 use Rattle.reach.specs.Sound.{Sound}
 use Rattle.reach.proofs.Reach.{fits}
-use Rattle.demands.specs.Demands.{moves, comesIn, goesOut, heldAfter, isPlaced, isStruck, isGivenOut, isEnded, reason, Place, away}
+use Rattle.demands.specs.Demands.{moves, comesInto, goesOut, heldAfter, isPlaced, isStruck, isGivenOut, isEnded, reason, Place, away}
 use Rattle.demands.specs.Demands.{inLine, placedAt, askedAgain, placeAfter, isMoved}
 use Rattle.demands.proofs.Places.{placeIn, place-out, place-at, place-enter, place-without}
 
@@ -102,7 +102,7 @@ asked-still s t p es n =
 
 -- who asks for nothing, or does not move, leaves the line and every place as they are
 module _ (es : List Entry) (s : ℕ) where
-  pub still-line : (a : Asking) → ((t p : ℕ) → a ≡ asks t p → moves t p es ≡ false) → comesIn a NoSeat es ≡ es
+  pub still-line : (a : Asking) → ((t p : ℕ) → a ≡ asks t p → moves t p es ≡ false) → comesInto a NoSeat es ≡ es
   still-line nobody u = refl
   still-line (asks t p) u = if-no _ _ _ (u t p refl)
 
@@ -216,7 +216,7 @@ module _ (d : Desk) (x : Doing) (new : Core) (m : Marks) where
     idle-still i t p q = unmoved d k none t p (quiet (idle-quiet (d .core .phase) i))
 
     -- 5: the line afterwards
-    pub line-changed : Did d x new m → comesIn what (m .placed) (goesOut (m .given) (without (m .struck) before)) ≡ waiting (new .line)
+    pub line-changed : Did d x new m → comesInto what (m .placed) (goesOut (m .given) (without (m .struck) before)) ≡ waiting (new .line)
     line-changed (rests u l f e) = rw (e, l, without-none before) (still-line before 0 what (still u))
     line-changed (gives t p a i l f e) = rw (e, l, without-none before) (still-line before 0 what (idle-still i))
     line-changed (places t p a w r l f e) = rw (e, a, l, without-none before)

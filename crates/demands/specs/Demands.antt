@@ -56,12 +56,12 @@ pub record Row : Type 0 where
   pub asked : Asking
   pub report : Report
 
-abbrev pub rowOf : Server → Desk → Doing → Row
-rowOf server d x = record { asked = asking (d .hall) x; report = server d x .report }
+abbrev pub rowBy : Server → Desk → Doing → Row
+rowBy server d x = record { asked = asking (d .hall) x; report = server d x .report }
 
 abbrev pub log : Server → Desk → History → List Row
 log server start [] = []
-log server start (x ∷ past) = rowOf server (deskAfter server start past) x ∷ log server start past
+log server start (x ∷ past) = rowBy server (deskAfter server start past) x ∷ log server start past
 
 -- COUNTING, by the marks alone
 
@@ -96,10 +96,10 @@ unfoldable pub moves : ℕ → ℕ → List Entry → Bool
 moves s p es = isIn s es && not (eqb (priorityOf s es) p)
 
 -- who is placed comes in; who is moved goes out and comes in
-abbrev pub comesIn : Asking → Mark → List Entry → List Entry
-comesIn nobody m es = es
-comesIn (asks s p) (Seat t) es = enter (entryOf s p) es
-comesIn (asks s p) NoSeat es = if moves s p es then enter (entryOf s p) (without (only s) es) else es
+abbrev pub comesInto : Asking → Mark → List Entry → List Entry
+comesInto nobody m es = es
+comesInto (asks s p) (Seat t) es = enter (entryOf s p) es
+comesInto (asks s p) NoSeat es = if moves s p es then enter (entryOf s p) (without (only s) es) else es
 
 -- who is given the floor out of the line goes out
 abbrev pub goesOut : Given → List Entry → List Entry
@@ -108,7 +108,7 @@ goesOut (AtOnce s) es = es
 goesOut (OutOfLine s) es = without (only s) es
 
 unfoldable pub changed : Row → List Entry → List Entry
-changed r es = comesIn (r .asked) (r .report .marks .placed) (goesOut (r .report .marks .given) (without (r .report .marks .struck) es))
+changed r es = comesInto (r .asked) (r .report .marks .placed) (goesOut (r .report .marks .given) (without (r .report .marks .struck) es))
 
 abbrev pub lineFrom : List Row → List Entry
 lineFrom [] = []

@@ -15,8 +15,8 @@ ghost use Rattle.octets.specs.Octets.{over};
 ghost use Rattle.desk_looking.specs.Looking.{signed, holderAnswer, bit, timerSet, seatAnswer, sizeIn, pairs, screened, savedAnswer, tells};
 ghost use Rattle.line.specs.Line.{waiting};
 ghost use Rattle.report_octets.specs.declared.Told.the-variants.{Says};
-ghost use Rattle.saving.specs.Saving.{told};
-ghost use Rattle.writing.specs.Writing as writes;
+ghost use Rattle.saving.specs.Saving.{savingAnswer};
+ghost use Rattle.writing.specs.Writing.{writingAnswer};
 ghost use Rattle.desk_octets.specs.Places.{deskSize};
 
 pub fn found(n: u32) -> i32
@@ -95,8 +95,8 @@ pub fn show(line: Line, room: &mut [u8]) -> i32
 }
 
 pub fn saved_number(saving: Saving) -> i32
-    requires { ⌜ told saving .written ≤ 1124 ⌝ }
-    ensures { λ r. ⌜ r ≡ signed (savedAnswer (told saving)) ⌝ }
+    requires { ⌜ savingAnswer saving .written ≤ 1124 ⌝ }
+    ensures { λ r. ⌜ r ≡ signed (savedAnswer (savingAnswer saving)) ⌝ }
 {
     match saving {
         Saving::Saved(n) => found(n as u32),
@@ -106,8 +106,8 @@ pub fn saved_number(saving: Saving) -> i32
 
 // A packet has at most 440 octets.
 pub fn written_number(answer: Writing) -> i32
-    requires { ⌜ sizeIn (writes.told answer) ≤ 440 ⌝ }
-    ensures { λ r. ⌜ r ≡ signed (writes.told answer) ⌝ }
+    requires { ⌜ sizeIn (writingAnswer answer) ≤ 440 ⌝ }
+    ensures { λ r. ⌜ r ≡ signed (writingAnswer answer) ⌝ }
 {
     match answer {
         Writing::Written(n) => found(n as u32),

@@ -10,7 +10,7 @@ use lib.ListN.{length}
 use Rattle.words.specs.Choice.{if_then_else_}
 use Rattle.octets.specs.Octets.{over}
 use Rattle.hall.specs.declared.Answer.the-variants.{OutsideRange}
-use Rattle.hall.specs.Answers.{number}
+use Rattle.hall.specs.Answers.{answerNumber}
 use Rattle.hall.specs.declared.Settings.{Settings}
 use Rattle.hall.specs.declared.Hall.{Hall}
 use Rattle.identities.specs.declared.Names.{Names}
@@ -37,7 +37,7 @@ unfoldable pub settable : Settings → Bool
 settable s = inOctets (s .level) (s .limit) (s .c7) (s .c20) (s .duration) && inRange s
 
 abbrev pub makeOn : List ℕ → Settings → ℕ × List ℕ
-makeOn room s = if settable s then written room 0 fresh (emptyHall s) noNames else (number OutsideRange, room)
+makeOn room s = if settable s then written room 0 fresh (emptyHall s) noNames else (answerNumber OutsideRange, room)
 
 abbrev pub loadOn : List ℕ → List ℕ → ℕ × List ℕ
 loadOn room sheet = written room (loading sheet .number) (loading sheet .core) (loading sheet .hall) (loading sheet .names)
@@ -48,7 +48,7 @@ newcomer ssrc highest queueing receiveOnly =
     newcomerOf ssrc highest (record { queueing = not (eqb queueing 0); «receive_only» = not (eqb receiveOnly 0) })
 
 abbrev pub joinedOn : List ℕ → Joined → ℕ × List ℕ
-joinedOn d j = if formed d then written d (number (j .answer)) (coreAt d) (j .hall) (j .names) else (20, d)
+joinedOn d j = if formed d then written d (answerNumber (j .answer)) (coreAt d) (j .hall) (j .names) else (20, d)
 
 abbrev pub joinOn : List ℕ → List ℕ → Newcomer → ℕ × List ℕ
 joinOn d identity who = joinedOn d (join (hallAt d) (namesAt d) identity who)

@@ -11,21 +11,21 @@ use mir.Val.{Fits}
 use borrow.Author.Tests.{eqb-true, leb-true}
 use Rattle.words.specs.Below.{below}
 use Rattle.words.proofs.Tests.{and-four, and-five}
-use Rattle.octets.specs.Octets.{be16, Octets}
+use Rattle.octets.specs.Octets.{be16, Octets, nthOctet}
 use Rattle.line.specs.Line.{entryOf}
 use Rattle.seat_octets.specs.Layout.{flagsTop}
 use Rattle.desk_octets.specs.Places.{deskSize, phasePlace, timersPlace, holderPlace, heldAtPlace, causePlace, countPlace, countZero}
 use Rattle.desk_octets.specs.Places.{waitingZero, prioritiesZero, takenColumn, flagsColumn, flagsZeros, settingsZeros, lengthsColumn}
-use Rattle.desk_octets.specs.Form.{octetAt, upTo, phaseFits, lettersFit, coreFits, hallFits, namesFit, canonical}
+use Rattle.desk_octets.specs.Form.{upTo, phaseFits, lettersFit, coreFits, hallFits, namesFit, canonical}
 
 -- what is lent is octets
 pub octets-lent : (d : List ℕ) → ((i : ℕ) → Fits w8 (getD d i 0)) → Octets d
 octets-lent d f i = omega (arith, f i)
 
 -- an octet of a column that is at most so much
-pub up-to : (top : ℕ) (s : List ℕ) (at n : ℕ) → upTo top s at n ≡ true → (i : ℕ) → i < n → octetAt s (at + i) ≤ top
+pub up-to : (top : ℕ) (s : List ℕ) (at n : ℕ) → upTo top s at n ≡ true → (i : ℕ) → i < n → nthOctet s (at + i) ≤ top
 unfolding upTo
-up-to top s at n e i b = leb-true (octetAt s (at + i)) top (below (λ k. leb (octetAt s (at + k)) top) n e i b)
+up-to top s at n e i b = leb-true (nthOctet s (at + i)) top (below (λ k. leb (nthOctet s (at + k)) top) n e i b)
 
 -- the whole
 module _ (s : List ℕ) (fits : canonical s ≡ true) where
@@ -53,25 +53,27 @@ module _ (s : List ℕ) (fits : canonical s ≡ true) where
 
 -- the floor and the line
 pub record CoreFacts (s : List ℕ) : Type 0 where
-  pub phase : phaseFits (octetAt s phasePlace) (octetAt s timersPlace) (entryOf (octetAt s holderPlace) (octetAt s heldAtPlace))
+  pub phase : phaseFits (nthOctet s phasePlace) (nthOctet s timersPlace) (entryOf (nthOctet s holderPlace) (nthOctet s heldAtPlace))
       (be16 s causePlace) ≡ true
-  pub few : octetAt s countPlace ≤ 15
-  pub behind-count : octetAt s countZero ≡ 0
-  pub behind-waiting : octetAt s waitingZero ≡ 0
-  pub behind-priorities : octetAt s prioritiesZero ≡ 0
+  pub few : nthOctet s countPlace ≤ 15
+  pub behind-count : nthOctet s countZero ≡ 0
+  pub behind-waiting : nthOctet s waitingZero ≡ 0
+  pub behind-priorities : nthOctet s prioritiesZero ≡ 0
 
 pub core-facts : (s : List ℕ) → coreFits s ≡ true → CoreFacts s
 unfolding coreFits
 core-facts s e =
     let f = and-five
-    (phaseFits (octetAt s phasePlace) (octetAt s timersPlace) (entryOf (octetAt s holderPlace) (octetAt s heldAtPlace)) (be16 s causePlace))
-    (leb (octetAt s countPlace) 15) (eqb (octetAt s countZero) 0) (eqb (octetAt s waitingZero) 0) (eqb (octetAt s prioritiesZero) 0) e in
+    (phaseFits (nthOctet s phasePlace) (nthOctet s timersPlace) (entryOf (nthOctet s holderPlace) (nthOctet s heldAtPlace))
+    (be16 s causePlace))
+    (leb (nthOctet s countPlace) 15) (eqb (nthOctet s countZero) 0) (eqb (nthOctet s waitingZero) 0) (eqb (nthOctet s prioritiesZero) 0)
+    e in
     record {
       phase = f .0;
-      few = leb-true (octetAt s countPlace) 15 (f .1);
-      behind-count = eqb-true (octetAt s countZero) 0 (f .2);
-      behind-waiting = eqb-true (octetAt s waitingZero) 0 (f .3);
-      behind-priorities = eqb-true (octetAt s prioritiesZero) 0 (f .4);
+      few = leb-true (nthOctet s countPlace) 15 (f .1);
+      behind-count = eqb-true (nthOctet s countZero) 0 (f .2);
+      behind-waiting = eqb-true (nthOctet s waitingZero) 0 (f .3);
+      behind-priorities = eqb-true (nthOctet s prioritiesZero) 0 (f .4);
     }
 
 -- the seats
@@ -88,6 +90,6 @@ hall-facts s e =
     record { taken = f .0; flags = f .1; behind-flags = f .2; behind-settings = f .3 }
 
 -- the identities
-pub fits-length : (s : List ℕ) → namesFit s ≡ true → (seat : ℕ) → seat < 16 → octetAt s (lengthsColumn + seat) ≤ 62
+pub fits-length : (s : List ℕ) → namesFit s ≡ true → (seat : ℕ) → seat < 16 → nthOctet s (lengthsColumn + seat) ≤ 62
 unfolding namesFit
 fits-length s q seat b = up-to 62 s lengthsColumn 16 q seat b

@@ -12,7 +12,7 @@ use lib.Seq.{drop-at}
 use borrow.Author.Tests.{eqb-true, le-leb}
 use Rattle.line.specs.Line.{entryOf}
 use Rattle.words.specs.Choice.{one as flag}
-use Rattle.octets.specs.Octets.{be16, be32, octets32, over, Octets}
+use Rattle.octets.specs.Octets.{be16, be32, octets32, over, Octets, nthOctet}
 use Rattle.line.specs.Line.{waiting}
 use Rattle.hall.specs.declared.Flags.{Flags}
 use Rattle.hall.specs.declared.Hall.{Hall}
@@ -29,8 +29,9 @@ use Rattle.desk_octets.specs.Columns.{column, rows}
 use Rattle.seat_octets.specs.Layout.{flagsOctet, flagsOf, flagsTop, settingsSize, settingsOctets, zerosIn}
 use Rattle.seat_octets.proofs.Bits.{flags-forth}
 use Rattle.seat_octets.proofs.SettingsLaws.{settings-forth}
-use Rattle.desk_octets.specs.Form.{letters, phaseOctets, lineOctets, coreOctets, boolOctets, seatOctets, seatFlagsOctets, wordOctets}
-use Rattle.desk_octets.specs.Form.{hallOctets, lengthOctets, nameOctets, namesOctets, octetsOf, octetAt, boolAt, entryAt, phaseAt}
+use Rattle.desk_octets.specs.Form.{deskLetters, phaseOctets, lineOctets, coreOctets, boolOctets, seatOctets, seatFlagsOctets}
+use Rattle.desk_octets.specs.Form.{wordOctets}
+use Rattle.desk_octets.specs.Form.{hallOctets, lengthOctets, nameOctets, namesOctets, octetsOf, boolAt, entryAt, phaseAt}
 use Rattle.desk_octets.specs.Form.{entriesAt, coreAt, boolsAt, octetsAt, wordsAt, seatFlagsAt, settingsAt, hallAt, nameIn, namesAt}
 use Rattle.desk_octets.specs.Form.{upTo, phaseFits, lettersFit, coreFits, hallFits, namesFit, canonical}
 use Rattle.desk_octets.proofs.Columns.{column-is, column-same, column-two, rows-same, length-column, getD-column}
@@ -45,22 +46,22 @@ use Rattle.desk_octets.proofs.Facts.{hall-facts}
 
 -- n octets from a place on
 abbrev from : List ℕ → ℕ → ℕ → List ℕ
-from s at n = column (octetAt s) at n
+from s at n = column (nthOctet s) at n
 
 -- columns of the hall
 bools-forth : (s : List ℕ) (at : ℕ) → upTo 1 s at 16 ≡ true → boolOctets (boolsAt s at) ≡ from s at 16
 unfolding boolOctets boolsAt
 bools-forth s at e =
-    column-same (λ i. flag (getD (column (boolAt s) at 16) i false)) (octetAt s) 0 at 16
+    column-same (λ i. flag (getD (column (boolAt s) at 16) i false)) (nthOctet s) 0 at 16
     (λ i k.
     ap (λ (j : ℕ). flag (getD (column (boolAt s) at 16) j false)) (zero-add i) ∙ ap flag (getD-column (boolAt s) at 16 i false k)
-    ∙ flag-forth (octetAt s (at + i)) (le-leb (octetAt s (at + i)) 1 (up-to 1 s at 16 e i k)))
+    ∙ flag-forth (nthOctet s (at + i)) (le-leb (nthOctet s (at + i)) 1 (up-to 1 s at 16 e i k)))
 
 octets-forth : (s : List ℕ) (at : ℕ) → seatOctets (octetsAt s at) ≡ from s at 16
 unfolding seatOctets octetsAt
 octets-forth s at =
-    column-same (λ i. getD (column (octetAt s) at 16) i 0) (octetAt s) 0 at 16
-    (λ i k. ap (λ (j : ℕ). getD (column (octetAt s) at 16) j 0) (zero-add i) ∙ getD-column (octetAt s) at 16 i 0 k)
+    column-same (λ i. getD (column (nthOctet s) at 16) i 0) (nthOctet s) 0 at 16
+    (λ i k. ap (λ (j : ℕ). getD (column (nthOctet s) at 16) j 0) (zero-add i) ∙ getD-column (nthOctet s) at 16 i 0 k)
 
 four-forth : (s : List ℕ) (at : ℕ) → Octets s → octets32 (be32 s at) ≡ from s at 4
 unfolding column
@@ -73,42 +74,42 @@ four-forth s at o =
 words-forth : (s : List ℕ) (at : ℕ) → Octets s → wordOctets (wordsAt s at) ≡ from s at 64
 unfolding wordOctets wordsAt
 words-forth s at o =
-    rows-same (λ i. octets32 (getD (column (λ j. be32 s (at + 4 * j)) 0 16) i 0)) (λ i. column (octetAt s) (at + 4 * i) 4) 0 16
+    rows-same (λ i. octets32 (getD (column (λ j. be32 s (at + 4 * j)) 0 16) i 0)) (λ i. column (nthOctet s) (at + 4 * i) 4) 0 16
     (λ i k.
     ap octets32 (ap (λ (j : ℕ). getD (column (λ m. be32 s (at + 4 * m)) 0 16) j 0) (zero-add i)
     ∙ getD-column (λ j. be32 s (at + 4 * j)) 0 16 i 0 k)
     ∙ four-forth s (at + 4 * (0 + i)) o)
-    ∙ rows-column (octetAt s) 4 at 16
+    ∙ rows-column (nthOctet s) 4 at 16
 
 seat-flags-forth : (s : List ℕ) (at : ℕ) → upTo flagsTop s at 16 ≡ true → seatFlagsOctets (seatFlagsAt s at) ≡ from s at 16
 unfolding seatFlagsOctets seatFlagsAt
 seat-flags-forth s at e =
-    let f : ℕ → Flags = λ i. flagsOf (octetAt s (at + i)) in
-    column-same (λ i. flagsOctet (getD (column f 0 16) i noFlags)) (octetAt s) 0 at 16
+    let f : ℕ → Flags = λ i. flagsOf (nthOctet s (at + i)) in
+    column-same (λ i. flagsOctet (getD (column f 0 16) i noFlags)) (nthOctet s) 0 at 16
     (λ i k.
     ap (λ (j : ℕ). flagsOctet (getD (column f 0 16) j noFlags)) (zero-add i)
-    ∙ ap flagsOctet (getD-column f 0 16 i noFlags k ∙ ap f (zero-add i)) ∙ flags-forth (octetAt s (at + i)) (up-to flagsTop s at 16 e i k))
+    ∙ ap flagsOctet (getD-column f 0 16 i noFlags k ∙ ap f (zero-add i)) ∙ flags-forth (nthOctet s (at + i)) (up-to flagsTop s at 16 e i k))
 
 zero-in : (n i : ℕ) → _≡_ {A = ℕ} (getD (replicate n 0) i 0) 0
 zero-in zero i = refl
 zero-in (suc n) zero = refl
 zero-in (suc n) (suc i) = zero-in n i
 
-zeros-forth : (s : List ℕ) (at n : ℕ) → ((i : ℕ) → i < n → octetAt s (at + i) ≡ 0) → replicate n 0 ≡ from s at n
-zeros-forth s at n z = column-is (octetAt s) (replicate n 0) at n 0 (length-replicate n 0) (λ i b. zero-in n i ∙ sym (z i b))
+zeros-forth : (s : List ℕ) (at n : ℕ) → ((i : ℕ) → i < n → nthOctet s (at + i) ≡ 0) → replicate n 0 ≡ from s at n
+zeros-forth s at n z = column-is (nthOctet s) (replicate n 0) at n 0 (length-replicate n 0) (λ i b. zero-in n i ∙ sym (z i b))
 
 -- the settings, and the four zeros behind them
 settings-there : (s : List ℕ) → Octets s → deskSize ≤ length s → upTo 0 s settingsZeros 6 ≡ true →
     settingsOctets (settingsAt s) ++ replicate 4 0 ≡ from s settingsStart 16
 unfolding be16
 settings-there s o l e =
-    let z : (i : ℕ) → i < 6 → octetAt s (settingsZeros + i) ≡ 0 = λ i k. omega (arith, up-to 0 s settingsZeros 6 e i k) in
+    let z : (i : ℕ) → i < 6 → nthOctet s (settingsZeros + i) ≡ 0 = λ i k. omega (arith, up-to 0 s settingsZeros 6 e i k) in
     let none : zerosIn s settingsStart ≡ 0 = rw (z 0 (omega arith), z 1 (omega arith)) in
     let g : settingsOctets (settingsAt s) ≡ from s settingsStart settingsSize =
     settings-forth s settingsStart o (omega arith) none ∙ part-column s settingsStart settingsSize (omega arith) in
     let y : replicate 4 0 ≡ from s settingsEnd 4 = zeros-forth s settingsEnd 4 (λ i b.
-    let q : settingsEnd + i ≡ settingsZeros + (2 + i) = omega arith in ap (octetAt s) q ∙ z (2 + i) (omega arith)) in
-    rw (g, y) (column-two (octetAt s) settingsStart settingsSize 4)
+    let q : settingsEnd + i ≡ settingsZeros + (2 + i) = omega arith in ap (nthOctet s) q ∙ z (2 + i) (omega arith)) in
+    rw (g, y) (column-two (nthOctet s) settingsStart settingsSize 4)
 
 hall-forth : (s : List ℕ) → Octets s → deskSize ≤ length s → hallFits s ≡ true → hallOctets (hallAt s) ≡ from s takenColumn 144
 unfolding hallOctets hallAt
@@ -128,30 +129,32 @@ hall-forth s o l e =
     (settingsOctets (settingsAt s)) (replicate 4 0)
     ∙ rw (
       settings-there s o l (f .behind-settings),
-      column-two (octetAt s) takenColumn 16 64,
-      column-two (octetAt s) takenColumn 80 16,
-      column-two (octetAt s) takenColumn 96 16,
-      column-two (octetAt s) takenColumn 112 16,
-      column-two (octetAt s) takenColumn 128 16,
+      column-two (nthOctet s) takenColumn 16 64,
+      column-two (nthOctet s) takenColumn 80 16,
+      column-two (nthOctet s) takenColumn 96 16,
+      column-two (nthOctet s) takenColumn 112 16,
+      column-two (nthOctet s) takenColumn 128 16,
     ))
 
 -- the core
 phase-octets : (s : List ℕ) → Octets s →
-    phaseFits (octetAt s phasePlace) (octetAt s timersPlace) (entryOf (octetAt s holderPlace) (octetAt s heldAtPlace)) (be16 s causePlace)
+    phaseFits (nthOctet s phasePlace) (nthOctet s timersPlace) (entryOf (nthOctet s holderPlace) (nthOctet s heldAtPlace))
+    (be16 s causePlace)
     ≡ true →
     phaseOctets (phaseAt s) ≡ from s phasePlace 6
 unfolding phaseOctets phaseAt column
 phase-octets s o e =
     let f =
-    phase-forth (octetAt s phasePlace) (octetAt s timersPlace) (entryOf (octetAt s holderPlace) (octetAt s heldAtPlace))
+    phase-forth (nthOctet s phasePlace) (nthOctet s timersPlace) (entryOf (nthOctet s holderPlace) (nthOctet s heldAtPlace))
     (be16 s causePlace) e in
     rw (f .kinds, f .timed, f .seats, f .priorities, f .causes, forth16 s causePlace o)
 
-count-forth : (s : List ℕ) → octetAt s countPlace ≤ 15 → length (waiting (coreAt s .line)) ≡ octetAt s countPlace
+count-forth : (s : List ℕ) → nthOctet s countPlace ≤ 15 → length (waiting (coreAt s .line)) ≡ nthOctet s countPlace
 unfolding waiting coreAt entriesAt
-count-forth s h = length-take (octetAt s countPlace) (column (entryAt s) 0 15) ∙ rw (length-column (entryAt s) 0 15) (min-eq-left h)
+count-forth s h = length-take (nthOctet s countPlace) (column (entryAt s) 0 15) ∙ rw (length-column (entryAt s) 0 15) (min-eq-left h)
 
-line-forth : (s : List ℕ) → octetAt s countPlace ≤ 15 → octetAt s countZero ≡ 0 → octetAt s waitingZero ≡ 0 → octetAt s prioritiesZero ≡ 0 →
+line-forth : (s : List ℕ) → nthOctet s countPlace ≤ 15 → nthOctet s countZero ≡ 0 → nthOctet s waitingZero ≡ 0 →
+    nthOctet s prioritiesZero ≡ 0 →
     lineOctets (coreAt s .line) ≡ from s countPlace 34
 unfolding lineOctets coreAt entriesAt column
 line-forth s h a b c = rw (count-forth s h, a, b, c)
@@ -167,21 +170,22 @@ core-forth s o e =
     )
 
 -- the identities
-length-forth : (s : List ℕ) (seat : ℕ) → octetAt s (lengthsColumn + seat) ≤ 62 →
-    length (identity.octetsOf (nameIn s seat)) ≡ octetAt s (lengthsColumn + seat)
+length-forth : (s : List ℕ) (seat : ℕ) → nthOctet s (lengthsColumn + seat) ≤ 62 →
+    length (identity.octetsOf (nameIn s seat)) ≡ nthOctet s (lengthsColumn + seat)
 unfolding identity.octetsOf nameIn
 length-forth s seat h =
-    length-take (octetAt s (lengthsColumn + seat)) (from s (identitiesColumn + 62 * seat) 62)
-    ∙ rw (length-column (octetAt s) (identitiesColumn + 62 * seat) 62) (min-eq-left h)
+    length-take (nthOctet s (lengthsColumn + seat)) (from s (identitiesColumn + 62 * seat) 62)
+    ∙ rw (length-column (nthOctet s) (identitiesColumn + 62 * seat) 62) (min-eq-left h)
 
 name-forth : (s : List ℕ) (seat : ℕ) → nameOctets (nameIn s seat) ≡ from s (identitiesColumn + 62 * seat) 62
 unfolding nameOctets nameIn
-name-forth s seat = column-all (from s (identitiesColumn + 62 * seat) 62) 62 0 (length-column (octetAt s) (identitiesColumn + 62 * seat) 62)
+name-forth s seat =
+    column-all (from s (identitiesColumn + 62 * seat) 62) 62 0 (length-column (nthOctet s) (identitiesColumn + 62 * seat) 62)
 
 lengths-forth : (s : List ℕ) → upTo 62 s lengthsColumn 16 ≡ true → lengthOctets (namesAt s) ≡ from s lengthsColumn 16
 unfolding lengthOctets
 lengths-forth s e =
-    column-same (λ k. length (identity.octetsOf (nameAt (namesAt s) k))) (octetAt s) 0 lengthsColumn 16
+    column-same (λ k. length (identity.octetsOf (nameAt (namesAt s) k))) (nthOctet s) 0 lengthsColumn 16
     (λ i k.
     ap (λ (j : ℕ). length (identity.octetsOf (nameAt (namesAt s) j))) (zero-add i)
     ∙ ap (λ (n : Name). length (identity.octetsOf n)) (name-of-seat s i k)
@@ -193,22 +197,22 @@ identities-forth s =
     (λ i k.
     let z : 0 + i ≡ i = zero-add i in
     rw z (ap nameOctets (name-of-seat s i k) ∙ name-forth s i))
-    ∙ rows-column (octetAt s) 62 identitiesColumn 16
+    ∙ rows-column (nthOctet s) 62 identitiesColumn 16
 
 names-forth : (s : List ℕ) → namesFit s ≡ true → namesOctets (namesAt s) ≡ from s lengthsColumn 1008
 unfolding namesOctets namesFit
-names-forth s e = rw (lengths-forth s e, identities-forth s) (column-two (octetAt s) lengthsColumn 16 992)
+names-forth s e = rw (lengths-forth s e, identities-forth s) (column-two (nthOctet s) lengthsColumn 16 992)
 
 -- the whole
-letters-forth : (s : List ℕ) → lettersFit s ≡ true → letters ≡ from s 0 4
+letters-forth : (s : List ℕ) → lettersFit s ≡ true → deskLetters ≡ from s 0 4
 unfolding lettersFit column
 letters-forth s e =
-    let f = and-four (eqb (octetAt s 0) 70) (eqb (octetAt s 1) 68) (eqb (octetAt s 2) 1) (eqb (octetAt s 3) 0) e in
+    let f = and-four (eqb (nthOctet s 0) 70) (eqb (nthOctet s 1) 68) (eqb (nthOctet s 2) 1) (eqb (nthOctet s 3) 0) e in
     rw (
-      eqb-true (octetAt s 0) 70 (f .0),
-      eqb-true (octetAt s 1) 68 (f .1),
-      eqb-true (octetAt s 2) 1 (f .2),
-      eqb-true (octetAt s 3) 0 (f .3),
+      eqb-true (nthOctet s 0) 70 (f .0),
+      eqb-true (nthOctet s 1) 68 (f .1),
+      eqb-true (nthOctet s 2) 1 (f .2),
+      eqb-true (nthOctet s 3) 0 (f .3),
     )
 
 whole : (s : List ℕ) → length s ≡ deskSize → from s 0 deskSize ≡ s
@@ -221,11 +225,11 @@ forth s o e =
       core-forth s o (fits-core s e),
       hall-forth s o (fits-room s e) (fits-hall s e),
       names-forth s (fits-names s e),
-      column-two (octetAt s) phasePlace 44 144,
-      column-two (octetAt s) phasePlace 188 1008,
+      column-two (nthOctet s) phasePlace 44 144,
+      column-two (nthOctet s) phasePlace 188 1008,
     )
     (ap (λ (l : List ℕ). l ++ from s phasePlace 1196) (letters-forth s (fits-letters s e))
-    ∙ column-two (octetAt s) 0 phasePlace 1196
+    ∙ column-two (nthOctet s) 0 phasePlace 1196
     ∙ whole s (fits-whole s e))
 
 -- the core written into them leaves those of the desk with that core

@@ -6,11 +6,11 @@ use mathlib.Core.List.{List}
 use native.Mathlib.Nat.{zero-add}
 use native.Mathlib.Omega.{arith}
 use lib.ListN.{getD, List·getD-eq-default}
-use Rattle.octets.specs.Octets.{be32}
+use Rattle.octets.specs.Octets.{be32, nthOctet}
 use Rattle.hall.specs.Seats.{isPresent, flagsAt, noFlags}
 use Rattle.seat_octets.specs.Layout.{flagsOf}
 use Rattle.desk_octets.specs.Places.{takenColumn, ssrcsColumn, highestColumn, flagsColumn}
-use Rattle.desk_octets.specs.Form.{octetAt, boolAt, boolsAt, octetsAt, wordsAt, seatFlagsAt, settingsAt, hallAt}
+use Rattle.desk_octets.specs.Form.{boolAt, boolsAt, octetsAt, wordsAt, seatFlagsAt, settingsAt, hallAt}
 use Rattle.desk_octets.proofs.Columns.{length-column, getD-column}
 
 module _ (s : List ℕ) (seat : ℕ) where
@@ -22,15 +22,15 @@ module _ (s : List ℕ) (seat : ℕ) where
   unfolding hallAt boolsAt
   no-seat b = List·getD-eq-default (boolsAt s takenColumn) false (omega (arith, length-column (boolAt s) takenColumn 16))
 
-  pub flags-are : seat < 16 → flagsOf (octetAt s (flagsColumn + seat)) ≡ flagsAt (hallAt s) seat
+  pub flags-are : seat < 16 → flagsOf (nthOctet s (flagsColumn + seat)) ≡ flagsAt (hallAt s) seat
   unfolding hallAt seatFlagsAt
   flags-are b =
-      sym (getD-column (λ i. flagsOf (octetAt s (flagsColumn + i))) 0 16 seat noFlags b
-      ∙ ap (λ (i : ℕ). flagsOf (octetAt s (flagsColumn + i))) (zero-add seat))
+      sym (getD-column (λ i. flagsOf (nthOctet s (flagsColumn + i))) 0 16 seat noFlags b
+      ∙ ap (λ (i : ℕ). flagsOf (nthOctet s (flagsColumn + i))) (zero-add seat))
 
-  pub highest-is : seat < 16 → octetAt s (highestColumn + seat) ≡ getD (hallAt s .highest) seat 0
+  pub highest-is : seat < 16 → nthOctet s (highestColumn + seat) ≡ getD (hallAt s .highest) seat 0
   unfolding hallAt octetsAt
-  highest-is b = sym (getD-column (octetAt s) highestColumn 16 seat 0 b)
+  highest-is b = sym (getD-column (nthOctet s) highestColumn 16 seat 0 b)
 
   pub ssrc-is : seat < 16 → be32 s (ssrcsColumn + 4 * seat) ≡ getD (hallAt s .ssrcs) seat 0
   unfolding hallAt wordsAt

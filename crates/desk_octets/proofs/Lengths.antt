@@ -11,7 +11,8 @@ use Rattle.steps.specs.declared.Core.{Core}
 use Rattle.desk_octets.specs.Places.{lengthsColumn, deskSize}
 use Rattle.desk_octets.specs.Columns.{column, rows}
 use Rattle.seat_octets.specs.Layout.{settingsOctets}
-use Rattle.desk_octets.specs.Form.{letters, phaseOctets, lineOctets, coreOctets, boolOctets, seatOctets, seatFlagsOctets, wordOctets}
+use Rattle.desk_octets.specs.Form.{deskLetters, phaseOctets, lineOctets, coreOctets, boolOctets, seatOctets, seatFlagsOctets}
+use Rattle.desk_octets.specs.Form.{wordOctets}
 use Rattle.desk_octets.specs.Form.{hallOctets, lengthOctets, nameOctets, namesOctets, octetsOf}
 use Rattle.desk_octets.proofs.Columns.{length-column, length-rows}
 use Rattle.desk_octets.proofs.Pieces.{length-name}
@@ -33,7 +34,7 @@ length-names ns =
       length-rows (λ s. nameOctets (nameAt ns s)) 62 0 16 (λ s. length-name (nameAt ns s)),
     )
 
-pub length-head : (c : Core) (h : Hall) → length (letters ++ coreOctets c ++ hallOctets h) ≡ lengthsColumn
+pub length-head : (c : Core) (h : Hall) → length (deskLetters ++ coreOctets c ++ hallOctets h) ≡ lengthsColumn
 length-head c h = simp (length-append, length-core c, length-hall h)
 
 pub length-octets : (c : Core) (h : Hall) (ns : Names) → length (octetsOf c h ns) ≡ deskSize

@@ -7,10 +7,9 @@ use mathlib.Core.Bool.{Bool, true, false}
 use mathlib.Core.List.{List, [], _∷_}
 use lib.Dec.{eqb, leb}
 use lib.ListN.{getD}
-use Rattle.octets.specs.Octets.{be16, be32, octets16, octets32, Octets}
+use Rattle.octets.specs.Octets.{be16, be32, octets16, octets32, Octets, nthOctet}
 use Rattle.words.specs.Choice.{by-test, one as flag}
 use borrow.Author.Tests.{eqb-true, eqb-false, leb-true}
-use Rattle.desk_octets.specs.Form.{octetAt}
 
 -- back: two octets, and four, are the number that they were made of, however large
 pub back16 : (n : ℕ) → 256 * (n / 256) + n % 256 ≡ n
@@ -20,7 +19,7 @@ pub back32 : (n : ℕ) → 65536 * (256 * (n / 65536 / 256) + n / 65536 % 256) +
 back32 n = rw (back16 (n / 65536), back16 (n % 65536)) (omega arith)
 
 -- forth
-pub forth16 : (s : List ℕ) (at : ℕ) → Octets s → octets16 (be16 s at) ≡ octetAt s at ∷ octetAt s (at + 1) ∷ []
+pub forth16 : (s : List ℕ) (at : ℕ) → Octets s → octets16 (be16 s at) ≡ nthOctet s at ∷ nthOctet s (at + 1) ∷ []
 unfolding octets16 be16
 forth16 s at o =
     let a : getD s at 0 < 256 = o at in
@@ -37,7 +36,7 @@ be16-below s at o =
     omega arith
 
 pub forth32 : (s : List ℕ) (at : ℕ) → Octets s →
-    octets32 (be32 s at) ≡ octetAt s at ∷ octetAt s (at + 1) ∷ octetAt s (at + 2) ∷ octetAt s (at + 3) ∷ []
+    octets32 (be32 s at) ≡ nthOctet s at ∷ nthOctet s (at + 1) ∷ nthOctet s (at + 2) ∷ nthOctet s (at + 3) ∷ []
 unfolding octets32 be32
 forth32 s at o =
     let b : be16 s (at + 2) < 65536 = be16-below s (at + 2) o in

@@ -10,7 +10,7 @@ use lib.ListN.{length, getD, take, drop, replicate, List·getD-eq-default, lengt
 use lib.Seq.{getD-take, getD-drop, take-take, take-all, length-take-le}
 use borrow.Author.Tests.{leb-true, leb-false}
 use Rattle.words.specs.Choice.{by-test}
-use Rattle.octets.specs.Octets.{octets16, part}
+use Rattle.octets.specs.Octets.{octets16, part, nthOctet}
 use Rattle.line.specs.declared.Entry.{Entry}
 use Rattle.line.specs.declared.Line.{Line}
 use Rattle.line.specs.Line.{waiting}
@@ -22,8 +22,9 @@ use Rattle.steps.specs.declared.Phase.{Phase}
 use Rattle.steps.specs.declared.Core.{Core}
 use Rattle.desk_octets.specs.Columns.{column}
 use Rattle.seat_octets.specs.Layout.{settingsOctets}
-use Rattle.desk_octets.specs.Form.{kindOctet, timersOctet, holderIn, causeIn, phaseOctets, seatIn, priorityIn, lineOctets, coreOctets}
-use Rattle.desk_octets.specs.Form.{boolOctets, seatOctets, seatFlagsOctets, wordOctets, hallOctets, nameOctets, octetAt, nameIn}
+use Rattle.desk_octets.specs.Form.{kindOctet, timersOctet, holderIn, causeIn, phaseOctets, entrySeat, entryPriority, lineOctets}
+use Rattle.desk_octets.specs.Form.{coreOctets}
+use Rattle.desk_octets.specs.Form.{boolOctets, seatOctets, seatFlagsOctets, wordOctets, hallOctets, nameOctets, nameIn}
 use Rattle.desk_octets.specs.Form.{namesAt}
 use Rattle.desk_octets.proofs.Columns.{length-column, getD-column, column-is}
 
@@ -34,7 +35,8 @@ unfolding phaseOctets
 phase-whole p kind timers holder cause a b c d = rw (a, b, c, d)
 
 pub line-whole : (l : Line) (count : ℕ) → count ≡ length (waiting l) →
-    ((((count ∷ 0 ∷ []) ++ column (seatIn (l .entries)) 0 15) ++ replicate 1 0) ++ column (priorityIn (l .entries)) 0 15) ++ replicate 1 0
+    ((((count ∷ 0 ∷ []) ++ column (entrySeat (l .entries)) 0 15) ++ replicate 1 0) ++ column (entryPriority (l .entries)) 0 15)
+    ++ replicate 1 0
     ≡ lineOctets l
 unfolding lineOctets column
 line-whole l count e = rw e
@@ -55,12 +57,12 @@ unfolding nameOctets
 length-name n = length-column (λ i. getD (n .octets) i 0) 0 62
 
 -- a column of the octets themselves is a part of them
-pub column-part : (s : List ℕ) (at n : ℕ) → at + n ≤ length s → column (octetAt s) at n ≡ take n (drop at s)
+pub column-part : (s : List ℕ) (at n : ℕ) → at + n ≤ length s → column (nthOctet s) at n ≡ take n (drop at s)
 column-part s at n h =
     let l : length (take n (drop at s)) ≡ n = length-take-le n (drop at s) (simp length-drop (omega arith)) in
-    sym (column-is (octetAt s) (take n (drop at s)) at n 0 l (λ i k. getD-take n (drop at s) i 0 k ∙ getD-drop at s i 0))
+    sym (column-is (nthOctet s) (take n (drop at s)) at n 0 l (λ i k. getD-take n (drop at s) i 0 k ∙ getD-drop at s i 0))
 
-pub part-column : (s : List ℕ) (at n : ℕ) → at + n ≤ length s → part s at n ≡ column (octetAt s) at n
+pub part-column : (s : List ℕ) (at n : ℕ) → at + n ≤ length s → part s at n ≡ column (nthOctet s) at n
 unfolding part
 part-column s at n h = sym (column-part s at n h)
 
@@ -76,23 +78,23 @@ unfolding namesAt
 name-of-seat s seat h = getD-column (nameIn s) 0 16 seat noName h ∙ ap (nameIn s) (zero-add seat)
 
 identity-of : (s : List ℕ) (seat : ℕ) → seat < 16 → deskSize ≤ length s →
-    identity.octetsOf (nameIn s seat) ≡ take (min (octetAt s (lengthsColumn + seat)) 62) (drop (identitiesColumn + 62 * seat) s)
+    identity.octetsOf (nameIn s seat) ≡ take (min (nthOctet s (lengthsColumn + seat)) 62) (drop (identitiesColumn + 62 * seat) s)
 unfolding identity.octetsOf nameIn
 identity-of s seat h k =
     let fits : identitiesColumn + 62 * seat + 62 ≤ length s = omega arith in
     let l : length (take 62 (drop (identitiesColumn + 62 * seat) s)) ≡ 62 =
     length-take-le 62 (drop (identitiesColumn + 62 * seat) s) (simp length-drop (omega arith)) in
     rw (column-part s (identitiesColumn + 62 * seat) 62 fits)
-    (take-two (octetAt s (lengthsColumn + seat)) 62 (drop (identitiesColumn + 62 * seat) s) l)
+    (take-two (nthOctet s (lengthsColumn + seat)) 62 (drop (identitiesColumn + 62 * seat) s) l)
 
 -- the identity of a seat, as the code cuts it out of the octets
-pub identity-is : (s : List ℕ) (seat at len count : ℕ) → at ≡ seat → len ≡ octetAt s (lengthsColumn + at) → count ≡ min len 62 → at < 16 →
+pub identity-is : (s : List ℕ) (seat at len count : ℕ) → at ≡ seat → len ≡ nthOctet s (lengthsColumn + at) → count ≡ min len 62 → at < 16 →
     deskSize ≤ length s →
     take (identitiesColumn + 62 * at + count - (identitiesColumn + 62 * at)) (drop (identitiesColumn + 62 * at) s)
     ≡ identity.octetsOf (nameAt (namesAt s) seat)
 identity-is s seat at len count a b c h k =
     let cut : identitiesColumn + 62 * at + count - (identitiesColumn + 62 * at) ≡ count = omega arith in
-    let n : count ≡ min (octetAt s (lengthsColumn + at)) 62 = c ∙ ap (λ (x : ℕ). min x 62) b in
+    let n : count ≡ min (nthOctet s (lengthsColumn + at)) 62 = c ∙ ap (λ (x : ℕ). min x 62) b in
     rw (cut, n) (sym (identity-of s at h k) ∙ ap identity.octetsOf (sym (name-of-seat s at h))
     ∙ ap (λ (x : ℕ). identity.octetsOf (nameAt (namesAt s) x)) a)
 

@@ -11,7 +11,7 @@ use lib.ListN.{length, getD, replicate}
 use Rattle.line.specs.Line.{entryOf}
 use Rattle.words.specs.Choice.{if_then_else_, one as flag}
 use Rattle.words.specs.Below.{allBelow}
-use Rattle.octets.specs.Octets.{be16, be32, octets16, octets32}
+use Rattle.octets.specs.Octets.{be16, be32, octets16, octets32, nthOctet}
 use Rattle.line.specs.declared.Entry.{Entry}
 use Rattle.line.specs.declared.Line.{Line}
 use Rattle.line.specs.Line.{waiting, empty}
@@ -38,8 +38,8 @@ use Rattle.desk_octets.specs.Columns.{column, rows}
 -- THE OCTETS OF A DESK
 
 -- 0: the letters F, D, the form, a zero
-abbrev pub letters : List ℕ
-letters = 70 ∷ 68 ∷ 1 ∷ 0 ∷ []
+abbrev pub deskLetters : List ℕ
+deskLetters = 70 ∷ 68 ∷ 1 ∷ 0 ∷ []
 
 -- 4 to 9: the phase, an octet or a number for each thing that a phase may have, and zero where it has none
 abbrev pub kindOctet : Phase → ℕ
@@ -75,15 +75,16 @@ unfoldable pub phaseOctets : Phase → List ℕ
 phaseOctets p = kindOctet p ∷ timersOctet p ∷ holderIn p .seat ∷ holderIn p .priority ∷ octets16 (causeIn p)
 
 -- 14 to 47: how many wait, the fifteen seats, the fifteen priorities, each with a zero behind it
-abbrev pub seatIn : List Entry → ℕ → ℕ
-seatIn es i = getD es i empty .seat
+abbrev pub entrySeat : List Entry → ℕ → ℕ
+entrySeat es i = getD es i empty .seat
 
-abbrev pub priorityIn : List Entry → ℕ → ℕ
-priorityIn es i = getD es i empty .priority
+abbrev pub entryPriority : List Entry → ℕ → ℕ
+entryPriority es i = getD es i empty .priority
 
 unfoldable pub lineOctets : Line → List ℕ
 lineOctets l =
-    (length (waiting l) ∷ 0 ∷ []) ++ column (seatIn (l .entries)) 0 15 ++ (0 ∷ []) ++ column (priorityIn (l .entries)) 0 15 ++ (0 ∷ [])
+    (length (waiting l) ∷ 0 ∷ []) ++ column (entrySeat (l .entries)) 0 15 ++ (0 ∷ []) ++ column (entryPriority (l .entries)) 0 15
+    ++ (0 ∷ [])
 
 -- 4 to 47
 unfoldable pub coreOctets : Core → List ℕ
@@ -120,12 +121,9 @@ namesOctets ns = lengthOctets ns ++ rows (λ s. nameOctets (nameAt ns s)) 0 16
 
 -- the whole desk
 unfoldable pub octetsOf : Core → Hall → Names → List ℕ
-octetsOf c h ns = letters ++ coreOctets c ++ hallOctets h ++ namesOctets ns
+octetsOf c h ns = deskLetters ++ coreOctets c ++ hallOctets h ++ namesOctets ns
 
 -- THE DESK THAT OCTETS STAND FOR
-
-abbrev pub octetAt : List ℕ → ℕ → ℕ
-octetAt s i = getD s i 0
 
 abbrev pub boolAt : List ℕ → ℕ → Bool
 boolAt s i = eqb (getD s i 0) 1
@@ -140,11 +138,11 @@ phaseOf kind timers holder cause =
 
 unfoldable pub phaseAt : List ℕ → Phase
 phaseAt s =
-    phaseOf (octetAt s phasePlace) (octetAt s timersPlace) (entryOf (octetAt s holderPlace) (octetAt s heldAtPlace)) (be16 s causePlace)
+    phaseOf (nthOctet s phasePlace) (nthOctet s timersPlace) (entryOf (nthOctet s holderPlace) (nthOctet s heldAtPlace)) (be16 s causePlace)
 
 -- the fifteen seats, and their priorities beside them
 abbrev pub entryAt : List ℕ → ℕ → Entry
-entryAt s i = entryOf (octetAt s (waitingColumn + i)) (octetAt s (prioritiesColumn + i))
+entryAt s i = entryOf (nthOctet s (waitingColumn + i)) (nthOctet s (prioritiesColumn + i))
 
 unfoldable pub entriesAt : List ℕ → List Entry
 entriesAt s = column (entryAt s) 0 15
@@ -153,10 +151,10 @@ unfoldable pub coreAt : List ℕ → Core
 coreAt s =
     record {
       phase = phaseAt s;
-      line = record { entries = entriesAt s; len = octetAt s countPlace };
+      line = record { entries = entriesAt s; len = nthOctet s countPlace };
       sequence = be16 s sequencePlace;
-      c7 = octetAt s c7Place;
-      c20 = octetAt s c20Place;
+      c7 = nthOctet s c7Place;
+      c20 = nthOctet s c20Place;
     }
 
 -- columns of sixteen seats, from a place on
@@ -164,13 +162,13 @@ unfoldable pub boolsAt : List ℕ → ℕ → List Bool
 boolsAt s at = column (boolAt s) at 16
 
 unfoldable pub octetsAt : List ℕ → ℕ → List ℕ
-octetsAt s at = column (octetAt s) at 16
+octetsAt s at = column (nthOctet s) at 16
 
 unfoldable pub wordsAt : List ℕ → ℕ → List ℕ
 wordsAt s at = column (λ i. be32 s (at + 4 * i)) 0 16
 
 unfoldable pub seatFlagsAt : List ℕ → ℕ → List Flags
-seatFlagsAt s at = column (λ i. flagsOf (octetAt s (at + i))) 0 16
+seatFlagsAt s at = column (λ i. flagsOf (nthOctet s (at + i))) 0 16
 
 abbrev pub settingsAt : List ℕ → Settings
 settingsAt s = settingsIn s settingsStart
@@ -187,7 +185,7 @@ hallAt s =
 
 -- the sixty-two octets of a seat's identity begin sixty-two further for each seat before it
 unfoldable pub nameIn : List ℕ → ℕ → Name
-nameIn s seat = record { octets = column (octetAt s) (identitiesColumn + 62 * seat) 62; len = octetAt s (lengthsColumn + seat) }
+nameIn s seat = record { octets = column (nthOctet s) (identitiesColumn + 62 * seat) 62; len = nthOctet s (lengthsColumn + seat) }
 
 unfoldable pub namesAt : List ℕ → Names
 namesAt s = record { «of» = column (nameIn s) 0 16 }
@@ -196,7 +194,7 @@ namesAt s = record { «of» = column (nameIn s) 0 16 }
 
 -- n octets from a place on are each at most so much: who is taken is said by 0 or 1, zeros are at most 0
 unfoldable pub upTo : ℕ → List ℕ → ℕ → ℕ → Bool
-upTo top s at n = allBelow (λ i. leb (octetAt s (at + i)) top) n
+upTo top s at n = allBelow (λ i. leb (nthOctet s (at + i)) top) n
 
 -- what a phase does not have is zero
 unfoldable pub phaseFits : ℕ → ℕ → Entry → ℕ → Bool
@@ -207,12 +205,13 @@ phaseFits kind timers holder cause =
     else eqb kind 3 && eqb timers 0
 
 unfoldable pub lettersFit : List ℕ → Bool
-lettersFit s = eqb (octetAt s 0) 70 && eqb (octetAt s 1) 68 && eqb (octetAt s 2) 1 && eqb (octetAt s 3) 0
+lettersFit s = eqb (nthOctet s 0) 70 && eqb (nthOctet s 1) 68 && eqb (nthOctet s 2) 1 && eqb (nthOctet s 3) 0
 
 unfoldable pub coreFits : List ℕ → Bool
 coreFits s =
-    phaseFits (octetAt s phasePlace) (octetAt s timersPlace) (entryOf (octetAt s holderPlace) (octetAt s heldAtPlace)) (be16 s causePlace)
-    && leb (octetAt s countPlace) 15 && eqb (octetAt s countZero) 0 && eqb (octetAt s waitingZero) 0 && eqb (octetAt s prioritiesZero) 0
+    phaseFits (nthOctet s phasePlace) (nthOctet s timersPlace) (entryOf (nthOctet s holderPlace) (nthOctet s heldAtPlace))
+    (be16 s causePlace)
+    && leb (nthOctet s countPlace) 15 && eqb (nthOctet s countZero) 0 && eqb (nthOctet s waitingZero) 0 && eqb (nthOctet s prioritiesZero) 0
 
 unfoldable pub hallFits : List ℕ → Bool
 hallFits s = upTo 1 s takenColumn 16 && upTo flagsTop s flagsColumn 16 && upTo 0 s flagsZeros 16 && upTo 0 s settingsZeros 6

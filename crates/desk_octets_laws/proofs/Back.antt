@@ -13,7 +13,7 @@ use lib.ListN.{length, getD, drop, List·getD-append, length-take, replicate}
 use lib.Seq.{getD-drop, getD-append-add, take-all}
 use Rattle.words.specs.Choice.{one as flag}
 use Rattle.words.specs.Table.{padded-length}
-use Rattle.octets.specs.Octets.{be16, be32, octets16, octets32}
+use Rattle.octets.specs.Octets.{be16, be32, octets16, octets32, nthOctet}
 use Rattle.line.specs.declared.Line.{Line}
 use Rattle.line.specs.Line.{waiting, lineOf, empty}
 use Rattle.hall.specs.declared.Hall.{Hall}
@@ -28,8 +28,8 @@ use Rattle.hall.specs.Seats.{noFlags}
 use Rattle.seat_octets.specs.Layout.{flagsOctet, flagsOf, settingsOctets}
 use Rattle.seat_octets.proofs.Bits.{flags-back}
 use Rattle.seat_octets.proofs.SettingsLaws.{settings-back}
-use Rattle.desk_octets.specs.Form.{letters, causeIn, phaseOctets, lineOctets, coreOctets, boolOctets, seatOctets, seatFlagsOctets}
-use Rattle.desk_octets.specs.Form.{wordOctets, hallOctets, lengthOctets, nameOctets, namesOctets, octetsOf, octetAt, phaseAt, entriesAt}
+use Rattle.desk_octets.specs.Form.{deskLetters, causeIn, phaseOctets, lineOctets, coreOctets, boolOctets, seatOctets, seatFlagsOctets}
+use Rattle.desk_octets.specs.Form.{wordOctets, hallOctets, lengthOctets, nameOctets, namesOctets, octetsOf, phaseAt, entriesAt}
 use Rattle.desk_octets.specs.Form.{coreAt, boolsAt, octetsAt, wordsAt, seatFlagsAt, settingsAt, hallAt, nameIn, namesAt}
 use Rattle.desk_octets.proofs.Columns.{column-same, column-is, column-is-from-0, length-column, getD-column}
 use Rattle.desk_octets.proofs.Pieces.{length-name}
@@ -141,13 +141,15 @@ module _ (c : Core) (h : Hall) (ns : Names) where
   -- what stands before the settings, and what behind them
   abbrev before-settings : List ℕ
   before-settings =
-      letters ++ coreOctets c ++ boolOctets (h .present) ++ wordOctets (h .ssrcs) ++ seatOctets (h .highest) ++ seatFlagsOctets (h .flags)
+      deskLetters ++ coreOctets c ++ boolOctets (h .present) ++ wordOctets (h .ssrcs) ++ seatOctets (h .highest)
+      ++ seatFlagsOctets (h .flags)
       ++ replicate 16 0
 
   settings-among : octetsOf c h ns ≡ before-settings ++ (settingsOctets (h .settings) ++ (replicate 4 0 ++ namesOctets ns))
   unfolding octetsOf hallOctets
   settings-among =
-      among letters (coreOctets c) (boolOctets (h .present)) (wordOctets (h .ssrcs)) (seatOctets (h .highest)) (seatFlagsOctets (h .flags))
+      among deskLetters (coreOctets c) (boolOctets (h .present)) (wordOctets (h .ssrcs)) (seatOctets (h .highest))
+      (seatFlagsOctets (h .flags))
       (replicate 16 0) (settingsOctets (h .settings)) (replicate 4 0) (namesOctets ns)
 
   settings-start : settingsStart ≡ length before-settings
@@ -224,11 +226,11 @@ module _ (c : Core) (h : Hall) (ns : Names) where
   names-back l e =
       let each : (seat : ℕ) → seat < 16 → getD (ns .«of») seat noName ≡ nameIn (octetsOf c h ns) seat =
       λ seat k.
-      let o : nameAt ns seat .octets ≡ column (octetAt (octetsOf c h ns)) (identitiesColumn + 62 * seat) 62 =
-      column-is (octetAt (octetsOf c h ns)) (nameAt ns seat .octets) (identitiesColumn + 62 * seat) 62 0
+      let o : nameAt ns seat .octets ≡ column (nthOctet (octetsOf c h ns)) (identitiesColumn + 62 * seat) 62 =
+      column-is (nthOctet (octetsOf c h ns)) (nameAt ns seat .octets) (identitiesColumn + 62 * seat) 62 0
       (name-places (nameAt ns seat) (e seat))
       (λ i b. sym (name-there seat i k b)) in
-      let n : nameAt ns seat .len ≡ octetAt (octetsOf c h ns) (lengthsColumn + seat) =
+      let n : nameAt ns seat .len ≡ nthOctet (octetsOf c h ns) (lengthsColumn + seat) =
       sym (length-there seat k ∙ name-length (nameAt ns seat) (e seat)) in
       rw (← o, ← n) in
       let all : column (nameIn (octetsOf c h ns)) 0 16 ≡ ns .«of» =

@@ -7,7 +7,7 @@ use lib.Dec.{eqb, leb, ltb}
 use lib.ListN.{length}
 use Rattle.words.specs.Choice.{if_then_else_}
 use Rattle.octets.specs.Octets.{over}
-use Rattle.hall.specs.Answers.{number}
+use Rattle.hall.specs.Answers.{answerNumber}
 use Rattle.steps.specs.declared.Step.{Step}
 use Rattle.timers.specs.declared.Timer.{Timer}
 use Rattle.events.specs.declared.Outcome.{Outcome}
@@ -38,7 +38,8 @@ settles d r n desk report =
 
 -- what happens comes to an outcome: the whole desk afterwards, and the report
 unfoldable pub outcomeOn : List ℕ → List ℕ → Outcome → Leaves
-outcomeOn d r o = settles d r (number (o .answer)) (octetsOf (o .desk .core) (o .desk .hall) (o .desk .names)) (reportOctets (o .report))
+outcomeOn d r o =
+    settles d r (answerNumber (o .answer)) (octetsOf (o .desk .core) (o .desk .hall) (o .desk .names)) (reportOctets (o .report))
 
 -- an event changes the core alone: seats, settings and identities are those that stood there
 unfoldable pub stepOn : List ℕ → List ℕ → Step → Leaves

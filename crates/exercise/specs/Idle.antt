@@ -24,7 +24,7 @@ use Rattle.events.specs.Events.{fresh, outcome}
 use Rattle.events.specs.declared.Desk.{Desk}
 use Rattle.history.specs.Doing.{Doing, event, after, does, stepsOf}
 use Rattle.ways.specs.Refusals.{isDeny}
-use Rattle.exercise.specs.Thursday.{start, Seen, seen, Row, row-b, table, events, outcomes, seenAll, thursday}
+use Rattle.exercise.specs.Thursday.{start, Seen, seen, Row, row-b, thursdayTable, events, outcomes, seenAll, thursday}
 
 abbrev pub Version : Type 0
 Version = Desk → Doing → Outcome
@@ -36,7 +36,7 @@ keepsIn v d (r ∷ rs) zero = seen (v d (r .happens)) ≡ r .comes
 keepsIn v d (r ∷ rs) (suc n) = keepsIn v (v d (r .happens) .desk) rs n
 
 abbrev pub Keeps : Version → ℕ → Type 0
-Keeps v n = keepsIn v start table n
+Keeps v n = keepsIn v start thursdayTable n
 
 -- the rows that stop them: a, b, f, g, h, i
 abbrev pub KeepsA : Version → Type 0
@@ -78,8 +78,8 @@ keeps-in d [] n l e = absurd (omega (arith, l))
 keeps-in d (r ∷ rs) zero l e = ap firstOf e
 keeps-in d (r ∷ rs) (suc n) l e = keeps-in (after d (r .happens)) rs n (omega (arith, l)) (ap restOf e)
 
-pub rules-keep : (n : ℕ) → n < length table → Keeps does n
-rules-keep n l = keeps-in start table n l thursday
+pub rules-keep : (n : ℕ) → n < length thursdayTable → Keeps does n
+rules-keep n l = keeps-in start thursdayTable n l thursday
 
 -- one whose first step is the rules' keeps row a
 keeps-a : (v : Version) → v start (event Start) ≡ does start (event Start) → KeepsA v
@@ -121,23 +121,23 @@ works-once v e f =
     )
 
 -- Marks that are invented. Those of a step that is the table's are the table's, at every row.
-abbrev pub marksBy : Version → Desk → List Row → ℕ → Marks
-marksBy v d [] n = noMarks
-marksBy v d (r ∷ rs) zero = v d (r .happens) .report .marks
-marksBy v d (r ∷ rs) (suc n) = marksBy v (v d (r .happens) .desk) rs n
+abbrev pub marksAtRow : Version → Desk → List Row → ℕ → Marks
+marksAtRow v d [] n = noMarks
+marksAtRow v d (r ∷ rs) zero = v d (r .happens) .report .marks
+marksAtRow v d (r ∷ rs) (suc n) = marksAtRow v (v d (r .happens) .desk) rs n
 
 abbrev pub marksIn : List Row → ℕ → Marks
 marksIn [] n = noMarks
 marksIn (r ∷ rs) zero = r .comes .marks
 marksIn (r ∷ rs) (suc n) = marksIn rs n
 
-invents-in : (v : Version) (d : Desk) (rs : List Row) (n : ℕ) → (marksBy v d rs n ≡ marksIn rs n → ⊥) → keepsIn v d rs n → ⊥
+invents-in : (v : Version) (d : Desk) (rs : List Row) (n : ℕ) → (marksAtRow v d rs n ≡ marksIn rs n → ⊥) → keepsIn v d rs n → ⊥
 invents-in v d [] n f k = k
 invents-in v d (r ∷ rs) zero f k = f (ap (λ (s : Seen). s .marks) k)
 invents-in v d (r ∷ rs) (suc n) f k = invents-in v (v d (r .happens) .desk) rs n f k
 
-pub invents-marks : (v : Version) (n : ℕ) → (marksBy v start table n ≡ marksIn table n → ⊥) → Keeps v n → ⊥
-invents-marks v n f k = invents-in v start table n f k
+pub invents-marks : (v : Version) (n : ℕ) → (marksAtRow v start thursdayTable n ≡ marksIn thursdayTable n → ⊥) → Keeps v n → ⊥
+invents-marks v n f k = invents-in v start thursdayTable n f k
 
 abbrev hasSeat : Mark → Bool
 hasSeat NoSeat = false

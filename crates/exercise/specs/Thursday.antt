@@ -21,7 +21,7 @@ use Rattle.steps.specs.declared.AlsoRuns.the-variants.{NoMore, T20}
 use Rattle.steps.specs.declared.Phase.{Phase}
 use Rattle.steps.specs.declared.Phase.the-variants.{Idle, Taken, Revoking}
 use Rattle.steps.specs.declared.Kind.the-variants as say
-use Rattle.steps.specs.declared.Message.{Message}
+use Rattle.steps.specs.declared.Sending.{Sending}
 use Rattle.steps.specs.declared.Mark.the-variants.{NoSeat, Seat}
 use Rattle.steps.specs.declared.Given.the-variants.{NotGiven, AtOnce, OutOfLine}
 use Rattle.steps.specs.declared.Marks.{Marks}
@@ -74,8 +74,8 @@ pub record Seen : Type 0 where
   pub sequence : ℕ
   pub line : List Entry
   pub answer : Answer
-  pub first : Message
-  pub second : Message
+  pub first : Sending
+  pub second : Sending
   pub marks : Marks
 
 abbrev pub seen : Outcome → Seen
@@ -99,7 +99,7 @@ infix 90 _at_
 abbrev _at_ : ℕ → ℕ → Entry
 s at p = entryOf s p
 
-abbrev row : Doing → Phase → ℕ → List Entry → Message → Message → Marks → Row
+abbrev row : Doing → Phase → ℕ → List Entry → Sending → Sending → Marks → Row
 row x p n l m₁ m₂ ms =
     record { happens = x; comes = record { phase = p; sequence = n; line = l; answer = Done; first = m₁; second = m₂; marks = ms } }
 
@@ -137,8 +137,8 @@ row-b =
     row (asks 0 5) (Taken (0 at 5) NoMore) 2 [] (say.Granted 5 ⇒ just-0) (say.Taken 0 2 ⇒ four false true true true)
     (marks NoSeat no-one NoSeat (AtOnce 0))
 
-abbrev pub table : List Row
-table =
+abbrev pub thursdayTable : List Row
+thursdayTable =
     -- a: start; Idle, sequence 1
     row start-call (Idle true) 1 [] (say.Idle 1 ⇒ all-four) silence noMarks
     ∷ row-b
@@ -182,7 +182,7 @@ seenAll [] = []
 seenAll (l ∷ ls) = seen l ∷ seenAll ls
 
 -- the statement: the rules, from the desk that was made and the four that joined it, give the table
-pub thursday : seenAll (stepsOf start (events table)) ≡ outcomes table
+pub thursday : seenAll (stepsOf start (events thursdayTable)) ≡ outcomes thursdayTable
 unfolding if_then_else_ waiting lineOf before ahead enter anotherAtLeast without seatsOf emptyHall alone effective seatOf freeSeat withSeat
     octetsOf nameOf noNames withName same seatNamed lengthAllowed ssrcTaken seated join next given givenAtOnce givenOutOfLine entersIdle
     passesOn floorEnds revokes waits priorityIn priorityOf full presses denied infoOf holderAsks informed pressed rule6 asksAgain placed

@@ -10,9 +10,9 @@ use borrow.Author.Tests.{le-leb, lt-leb, le-ltb, lt-ltb, leb-true, leb-false, lt
 use Rattle.words.specs.Choice.{if_then_else_, by-test}
 use Rattle.octets.specs.Octets.{be16}
 use Rattle.message.specs.Table.{against, padded}
-use Rattle.field.specs.declared.Found.{Found}
-use Rattle.field.specs.declared.Step.{Step}
-use Rattle.field.specs.declared.Step.the-variants.{Field, End, PastTheEnd, AgainstTheTable}
+use Rattle.field.specs.declared.FieldFound.{FieldFound}
+use Rattle.field.specs.declared.FieldStep.{FieldStep}
+use Rattle.field.specs.declared.FieldStep.the-variants.{Field, End, PastTheEnd, AgainstTheTable}
 use Rattle.field.specs.Fields.{idAt, lengthAt, fieldAt, stepAt}
 
 module _ (s : List ℕ) (at : ℕ) where
@@ -38,14 +38,14 @@ module _ (s : List ℕ) (at : ℕ) where
     step-field a = rw (lt-leb (length s) at h, lt-leb 192 (idAt s at) i, le-ltb (length s) (at + padded (lengthAt s at)) p, a)
 
 -- what is known where a step gave each of its answers: this taken apart the other way round, once for all who walk
-pub record Sound (s : List ℕ) (at : ℕ) (f : Found) : Type 0 where
+pub record Sound (s : List ℕ) (at : ℕ) (f : FieldFound) : Type 0 where
   pub inside : at < length s
   pub below : idAt s at < 192
   pub fits : at + padded (lengthAt s at) ≤ length s
   pub fine : against (idAt s at) (lengthAt s at) (be16 s (at + 2)) ≡ false
   pub is : f ≡ fieldAt s at
 
-abbrev pub Tells : List ℕ → ℕ → Step → Type 0
+abbrev pub Tells : List ℕ → ℕ → FieldStep → Type 0
 Tells s at (Field f) = Sound s at f
 Tells s at End = length s ≤ at
 Tells s at PastTheEnd = (at < length s) × (idAt s at < 192) × (length s < at + padded (lengthAt s at))
@@ -73,8 +73,8 @@ step-tells s at =
     (λ w.
     tells (Field (fieldAt s at)) (step-field s at h i p w) (record { inside = h; below = i; fits = p; fine = w; is = refl })))))
   where
-    tells : (x : Step) → stepAt s at ≡ x → Tells s at x → Tells s at (stepAt s at)
+    tells : (x : FieldStep) → stepAt s at ≡ x → Tells s at x → Tells s at (stepAt s at)
     tells x e t = subst (Tells s at) (sym e) t
 
-pub step-sound : (s : List ℕ) (at : ℕ) (f : Found) → stepAt s at ≡ Field f → Sound s at f
+pub step-sound : (s : List ℕ) (at : ℕ) (f : FieldFound) → stepAt s at ≡ Field f → Sound s at f
 step-sound s at f e = subst (Tells s at) e (step-tells s at)

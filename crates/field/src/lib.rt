@@ -5,7 +5,7 @@ ghost use Rattle.message.specs.Table.{padded};
 ghost use Rattle.field.specs.Fields.{stepAt};
 
 // A field: its ID, where its content starts, its length, and where the next field starts.
-pub struct Found {
+pub struct FieldFound {
     pub id: u8,
     pub start: usize,
     pub len: usize,
@@ -13,8 +13,8 @@ pub struct Found {
 }
 
 // What stands at a place of a packet: a field, the packet's end, or a field that is at fault.
-pub enum Step {
-    Field(Found),
+pub enum FieldStep {
+    Field(FieldFound),
     End,
     PastTheEnd,
     AgainstTheTable,
@@ -29,29 +29,29 @@ fn after(at: usize, len: u8) -> usize
 }
 
 // Judges the field that starts at a place.
-pub fn field_at(s: &[u8], at: usize) -> Step
+pub fn field_at(s: &[u8], at: usize) -> FieldStep
     ensures { λ r. ⌜ r ≡ stepAt (now (s .entry)) at ⌝ }
 {
     if s.len() <= at {
-        return Step::End;
+        return FieldStep::End;
     }
     let id = s[at];
     if 192 <= id {
-        return Step::AgainstTheTable;
+        return FieldStep::AgainstTheTable;
     }
     // every padded field has at least 4 octets, so that its length and two octets of content or padding can be looked at
     if s.len() - at < 4 {
-        return Step::PastTheEnd;
+        return FieldStep::PastTheEnd;
     }
     let len = s[at + 1];
     let next = after(at, len);
     if s.len() < next {
-        return Step::PastTheEnd;
+        return FieldStep::PastTheEnd;
     }
     if message::against(id, len, octets::number16(s, at + 2)) {
-        return Step::AgainstTheTable;
+        return FieldStep::AgainstTheTable;
     }
-    Step::Field(Found {
+    FieldStep::Field(FieldFound {
         id: id,
         start: at + 2,
         len: len as usize,

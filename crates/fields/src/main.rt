@@ -1,7 +1,7 @@
 // Prints packets field by field, as a reader that rests on each hands its fields out, and where it stops: at the end, or at a fault with
 // the paper's number.
-use field::Found;
-use field::Step;
+use field::FieldFound;
+use field::FieldStep;
 
 // A field, the end, or a refusal.
 fn show(k: usize, numbers: [u64; 4]) {
@@ -12,7 +12,7 @@ fn show(k: usize, numbers: [u64; 4]) {
     );
 }
 
-fn field(f: Found) {
+fn field(f: FieldFound) {
     show(
         0,
         [f.id as u64, f.start as u64, f.len as u64, f.next as u64],
@@ -28,13 +28,13 @@ fn stop(k: usize) -> usize {
 // Prints what a reader hands out at a place; where the next field stands, and 0 where it was none.
 fn printed(packet: &[u8], at: usize) -> usize {
     match reader::handed(packet, at) {
-        Step::Field(f) => {
+        FieldStep::Field(f) => {
             field(f);
             f.next
         }
-        Step::End => stop(1),
-        Step::PastTheEnd => stop(2),
-        Step::AgainstTheTable => stop(3),
+        FieldStep::End => stop(1),
+        FieldStep::PastTheEnd => stop(2),
+        FieldStep::AgainstTheTable => stop(3),
     }
 }
 

@@ -6,7 +6,7 @@ use mathlib.Core.List.{List}
 use mathlib.Core.Path.{_≡_}
 use lib.IntN.{ℤ}
 use Rattle.message.specs.Answers.{result}
-use Rattle.hall.specs.Seats.{settingsOf as settings, seatOf}
+use Rattle.hall.specs.Seats.{settingsOf, seatOf}
 use Rattle.identities.specs.Identity.{seatNamed}
 use Rattle.events.specs.declared.Event.the-variants.{Start, Stop, Media}
 use Rattle.timers.specs.Timers.{timerNamed, running}
@@ -19,7 +19,7 @@ use Rattle.desk_looking.specs.Looking.{messageOn, readOn, writeOn, saveOn, scre
 -- A DESK AND ITS SEATS
 
 abbrev pub MakePromise : (desk : List ℕ) (ssrc level limit c7 c20 duration : ℕ) (answer : ℕ) (desk′ : List ℕ) → Type 0
-MakePromise desk ssrc level limit c7 c20 duration answer desk′ = (answer, desk′) ≡ makeOn desk (settings ssrc level limit c7 c20 duration)
+MakePromise desk ssrc level limit c7 c20 duration answer desk′ = (answer, desk′) ≡ makeOn desk (settingsOf ssrc level limit c7 c20 duration)
 
 abbrev pub JoinPromise : (desk identity : List ℕ) (ssrc highest queueing receiveOnly : ℕ) (answer : ℕ) (desk′ : List ℕ) → Type 0
 JoinPromise desk identity ssrc highest queueing receiveOnly answer desk′ =

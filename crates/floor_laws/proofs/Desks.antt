@@ -5,7 +5,7 @@ use mathlib.Core.Path.{_≡_, refl, ap, sym, _∙_}
 use mathlib.Core.Bool.{true}
 use mathlib.Core.List.{List, [], _∷_}
 use lib.ListN.{length}
-use Rattle.octets.specs.Octets.{Octets}
+use Rattle.octets.specs.Octets.{Octets, nthOctet}
 use Rattle.words.specs.Below.{and-left, and-right}
 use Rattle.hall.specs.declared.Settings.{Settings}
 use Rattle.hall.specs.Seats.{inRange}
@@ -14,7 +14,7 @@ use Rattle.events.specs.declared.Desk.{Desk}
 use Rattle.history.specs.Doing.{Doing, made, after, afterAll, justMade}
 use Rattle.reach.specs.Sound.{Sound}
 use Rattle.reach.proofs.Reach.{sound-fresh, sound-kept}
-use Rattle.desk_octets.specs.Form.{octetAt, coreAt, entriesAt, boolsAt, octetsAt, wordsAt, seatFlagsAt, hallAt, nameIn, namesAt, canonical}
+use Rattle.desk_octets.specs.Form.{coreAt, entriesAt, boolsAt, octetsAt, wordsAt, seatFlagsAt, hallAt, nameIn, namesAt, canonical}
 use Rattle.desk_octets.specs.Columns.{column}
 use Rattle.desk_octets.proofs.Columns.{length-column, getD-column}
 use Rattle.desk_octets_laws.specs.Forms.{Back}
@@ -35,7 +35,7 @@ use Rattle.seat_octets.specs.Layout.{SettingsFit}
 module _ (s : List ℕ) where
   sixty-two : (seat : ℕ) → seat < 16 → length (nameAt (namesAt s) seat .octets) ≡ 62
   unfolding namesAt nameIn
-  sixty-two seat b = rw (getD-column (nameIn s) 0 16 seat noName b) (length-column (octetAt s) (identitiesColumn + 62 * (0 + seat)) 62)
+  sixty-two seat b = rw (getD-column (nameIn s) 0 16 seat noName b) (length-column (nthOctet s) (identitiesColumn + 62 * (0 + seat)) 62)
 
   typed : Octets s → Typed (deskAt s)
   unfolding coreAt hallAt namesAt entriesAt boolsAt octetsAt wordsAt seatFlagsAt column

@@ -21,7 +21,7 @@ use Rattle.words.specs.Choice.{if_then_else_, by-if}
 use Rattle.events.specs.declared.Desk.{Desk}
 use Rattle.history.specs.Doing.{made, does, afterAll, Fresh, justMade, andJoined}
 use Rattle.loading.specs.Loading.{Load, Seats, whole, fault, refused, ifSeated, joinAll, seatAll, settled, loading, whoIs, readSeat}
-use Rattle.loading.specs.Loading.{identityLength, afterSeat, laidOut, infront, readSeats, zeros, settingsOn}
+use Rattle.loading.specs.Loading.{identityLength, afterSeat, laidOut, seatInfront, readSeats, zeros, settingsOn}
 use Rattle.words.proofs.Tests.{both, five, neither-left}
 use Rattle.desk_making.specs.Making.{inOctets, settable, written, loadOn}
 use Rattle.floor.specs.Promises.{LoadPromise}
@@ -32,7 +32,7 @@ use Rattle.floor_laws.proofs.Desks.{Right, in-range, right-made, right-
 use Rattle.floor_laws.proofs.Steps.{holds-as}
 use Rattle.floor_laws.proofs.Made.{done-only, Written, written-so}
 use Rattle.sheet.specs.Layout.{Seat, seatHead}
-use Rattle.sheet.specs.Framing.{settingsPlace, seatCount, framing, number as framed}
+use Rattle.sheet.specs.Framing.{settingsPlace, seatCount, framing, verdictNumber}
 use Rattle.seat_octets.specs.Layout.{SettingsFit}
 use Rattle.seat_octets.proofs.SettingsLaws.{settings-read-fit}
 
@@ -86,8 +86,8 @@ module _ (s : List ℕ) where
   loaded-so : IsLoaded (loading s)
   unfolding loading
   loaded-so =
-      by-if IsLoaded (eqb (framed (framing s)) 0) (λ _. settled-so)
-      (λ e. not-loaded (framed (framing s)) (eqb-false (framed (framing s)) 0 e))
+      by-if IsLoaded (eqb (verdictNumber (framing s)) 0) (λ _. settled-so)
+      (λ e. not-loaded (verdictNumber (framing s)) (eqb-false (verdictNumber (framing s)) 0 e))
 
 -- a sheet's numbers have their places in octets
 module _ (s : List ℕ) (o : Octets s) where
@@ -100,7 +100,7 @@ module _ (s : List ℕ) (o : Octets s) where
   unfolding readSeat whoIs
   seat-fits at = (part-octets (at + seatHead) (identityLength s at), word-small s o (at + 2), o (at + 1))
 
-  infront-fits : (x : Seat) → Fits (x .identity) (x .who) → (xs : Seats) → AllFit (seatedFrom xs) → AllFit (seatedFrom (infront x xs))
+  infront-fits : (x : Seat) → Fits (x .identity) (x .who) → (xs : Seats) → AllFit (seatedFrom xs) → AllFit (seatedFrom (seatInfront x xs))
   infront-fits x k (whole xs) w = (k, w)
   infront-fits x k fault w = tt
 

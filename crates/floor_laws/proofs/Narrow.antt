@@ -16,7 +16,7 @@ use Rattle.hall.specs.declared.Hall.{Hall}
 use Rattle.hall.specs.declared.Asked.{Asked}
 use Rattle.hall.specs.Seats.{only, asked, effective}
 use Rattle.steps.specs.declared.Core.{Core}
-use Rattle.steps.specs.declared.Message.{Message}
+use Rattle.steps.specs.declared.Sending.{Sending}
 use Rattle.steps.specs.Words.{_withLine_}
 use Rattle.line.specs.Line.{entryOf as entry}
 use Rattle.events.specs.declared.Outcome.{Outcome}
@@ -61,7 +61,7 @@ without-small seats (e ∷ es) k =
     by-if (All Small) (getD seats (e .seat) false) (λ _. without-small seats es (k .1)) (λ _. (k .0, without-small seats es (k .1)))
 
 -- rule 6
-six-narrow : {c : Core} {h : Hall} {t : ℕ} {new : Core} {first second : Message} → NarrowCore c → Six c h t new first second →
+six-narrow : {c : Core} {h : Hall} {t : ℕ} {new : Core} {first second : Sending} → NarrowCore c → Six c h t new first second →
     NarrowCore new
 six-narrow {c} o (informs q f s) = rw q o
 six-narrow {c} o (presses e b k q f s) = rw q (record { line = o .line; holder = rw k at (o .holder) })

@@ -12,7 +12,7 @@ use lib.ListN.{length, getD, replicate}
 use borrow.Author.Tests.{eqb-true}
 use Rattle.line.specs.Line.{entryOf}
 use Rattle.words.specs.Choice.{by-test, by-if, one as flag}
-use Rattle.octets.specs.Octets.{be16, be32, octets16, octets32, Octets}
+use Rattle.octets.specs.Octets.{be16, be32, octets16, octets32, Octets, nthOctet}
 use Rattle.line.specs.declared.Entry.{Entry}
 use Rattle.line.specs.declared.Line.{Line}
 use Rattle.line.specs.Line.{waiting, empty}
@@ -39,9 +39,9 @@ use Rattle.history.specs.Doing.{Doing, event, packet, leaves as leaving, joins 
 use Rattle.ways.proofs.Walk.{every-way}
 use Rattle.reach.specs.Sound.{Sound, causeOk}
 use Rattle.reach.proofs.Hall.{hall-ok}
-use Rattle.desk_octets.specs.Form.{letters, kindOctet, alsoOctet, timersOctet, holderIn, causeIn, phaseOctets, seatIn, priorityIn}
+use Rattle.desk_octets.specs.Form.{deskLetters, kindOctet, alsoOctet, timersOctet, holderIn, causeIn, phaseOctets, entrySeat, entryPriority}
 use Rattle.desk_octets.specs.Form.{lineOctets, coreOctets, boolOctets, seatOctets, wordOctets, hallOctets, lengthOctets, nameOctets}
-use Rattle.desk_octets.specs.Form.{namesOctets, octetsOf, octetAt, phaseOf, phaseAt, entryAt, entriesAt, coreAt, octetsAt, wordsAt, hallAt}
+use Rattle.desk_octets.specs.Form.{namesOctets, octetsOf, phaseOf, phaseAt, entryAt, entriesAt, coreAt, octetsAt, wordsAt, hallAt}
 use Rattle.desk_octets.specs.Form.{nameIn, namesAt, seatFlagsOctets}
 use Rattle.desk_octets.specs.Columns.{column, rows}
 use Rattle.desk_octets_laws.proofs.Back.{name-short}
@@ -183,13 +183,13 @@ unfolding lineOctets
 line-octets l b k =
     let a : List ℕ = length (waiting l) ∷ 0 ∷ [] in
     let z : List ℕ = 0 ∷ [] in
-    let s = column (seatIn (l .entries)) 0 15 in
-    let p = column (priorityIn (l .entries)) 0 15 in
+    let s = column (entrySeat (l .entries)) 0 15 in
+    let p = column (entryPriority (l .entries)) 0 15 in
     let one : All Octet z = (omega arith, tt) in
     let at : (i : ℕ) → Small (getD (l .entries) i empty) = all-at Small empty none-small (l .entries) k in
-    let front = all-both Octet a s (omega (arith, b), (omega arith, tt)) (all-column Octet (seatIn (l .entries)) (λ i. at i .0) 0 15) in
+    let front = all-both Octet a s (omega (arith, b), (omega arith, tt)) (all-column Octet (entrySeat (l .entries)) (λ i. at i .0) 0 15) in
     let asz = all-both Octet (a ++ s) z front one in
-    let aszp = all-both Octet (a ++ s ++ z) p asz (all-column Octet (priorityIn (l .entries)) (λ i. at i .1) 0 15) in
+    let aszp = all-both Octet (a ++ s ++ z) p asz (all-column Octet (entryPriority (l .entries)) (λ i. at i .1) 0 15) in
     all-both Octet (a ++ s ++ z ++ p) z aszp one
 
 bools-octets : (bs : List Bool) → All Octet (boolOctets bs)
@@ -260,10 +260,10 @@ module _ (d : Desk) (k : Sound d) (m : NarrowDesk d) where
       let c = coreOctets (d .core) in
       let h = hallOctets (d .hall) in
       let n = namesOctets (d .names) in
-      let a = all-both Octet letters c (omega arith, (omega arith, (omega arith, (omega arith, tt)))) core-octets in
-      let b = all-both Octet (letters ++ c) h a (hall-octets (d .hall) (d .names) (m .seats)) in
-      let e = all-both Octet (letters ++ c ++ h) n b (names-octets (d .names) (m .seats .names) (k .seats .behind)) in
-      all-at Octet 0 (omega arith) (letters ++ c ++ h ++ n) e
+      let a = all-both Octet deskLetters c (omega arith, (omega arith, (omega arith, (omega arith, tt)))) core-octets in
+      let b = all-both Octet (deskLetters ++ c) h a (hall-octets (d .hall) (d .names) (m .seats)) in
+      let e = all-both Octet (deskLetters ++ c ++ h) n b (names-octets (d .names) (m .seats .names) (k .seats .behind)) in
+      all-at Octet 0 (omega arith) (deskLetters ++ c ++ h ++ n) e
 
 -- THE DESK THAT OCTETS STAND FOR IS SUCH A ONE
 
@@ -278,7 +278,7 @@ module _ (s : List ℕ) (o : Octets s) where
 
   name-at : (seat : ℕ) → OctetsOf (nameIn s seat)
   unfolding nameIn
-  name-at seat = all-column Octet (octetAt s) o (identitiesColumn + 62 * seat) 62
+  name-at seat = all-column Octet (nthOctet s) o (identitiesColumn + 62 * seat) 62
 
   seats-at : NarrowSeats (hallAt s) (namesAt s)
   unfolding hallAt wordsAt octetsAt namesAt
@@ -286,7 +286,7 @@ module _ (s : List ℕ) (o : Octets s) where
       record {
         settings = settings-read-fit s settingsStart o;
         ssrcs = all-column Word (λ i. be32 s (ssrcsColumn + 4 * i)) (λ i. word-small (ssrcsColumn + 4 * i)) 0 16;
-        highest = all-column Octet (octetAt s) o highestColumn 16;
+        highest = all-column Octet (nthOctet s) o highestColumn 16;
         names = all-column OctetsOf (nameIn s) name-at 0 16;
       }
 
@@ -303,7 +303,7 @@ module _ (s : List ℕ) (o : Octets s) where
       record {
         line = all-column Small (entryAt s) (λ i. (o (waitingColumn + i), o (prioritiesColumn + i))) 0 15;
         holder =
-            holder-at (octetAt s phasePlace) (octetAt s timersPlace) (entryOf (octetAt s holderPlace) (octetAt s heldAtPlace))
+            holder-at (nthOctet s phasePlace) (nthOctet s timersPlace) (entryOf (nthOctet s holderPlace) (nthOctet s heldAtPlace))
             (be16 s causePlace) (o holderPlace, o heldAtPlace);
       }
 

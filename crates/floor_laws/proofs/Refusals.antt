@@ -11,7 +11,7 @@ use lib.IntN.{ℤ}
 use borrow.Author.Tests.{eqb-true, le-leb}
 use Rattle.words.specs.Choice.{if_then_else_, by-if}
 use Rattle.message.specs.Answers.{Answer, refused}
-use Rattle.hall.specs.Answers.{number}
+use Rattle.hall.specs.Answers.{answerNumber}
 use Rattle.joining.specs.Join.{join}
 use Rattle.hall.specs.declared.Newcomer.{Newcomer}
 use Rattle.hall.specs.declared.Hall.{Hall}
@@ -47,7 +47,7 @@ module _ (d r : List ℕ) where
 
   outcome-untouched : (o : Outcome) → Untouched (outcomeOn d r o)
   unfolding outcomeOn
-  outcome-untouched o = settles-untouched (number (o .answer)) _ _
+  outcome-untouched o = settles-untouched (answerNumber (o .answer)) _ _
 
 -- a room's
 module _ (room : List ℕ) where
@@ -147,9 +147,10 @@ settles-answers d r n desk report q b =
     (λ z. clash q z)
 
 module _ (d r : List ℕ) (q : formed d ≡ true) where
-  outcome-answers : (o : Outcome) → (number (o .answer) ≡ 0 → reportSize ≤ length r) → outcomeOn d r o .answer ≡ number (o .answer)
+  outcome-answers : (o : Outcome) → (answerNumber (o .answer) ≡ 0 → reportSize ≤ length r) →
+      outcomeOn d r o .answer ≡ answerNumber (o .answer)
   unfolding outcomeOn
-  outcome-answers o b = settles-answers d r (number (o .answer)) _ _ q b
+  outcome-answers o b = settles-answers d r (answerNumber (o .answer)) _ _ q b
 
   written-answers : (n : ℕ) (c : Core) (h : Hall) (ns : Names) → written d n c h ns .0 ≡ n
   unfolding written
@@ -159,17 +160,17 @@ module _ (d r : List ℕ) (q : formed d ≡ true) where
       (λ z. clash (le-leb deskSize (length d) (has-room d q)) z))
       (λ _. refl)
 
-  join-answers : (i : List ℕ) (n : Newcomer) → joinOn d i n .0 ≡ number (does (deskAt d) (joining i n) .answer)
+  join-answers : (i : List ℕ) (n : Newcomer) → joinOn d i n .0 ≡ answerNumber (does (deskAt d) (joining i n) .answer)
   unfolding does
   join-answers i n =
-      by-if (λ (w : ℕ × List ℕ). w .0 ≡ number (join (hallAt d) (namesAt d) i n .answer)) (formed d) (λ _. written-answers _ _ _ _)
+      by-if (λ (w : ℕ × List ℕ). w .0 ≡ answerNumber (join (hallAt d) (namesAt d) i n .answer)) (formed d) (λ _. written-answers _ _ _ _)
       (λ z. clash q z)
 
 answers-by : (a : Act) (d r : List ℕ) (n : ℕ) (d′ r′ : List ℕ) → PromisedBy a d r n d′ r′ → formed d ≡ true →
     (ruled (deskAt d) a ≡ 0 → reportSize ≤ length r) → n ≡ ruled (deskAt d) a
 answers-by a d r n d′ r′ p q b =
     by-act (λ (l : Leaves). l .answer ≡ ruled (deskAt d) a) a d r n d′ r′ p
-    (λ o w e. join-answers d r q o w ∙ ap (λ (x : Doing). number (does (deskAt d) x .answer)) (sym e))
+    (λ o w e. join-answers d r q o w ∙ ap (λ (x : Doing). answerNumber (does (deskAt d) x .answer)) (sym e))
     (outcome-answers d r q (does (deskAt d) (meant a)) b)
 
 pub rules-answer : RulesAnswer

@@ -16,7 +16,7 @@ use Rattle.hall.specs.Seats.{isPresent, queues, only, everybody, others}
 use Rattle.steps.specs.declared.Core.{Core}
 use Rattle.steps.specs.declared.Kind.{Kind}
 use Rattle.steps.specs.declared.Kind.the-variants as say
-use Rattle.steps.specs.declared.Message.{Message}
+use Rattle.steps.specs.declared.Sending.{Sending}
 use Rattle.steps.specs.Words.{next, _⇒_, silence, noMarks}
 use Rattle.giving.specs.Floor.{holds}
 use Rattle.line.specs.Line.{entryOf as entry}
@@ -72,7 +72,7 @@ info-fits l t b k =
     ))
     (λ _. (omega arith, omega arith))
 
-six-fits : {c : Core} {h : Hall} {t : ℕ} {new : Core} {first second : Message} → length (waiting (c .line)) ≤ 15 →
+six-fits : {c : Core} {h : Hall} {t : ℕ} {new : Core} {first second : Sending} → length (waiting (c .line)) ≤ 15 →
     All Small (waiting (c .line)) →
     Six c h t new first second → MessageFits first × MessageFits second
 six-fits {c} {h} {t} b k (informs q f s) =

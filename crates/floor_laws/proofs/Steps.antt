@@ -9,7 +9,7 @@ use lib.Dec.{eqb, leb}
 use lib.ListN.{length}
 use Rattle.words.specs.Choice.{if_then_else_, by-if}
 use Rattle.octets.specs.Octets.{over, Octets}
-use Rattle.hall.specs.Answers.{number}
+use Rattle.hall.specs.Answers.{answerNumber}
 use Rattle.hall.specs.declared.Newcomer.{Newcomer}
 use Rattle.joining.specs.declared.Joined.{Joined}
 use Rattle.joining.specs.Join.{join}
@@ -48,7 +48,7 @@ module _ (d : List ℕ) (o : Octets d) (q : formed d ≡ true) (k : Right (deskA
   outcome-so : (r : List ℕ) (x : Doing) → DoingFits x → Stands x (outcomeOn d r (does (deskAt d) x))
   unfolding outcomeOn settles
   outcome-so r x w =
-      let n = number (does (deskAt d) x .answer) in
+      let n = answerNumber (does (deskAt d) x .answer) in
       by-if (Stands x) (formed d)
       (λ _. by-if (Stands x) (eqb n 0)
       (λ _. by-if (Stands x) (leb reportSize (length r)) (λ _. done-so _ x (carried x w)) (λ _. refused-so 13 x refl))
@@ -67,12 +67,12 @@ module _ (d : List ℕ) (o : Octets d) (q : formed d ≡ true) (k : Right (deskA
     abbrev j : Joined
     j = join (hallAt d) (namesAt d) i n
 
-    written-so : Seated (written d (number (j .answer)) (coreAt d) (j .hall) (j .names))
+    written-so : Seated (written d (answerNumber (j .answer)) (coreAt d) (j .hall) (j .names))
     unfolding written does
     written-so =
-        by-if Seated (eqb (number (j .answer)) 0)
+        by-if Seated (eqb (answerNumber (j .answer)) 0)
         (λ _. by-if Seated (leb deskSize (length d)) (λ _. joined-so) (λ _. refused-so 13 (joining i n) refl))
-        (λ e. refused-so (number (j .answer)) (joining i n) e)
+        (λ e. refused-so (answerNumber (j .answer)) (joining i n) e)
 
     pub join-so : Seated (joinOn d i n)
     join-so = by-if Seated (formed d) (λ _. written-so) (λ _. refused-so 20 (joining i n) refl)

@@ -17,7 +17,7 @@ use Rattle.words.specs.Choice.{if_then_else_}
 use Rattle.message.specs.Answers.{refused}
 use Rattle.line.specs.declared.Entry.{Entry}
 use Rattle.screen.specs.Screen.{answered}
-use Rattle.hall.specs.Answers.{number}
+use Rattle.hall.specs.Answers.{answerNumber}
 use Rattle.hall.specs.declared.Settings.{Settings}
 use Rattle.hall.specs.declared.Newcomer.{Newcomer}
 use Rattle.events.specs.declared.Event.the-variants.{Start, Stop, Media, Expiry}
@@ -98,7 +98,7 @@ meant (floorTimer t) = event (Expiry (timerNamed t))
 
 -- what the rules answer to it: a packet that is not read has its refusal's number
 abbrev pub ruled : Desk → Act → ℕ
-ruled k a = number (does k (meant a) .answer)
+ruled k a = answerNumber (does k (meant a) .answer)
 
 -- numbers from C have their places in octets: what a newcomer says of itself has; nothing else that an act brings is kept
 abbrev pub Fits : List ℕ → Newcomer → Type 0
@@ -121,8 +121,8 @@ AllFit (x ∷ xs) = DoingFits x × AllFit xs
 abbrev pub did : ℕ → Doing → List Doing
 did answer x = if eqb answer 0 then x ∷ [] else []
 
-abbrev pub done : Call → List Doing
-done x = did (x .answer) (meant (x .act))
+abbrev pub doings : Call → List Doing
+doings x = did (x .answer) (meant (x .act))
 
 -- a desk is made with settings, in a room
 abbrev pub FloorMake : (room : List ℕ) (g : Settings) (answer : ℕ) (room′ : List ℕ) → Type 0
@@ -172,7 +172,8 @@ RulesAnswer =
 
 abbrev pub StepInForm : Type 0
 StepInForm =
-    (d : List ℕ) (x : Call) → Promised d x → Octets d → formed d ≡ true → ActFits (x .act) → Holds (x .desk) (afterAll (deskAt d) (done x))
+    (d : List ℕ) (x : Call) → Promised d x → Octets d → formed d ≡ true → ActFits (x .act) →
+    Holds (x .desk) (afterAll (deskAt d) (doings x))
 
 -- and what it reports is of the shape that a report's octets say (proofs/Shape)
 abbrev pub StepFits : Type 0

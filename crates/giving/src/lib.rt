@@ -7,8 +7,8 @@ use steps::Core;
 use steps::Given;
 use steps::Kind;
 use steps::Mark;
-use steps::Message;
 use steps::Phase;
+use steps::Sending;
 use steps::Step;
 ghost use mathlib.Core.Path.{_≡_};
 ghost use Rattle.line.specs.Line.{waiting};
@@ -39,12 +39,12 @@ fn give(core: Core, hall: Hall, e: Entry, beside: AlsoRuns, mark: Given) -> Step
         c20: core.c20,
     };
     let to = hall::only_seat(e.seat);
-    let first = Message {
+    let first = Sending {
         kind: Kind::Granted(e.priority),
         to,
     };
     let to = hall::all_others(hall, e.seat);
-    let second = Message {
+    let second = Sending {
         kind: Kind::Taken(e.seat, sequence),
         to,
     };

@@ -8,17 +8,17 @@ use Rattle.hall.specs.declared.Answer.{Answer}
 use Rattle.hall.specs.declared.Answer.the-variants.{Done, CallStopped, NoSuchSeat, NotExpected, AllSeatsTaken, IdentityLength}
 use Rattle.hall.specs.declared.Answer.the-variants.{IdentityPresent, SsrcPresent, OutsideRange, NotRead}
 
-abbrev pub number : Answer → ℕ
-number Done = 0
-number CallStopped = 21
-number NoSuchSeat = 22
-number NotExpected = 23
-number AllSeatsTaken = 24
-number IdentityLength = 25
-number IdentityPresent = 26
-number SsrcPresent = 27
-number OutsideRange = 28
-number (NotRead n) = n
+abbrev pub answerNumber : Answer → ℕ
+answerNumber Done = 0
+answerNumber CallStopped = 21
+answerNumber NoSuchSeat = 22
+answerNumber NotExpected = 23
+answerNumber AllSeatsTaken = 24
+answerNumber IdentityLength = 25
+answerNumber IdentityPresent = 26
+answerNumber SsrcPresent = 27
+answerNumber OutsideRange = 28
+answerNumber (NotRead n) = n
 
 -- 28 for settings that no desk may have
 unfoldable pub settingsAnswer : Settings → Answer

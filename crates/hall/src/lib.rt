@@ -4,7 +4,7 @@ ghost use mathlib.Core.Path.{_≡_};
 ghost use mathlib.Core.Bool.{true, false};
 ghost use lib.ListN.{getD, set};
 ghost use Rattle.hall.specs.Seats.{settingsOf, newcomerOf, noFlags, inRange, emptyHall, isPresent, flagsAt, queues, receivesOnly, only, others, alone, effective, seatOf, freeSeat, withSeat, vacated};
-ghost use Rattle.hall.specs.Answers.{number, settingsAnswer};
+ghost use Rattle.hall.specs.Answers.{answerNumber, settingsAnswer};
 
 // What a desk answers; specs/Answers.antt has the paper's number of each.
 pub enum Answer {
@@ -206,7 +206,7 @@ pub fn check_settings(settings: Settings) -> Answer
 
 // The paper's number of an answer.
 pub fn number_of(answer: Answer) -> u8
-    ensures { λ r. ⌜ r ≡ number answer ⌝ }
+    ensures { λ r. ⌜ r ≡ answerNumber answer ⌝ }
 {
     match answer {
         Answer::Done => 0,

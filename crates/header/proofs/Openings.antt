@@ -12,14 +12,14 @@ use Rattle.words.specs.Choice.{if_then_else_}
 use Rattle.octets.specs.Octets.{be32}
 use Rattle.message.specs.Types.{typed}
 use Rattle.message.specs.Answers.{refused, result}
-use Rattle.message.specs.declared.Kind.{Kind}
+use Rattle.message.specs.declared.MessageType.{MessageType}
 use Rattle.message.specs.declared.Typed.the-variants.{Listed, Unlisted}
 use Rattle.message.specs.declared.Typed.{Typed}
 use Rattle.header.specs.Header.{headerSize, namePlace, version, padBit, typeBits, ends, name}
 use Rattle.message.proofs.Answers.{refusal-one}
 use Rattle.header.specs.declared.Opening.{Opening}
 use Rattle.header.specs.declared.Opening.the-variants.{Of, Refused}
-use Rattle.header.specs.Opening.{ofType, opening, told}
+use Rattle.header.specs.Opening.{ofType, opening, openingAnswer}
 
 module _ (s : List ℕ) where
   pub answers-1 : length s < 12 → opening s ≡ refused 1
@@ -94,7 +94,7 @@ module _ (s : List ℕ) where
                   )
 
 -- all that the eight checks ask of a packet of this type
-pub record Opened (s : List ℕ) (k : Kind) : Type 0 where
+pub record Opened (s : List ℕ) (k : MessageType) : Type 0 where
   pub long : headerSize ≤ length s
   pub short : length s ≤ 1024
   pub two : version s ≡ 2
@@ -104,7 +104,7 @@ pub record Opened (s : List ℕ) (k : Kind) : Type 0 where
   pub called : be32 s namePlace ≡ name
   pub type : typed (typeBits s) ≡ Listed k
 
-pub opens : (s : List ℕ) (k : Kind) → Opened s k → opening s ≡ result k
+pub opens : (s : List ℕ) (k : MessageType) → Opened s k → opening s ≡ result k
 opens s k o =
     answers-8 s (o .long) (o .short) (o .two) (o .plain) (o .application) (o .measured) (o .called) ∙ ap ofType (o .type)
 
@@ -114,11 +114,11 @@ unfolding if_then_else_
 passed true a b r d e = let z : _≡_ {A = ℕ} 0 1 = d e in absurd (omega arith)
 passed false a b r d e = (refl, e)
 
-type-of : (t : Typed) (k : Kind) → ofType t ≡ result k → t ≡ Listed k
+type-of : (t : Typed) (k : MessageType) → ofType t ≡ result k → t ≡ Listed k
 type-of Unlisted k e = cc
 type-of (Listed j) k e = let q : j ≡ k = cc in ap Listed q
 
-pub opened-by : (s : List ℕ) (k : Kind) → opening s ≡ result k → Opened s k
+pub opened-by : (s : List ℕ) (k : MessageType) → opening s ≡ result k → Opened s k
 unfolding opening
 opened-by s k e =
     let a = passed (ltb (length s) headerSize) (refused 1) _ (result k) (λ q. cc) e in
@@ -140,7 +140,7 @@ opened-by s k e =
     }
 
 -- answers that say the same in the paper's numbers are one answer
-pub told-one : (a b : Opening) → told a ≡ told b → a ≡ b
+pub told-one : (a b : Opening) → openingAnswer a ≡ openingAnswer b → a ≡ b
 told-one (Of j) (Of k) e = ap Of (cc)
 told-one (Of j) (Refused r) e = cc
 told-one (Refused r) (Of k) e = cc

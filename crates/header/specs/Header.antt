@@ -7,7 +7,7 @@ use lib.ListN.{getD}
 use Rattle.words.specs.Choice.{if_then_else_}
 use Rattle.octets.specs.Octets.{be16, octets16, octets32}
 use Rattle.message.specs.Types.{typeNumber}
-use Rattle.message.specs.declared.Kind.{Kind}
+use Rattle.message.specs.declared.MessageType.{MessageType}
 
 -- where the length, SSRC and the name stand; the fields stand behind these twelve octets
 abbrev pub lengthPlace : ℕ
@@ -44,7 +44,7 @@ abbrev pub name : ℕ
 name = 0x4D43_5054
 
 -- the same written: version 2, P not set, the Ack bit and the type
-unfoldable pub firstOctet : Kind → Bool → ℕ
+unfoldable pub firstOctet : MessageType → Bool → ℕ
 firstOctet kind ack = 128 + (if ack then 16 else 0) + typeNumber kind
 
 -- the header of a packet that has this first octet, this SSRC and so many octets in all

@@ -9,19 +9,19 @@ use lib.ListN.{length, getD}
 use Rattle.words.specs.Choice.{if_then_else_}
 use Rattle.octets.specs.Octets.{be32}
 use Rattle.message.specs.Types.{typed}
-use Rattle.message.specs.Answers.{Answer, refused, result, number}
-use Rattle.message.specs.declared.Kind.{Kind}
+use Rattle.message.specs.Answers.{Answer, refused, result, refusalNumber}
+use Rattle.message.specs.declared.MessageType.{MessageType}
 use Rattle.message.specs.declared.Typed.{Typed}
 use Rattle.message.specs.declared.Typed.the-variants.{Listed, Unlisted}
 use Rattle.header.specs.declared.Opening.{Opening}
 use Rattle.header.specs.declared.Opening.the-variants.{Of, Refused}
 use Rattle.header.specs.Header.{headerSize, namePlace, version, padBit, typeBits, ends, name}
 
-abbrev pub ofType : Typed → Answer Kind
+abbrev pub ofType : Typed → Answer MessageType
 ofType Unlisted = refused 8
 ofType (Listed k) = result k
 
-unfoldable pub opening : List ℕ → Answer Kind
+unfoldable pub opening : List ℕ → Answer MessageType
 opening s =
     if ltb (length s) headerSize then refused 1
     else if ltb 1024 (length s) then refused 2
@@ -33,10 +33,10 @@ opening s =
     else ofType (typed (typeBits s))
 
 -- the code's answer in the paper's numbers
-abbrev pub told : Opening → Answer Kind
-told (Of k) = result k
-told (Refused r) = refused (number r)
+abbrev pub openingAnswer : Opening → Answer MessageType
+openingAnswer (Of k) = result k
+openingAnswer (Refused r) = refused (refusalNumber r)
 
 -- what is promised of an answer to a packet; of two such answers `packet_laws` proves that they are one
 abbrev pub Opens : List ℕ → Opening → Type 0
-Opens s answer = told answer ≡ opening s
+Opens s answer = openingAnswer answer ≡ opening s

@@ -1,5 +1,5 @@
 // A packet's first twelve octets (document 01, "The packet"), read, which is checks 1 to 8 ("What is answered to packets"), and written.
-use message::Kind;
+use message::MessageType;
 use message::Refusal;
 use message::Typed;
 ghost use mathlib.Core.Path.{_≡_};
@@ -11,7 +11,7 @@ ghost use Rattle.header.specs.Opening.{Opens};
 
 // What a packet is judged to be: one of a type, or refused.
 pub enum Opening {
-    Of(Kind),
+    Of(MessageType),
     Refused(Refusal),
 }
 
@@ -69,7 +69,7 @@ pub fn opened(s: &[u8]) -> Opening
 }
 
 // Version 2, P not set, the Ack bit and the type.
-pub fn first_octet(kind: Kind, ack: bool) -> u8
+pub fn first_octet(kind: MessageType, ack: bool) -> u8
     ensures { λ r. ⌜ r ≡ firstOctet kind ack ⌝ }
 {
     let number = message::type_number(kind);

@@ -9,7 +9,7 @@ use lib.ListN.{length, take}
 use borrow.Author.Tests.{eqb-true, eqb-false}
 use Rattle.words.specs.Choice.{by-if}
 use Rattle.octets.specs.Octets.{over, Octets}
-use Rattle.hall.specs.Answers.{number}
+use Rattle.hall.specs.Answers.{answerNumber}
 use Rattle.steps.specs.declared.Report.{Report}
 use Rattle.events.specs.declared.Desk.{Desk}
 use Rattle.events.specs.declared.Outcome.{Outcome}
@@ -21,7 +21,7 @@ use Rattle.report_octets_laws.proofs.Reported.{says-the-report, twenty-four}
 use Rattle.desk_test.specs.Lent.{formed}
 use Rattle.desk_steps.specs.Steps.{Leaves, leaves, settles, outcomeOn, stepOn}
 use Rattle.floor_laws.specs.Kept.{deskAt, Act, floorJoin, floorLeave, floorStart, floorStop, floorPacket, floorMedia, floorTimer, Call}
-use Rattle.floor_laws.specs.Kept.{Promised, PromisedBy, DoingFits, meant, done}
+use Rattle.floor_laws.specs.Kept.{Promised, PromisedBy, DoingFits, meant, doings}
 use Rattle.floor_laws.proofs.Shape.{step-fits}
 use Rattle.floor_laws.proofs.Made.{first-over}
 use Rattle.library.specs.Library.{reportBy}
@@ -39,7 +39,7 @@ module _ (d : List ℕ) (r : List ℕ) where
   settled : (p : Outcome) → Done p (outcomeOn d r p)
   unfolding outcomeOn settles
   settled p =
-      let n = number (p .answer) in
+      let n = answerNumber (p .answer) in
       let s = reportOctets (p .report) in
       by-if (Done p) (formed d)
       (λ _. by-if (Done p) (eqb n 0)
@@ -67,7 +67,7 @@ module _ (d : List ℕ) (r : List ℕ) where
     agrees-by (floorTimer t) p = says (meant (floorTimer t)) tt p
 
 pub agrees : (d : List ℕ) → Octets d → formed d ≡ true → (x : Call) → Promised d x →
-    Agrees (deskAt d) (reportBy (x .act) (take reportSize (x .report))) (done x)
+    Agrees (deskAt d) (reportBy (x .act) (take reportSize (x .report))) (doings x)
 agrees d o q x p =
     by-if (Agrees (deskAt d) (reportBy (x .act) (take reportSize (x .report)))) (eqb (x .answer) 0)
     (λ e. (agrees-by d (x .room) o q (x .answer) (x .desk) (x .report) (eqb-true (x .answer) 0 e) (x .act) p, tt)) (λ _. tt)

@@ -19,13 +19,13 @@ use Rattle.timers.specs.Timers.{isStopped}
 use Rattle.events.specs.declared.Desk.{Desk}
 use Rattle.history.specs.Doing.{Doing, does, made as madeWith, after, afterAll, justMade}
 use Rattle.marks.specs.Marks.{isSeat}
-use Rattle.demands.specs.Demands.{Row, deskAfter, rowOf, log, isStruck, isEnded, placeOf, inLine, ComesFirst}
+use Rattle.demands.specs.Demands.{Row, deskAfter, rowBy, log, isStruck, isEnded, placeOf, inLine, ComesFirst}
 use Rattle.demands.proofs.Counts.{nobody-drops-out, given-and-ended, nothing-unseen}
 use Rattle.demands.proofs.Steps.{struck-for-a-reason, worked-out}
 use Rattle.demands.proofs.Order.{goes-to-the-first}
 use Rattle.desk_octets.specs.Form.{hallAt}
 use Rattle.floor.specs.Promises.{PhasePromise}
-use Rattle.floor_laws.specs.Kept.{deskAt, Holds, Call, Promised, ActFits, meant, done, joinsOn}
+use Rattle.floor_laws.specs.Kept.{deskAt, Holds, Call, Promised, ActFits, meant, doings, joinsOn}
 use Rattle.floor_laws.proofs.Desks.{in-range}
 use Rattle.floor_laws.proofs.Refusals.{not-made, not-loaded}
 use Rattle.floor_laws.proofs.Steps.{holds-as, step-in-form}
@@ -46,7 +46,7 @@ data Short : List Doing → Type 0 where
   none : Short []
   single : (y : Doing) → Short (y ∷ [])
 
-done-short : (x : Call) → Short (done x)
+done-short : (x : Call) → Short (doings x)
 done-short x = by-if Short (eqb (x .answer) 0) (λ _. single (meant (x .act))) (λ _. none)
 
 -- what comes next of a desk and its log, if this was done and reported
@@ -55,8 +55,8 @@ module _ (d : List ℕ) (rows : List Row) (k : Reached d rows) (d′ : List ℕ)
   now = deskAfter does (k .start) (k .past)
 
   row-same : (y : Doing) → r ≡ does (deskAt d) y .report →
-      rowsOf (hallAt d) r (y ∷ []) ++ rows ≡ rowOf does now y ∷ log does (k .start) (k .past)
-  row-same y t = rw (t, k .same) (ap (λ (e : Desk). rowOf does e y ∷ log does (k .start) (k .past)) (k .holds .stands))
+      rowsOf (hallAt d) r (y ∷ []) ++ rows ≡ rowBy does now y ∷ log does (k .start) (k .past)
+  row-same y t = rw (t, k .same) (ap (λ (e : Desk). rowBy does e y ∷ log does (k .start) (k .past)) (k .holds .stands))
 
   goes-on : (ys : List Doing) → Short ys → Agrees (deskAt d) r ys → Holds d′ (afterAll (deskAt d) ys) →
       Reached d′ (rowsOf (hallAt d) r ys ++ rows)
@@ -81,7 +81,7 @@ module _ (d : List ℕ) (rows : List Row) (k : Reached d rows) (d′ : List ℕ)
 calls-on : (d : List ℕ) (rows : List Row) → Reached d rows → (x : Call) → Promised d x → ActFits (x .act) →
     Reached (x .desk) (rowsBy d x ++ rows)
 calls-on d rows k x p w =
-    goes-on d rows k (x .desk) (reportBy (x .act) (take reportSize (x .report))) (done x) (done-short x)
+    goes-on d rows k (x .desk) (reportBy (x .act) (take reportSize (x .report))) (doings x) (done-short x)
     (agrees d (k .holds .octets) (k .holds .inForm) x p) (step-in-form d x p (k .holds .octets) (k .holds .inForm) w)
 
 pub reached : EveryRunReached
@@ -196,20 +196,20 @@ module _ (d : List ℕ) (rows : List Row) (k : Reached d rows) (d′ : List ℕ)
 struck : StruckForAReason
 struck d rows ran x p w s q =
     let k = reached d rows ran in
-    struck-so d rows k (x .desk) (reportBy (x .act) (take reportSize (x .report))) (done x) (done-short x)
+    struck-so d rows k (x .desk) (reportBy (x .act) (take reportSize (x .report))) (doings x) (done-short x)
     (agrees d (k .holds .octets) (k .holds .inForm) x p) s q
 
 goes-first : GoesToTheFirst
 goes-first d rows ran x p w t u n j q i g =
     let k = reached d rows ran in
-    first-so d rows k (x .desk) (reportBy (x .act) (take reportSize (x .report))) (done x) (done-short x)
+    first-so d rows k (x .desk) (reportBy (x .act) (take reportSize (x .report))) (doings x) (done-short x)
     (agrees d (k .holds .octets) (k .holds .inForm) x p)
     (step-in-form d x p (k .holds .octets) (k .holds .inForm) w) t u n j q i g
 
 unseen : NothingUnseen
 unseen d rows ran before x p w later s =
     let k = reached d rows ran in
-    unseen-so d rows k (x .desk) (reportBy (x .act) (take reportSize (x .report))) (done x) (done-short x)
+    unseen-so d rows k (x .desk) (reportBy (x .act) (take reportSize (x .report))) (doings x) (done-short x)
     (agrees d (k .holds .octets) (k .holds .inForm) x p)
     (step-in-form d x p (k .holds .octets) (k .holds .inForm) w) before later s
 

@@ -31,7 +31,7 @@ use Rattle.floor.specs.Promises.{ScreenPromise, PhasePromise}
 use Rattle.desk_looking.proofs.Looks.{looks-so}
 use Rattle.floor_laws.proofs.Narrow.{Small}
 use Rattle.floor_laws.proofs.Desks.{right-at}
-use Rattle.library.specs.Library.{Look, entriesIn, seatIn, line, holder}
+use Rattle.library.specs.Library.{Look, entriesIn, seatAnswered, line, holder}
 
 -- two octets an entry
 module _ (es : List Entry) (rest : List ℕ) where
@@ -98,7 +98,7 @@ enough d room a room′ o q p b =
 seat-back : (s p : ℕ) → p < 256 → (256 * s + p) / 256 ≡ s
 seat-back s p h = omega arith
 
-holder-so : (p : Phase) → Small (holderIn p) → (s : ℕ) → isSeat (seatIn (signed (holderAnswer p))) s ≡ holds p s
+holder-so : (p : Phase) → Small (holderIn p) → (s : ℕ) → isSeat (seatAnswered (signed (holderAnswer p))) s ≡ holds p s
 holder-so Stopped k s = refl
 holder-so (Idle t7) k s = refl
 holder-so (Taken e b) k s = rw (seat-back (e .seat) (e .priority) (k .1))
@@ -106,7 +106,7 @@ holder-so (Revoking e n) k s = rw (seat-back (e .seat) (e .priority) (k .1))
 
 pub holder-seen : (d : List ℕ) → Octets d → formed d ≡ true → (l : Look d) (s : ℕ) → isSeat (holder l) s ≡ holds (coreAt d .phase) s
 holder-seen d o q l s =
-    ap (λ (a : ℤ). isSeat (seatIn a) s) (l .holder ∙ looks-so d (holderAnswer (coreAt d .phase)) q)
+    ap (λ (a : ℤ). isSeat (seatAnswered a) s) (l .holder ∙ looks-so d (holderAnswer (coreAt d .phase)) q)
     ∙ holder-so (coreAt d .phase) (right-at d o q .narrow .core .holder) s
 
 -- the phase

@@ -7,10 +7,10 @@ use borrow.Author.Tests.{eq-eqb}
 use Rattle.words.specs.Choice.{if-yes}
 use Rattle.report_octets.specs.Places.{reportSize}
 use Rattle.desk_octets.specs.Form.{hallAt}
-use Rattle.floor_laws.specs.Kept.{meant, done}
+use Rattle.floor_laws.specs.Kept.{meant, doings}
 use Rattle.library.specs.Library.{reportBy, rowsOf, DoneIsARow}
 
 pub done-is-a-row : DoneIsARow
 done-is-a-row d x p z =
-    let e : done x ≡ meant (x .act) ∷ [] = if-yes (eqb (x .answer) 0) (meant (x .act) ∷ []) [] (eq-eqb (x .answer) 0 z) in
+    let e : doings x ≡ meant (x .act) ∷ [] = if-yes (eqb (x .answer) 0) (meant (x .act) ∷ []) [] (eq-eqb (x .answer) 0 z) in
     (_, ap (rowsOf (hallAt d) (reportBy (x .act) (take reportSize (x .report)))) e)

@@ -37,7 +37,7 @@ use Rattle.desk_octets.specs.Columns.{column}
 use Rattle.report_octets_laws.specs.Reported.{reportIn}
 use Rattle.floor.specs.Promises.{LoadPromise, ScreenPromise, PhasePromise, HolderPromise}
 use Rattle.floor_laws.specs.Kept.{Holds, deskIn, FloorMake, Act, floorJoin, floorLeave, floorStart, floorStop, floorPacket, floorMedia}
-use Rattle.floor_laws.specs.Kept.{floorTimer, Call, Promised, ActFits, done}
+use Rattle.floor_laws.specs.Kept.{floorTimer, Call, Promised, ActFits, doings}
 
 -- A RUN AND ITS LOG
 
@@ -58,7 +58,7 @@ rowsOf h r [] = []
 rowsOf h r (y ∷ ys) = record { asked = asking h y; report = r } ∷ rowsOf h r ys
 
 abbrev pub rowsBy : List ℕ → Call → List Row
-rowsBy d x = rowsOf (hallAt d) (reportBy (x .act) (take reportSize (x .report))) (done x)
+rowsBy d x = rowsOf (hallAt d) (reportBy (x .act) (take reportSize (x .report))) (doings x)
 
 -- every call that answers 0 brings one row
 abbrev pub DoneIsARow : Type 0
@@ -103,15 +103,15 @@ pub record Look (d : List ℕ) : Type 0 where
 abbrev pub entriesIn : List ℕ → ℕ → List Entry
 entriesIn s n = column (λ i. entry (getD s (2 * i) 0) (getD s (2 * i + 1) 0)) 0 n
 
-abbrev pub seatIn : ℤ → Mark
-seatIn (pos n) = Seat (n / 256)
-seatIn (negsuc n) = NoSeat
+abbrev pub seatAnswered : ℤ → Mark
+seatAnswered (pos n) = Seat (n / 256)
+seatAnswered (negsuc n) = NoSeat
 
 abbrev pub line : {d : List ℕ} → Look d → List Entry
 line l = entriesIn (l .shown) (l .count)
 
 abbrev pub holder : {d : List ℕ} → Look d → Mark
-holder l = seatIn (l .answer)
+holder l = seatAnswered (l .answer)
 
 -- 30 octets are room enough for any line
 abbrev pub RoomEnough : Type 0
@@ -142,7 +142,7 @@ NobodyDropsOut = (d : List ℕ) (rows : List Row) → Ran d rows → (now : Look
 -- 2. "Struck off only in a step where it releases, leaves, or the call stops."
 abbrev pub StruckForAReason : Type 0
 StruckForAReason = (d : List ℕ) (rows : List Row) → Ran d rows → (x : Call) → Promised d x → ActFits (x .act) → (s : ℕ) →
-    isStruck s (marksBy d x) ≡ true → reasonIn (hallAt d) (done x) s ≡ true
+    isStruck s (marksBy d x) ≡ true → reasonIn (hallAt d) (doings x) s ≡ true
 
 -- 3. "A floor that ends with a line waiting, the call going on, goes to the highest priority, and among equals to the one whose latest
 -- placing or move came first." Who waits, and at which priority, is read off the log; `floor_phase` answers more than 0 while the call goes

@@ -18,19 +18,19 @@ use Rattle.identities.specs.Identity.{noNames}
 use Rattle.joining.specs.declared.Joined.{Joined}
 use Rattle.joining.specs.Join.{join}
 use Rattle.sheet.specs.Layout.{Seat, seatHead}
-use Rattle.sheet.specs.Framing.{settingsPlace, seatCount, number, framing}
+use Rattle.sheet.specs.Framing.{settingsPlace, seatCount, verdictNumber, framing}
 use Rattle.loading.specs.declared.Turn.{Turn}
 use Rattle.loading.specs.Loading.{loaded, refused, settingsOn, zeros, identityLength, whoIs, readSeat, afterSeat, laidOut, Seats}
-use Rattle.loading.specs.Loading.{whole, fault, infront, readSeats, ifSeated, joinAll, seatAll, settled, loading}
+use Rattle.loading.specs.Loading.{whole, fault, seatInfront, readSeats, ifSeated, joinAll, seatAll, settled, loading}
 use Rattle.loading.specs.Walk.{turnAt}
 
 -- 41, 42 and 43 first
 module _ (s : List ℕ) where
-  pub loads-framed : number (framing s) ≡ 0 → loading s ≡ settled s
+  pub loads-framed : verdictNumber (framing s) ≡ 0 → loading s ≡ settled s
   unfolding loading if_then_else_
-  loads-framed h = rw (eq-eqb (number (framing s)) 0 h)
+  loads-framed h = rw (eq-eqb (verdictNumber (framing s)) 0 h)
 
-  pub loads-refused : (n : ℕ) → n ≡ number (framing s) → (n ≡ 0 → ⊥) → loading s ≡ refused n
+  pub loads-refused : (n : ℕ) → n ≡ verdictNumber (framing s) → (n ≡ 0 → ⊥) → loading s ≡ refused n
   unfolding loading if_then_else_
   loads-refused n e h = rw (← e, ne-eqb n 0 h)
 
@@ -61,7 +61,7 @@ still-refused Nowhere = refl
 module _ (h : Hall) (ns : Names) where
   pub seat-infront : (x : Seat) (rest : Seats)
       → let j = join h ns (x .identity) (x .who) in
-      seatAll h ns (infront x rest) ≡ ifSeated (j .seat) (seatAll (j .hall) (j .names) rest)
+      seatAll h ns (seatInfront x rest) ≡ ifSeated (j .seat) (seatAll (j .hall) (j .names) rest)
   unfolding joinAll
   seat-infront x (whole xs) = refl
   seat-infront x fault = still-refused (join h ns (x .identity) (x .who) .seat)

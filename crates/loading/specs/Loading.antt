@@ -20,7 +20,7 @@ use Rattle.steps.specs.declared.Core.{Core}
 use Rattle.events.specs.Events.{fresh}
 use Rattle.seat_octets.specs.Layout.{flagsOf, flagsTop, settingsIn, zerosIn}
 use Rattle.sheet.specs.Layout.{Seat, seatHead}
-use Rattle.sheet.specs.Framing.{settingsPlace, seatCount, number, framing}
+use Rattle.sheet.specs.Framing.{settingsPlace, seatCount, verdictNumber, framing}
 use Rattle.loading.specs.declared.Loading.{Loading}
 
 -- what loading answers: the paper's number, 0 for done, and a desk
@@ -70,13 +70,13 @@ pub data Seats : Type 0 where
   whole : List Seat → Seats
   fault : Seats
 
-abbrev pub infront : Seat → Seats → Seats
-infront x (whole xs) = whole (x ∷ xs)
-infront x fault = fault
+abbrev pub seatInfront : Seat → Seats → Seats
+seatInfront x (whole xs) = whole (x ∷ xs)
+seatInfront x fault = fault
 
 unfoldable pub readSeats : ℕ → List ℕ → ℕ → Seats
 readSeats zero s at = if eqb at (settingsPlace s) then whole [] else fault
-readSeats (suc n) s at = if laidOut s at then infront (readSeat s at) (readSeats n s (afterSeat s at)) else fault
+readSeats (suc n) s at = if laidOut s at then seatInfront (readSeat s at) (readSeats n s (afterSeat s at)) else fault
 
 -- 45, join's rules: the seats join one after the other, in sheet order
 abbrev pub ifSeated : Found → Load → Load
@@ -101,12 +101,12 @@ settled s =
 
 -- 41, 42 and 43, and then these
 unfoldable pub loading : List ℕ → Load
-loading s = if eqb (number (framing s)) 0 then settled s else refused (number (framing s))
+loading s = if eqb (verdictNumber (framing s)) 0 then settled s else refused (verdictNumber (framing s))
 
 -- loading's answer in the paper's numbers
-abbrev pub told : Loading → Load
-told l = record { number = number (l .verdict); core = l .core; hall = l .hall; names = l .names }
+abbrev pub loadingAnswer : Loading → Load
+loadingAnswer l = record { number = verdictNumber (l .verdict); core = l .core; hall = l .hall; names = l .names }
 
 -- what `loading::load` promises of its answer r
 abbrev pub Loads : List ℕ → Loading → Type 0
-Loads s r = told r ≡ loading s
+Loads s r = loadingAnswer r ≡ loading s

@@ -12,8 +12,8 @@ ghost use lib.ListN.{length};
 ghost use Rattle.hall.specs.Seats.{emptyHall};
 ghost use Rattle.identities.specs.Identity.{noNames};
 ghost use Rattle.sheet.specs.Layout.{seatHead, tailSize};
-ghost use Rattle.sheet.specs.Framing.{number};
-ghost use Rattle.loading.specs.Loading.{told, refused, loaded, whoIs, laidOut, readSeats, seatAll, settled, Loads};
+ghost use Rattle.sheet.specs.Framing.{verdictNumber};
+ghost use Rattle.loading.specs.Loading.{loadingAnswer, refused, loaded, whoIs, laidOut, readSeats, seatAll, settled, Loads};
 ghost use Rattle.loading.specs.Walk.{turnAt};
 
 // The verdict, and the desk: fresh, and empty with zeros for its settings where the sheet was refused.
@@ -35,7 +35,7 @@ pub struct Turn {
 // The two kinds of answer that loading gives.
 
 fn accept(hall: Hall, names: Names) -> Loading
-    ensures { λ r. ⌜ told r ≡ loaded hall names ⌝ }
+    ensures { λ r. ⌜ loadingAnswer r ≡ loaded hall names ⌝ }
 {
     let core = events::fresh_core();
     Loading {
@@ -47,7 +47,7 @@ fn accept(hall: Hall, names: Names) -> Loading
 }
 
 fn refuse(verdict: Verdict) -> Loading
-    ensures { λ r. ⌜ told r ≡ refused (number verdict) ⌝ }
+    ensures { λ r. ⌜ loadingAnswer r ≡ refused (verdictNumber verdict) ⌝ }
 {
     let settings = hall::settings_of(0, 0, 0, 0, 0, 0);
     let core = events::fresh_core();
@@ -123,7 +123,7 @@ fn take_next(s: &[u8], at: usize, hall: Hall, names: Names) -> Turn
 // 45: all seats, in sheet order, into an empty hall.
 fn take_seats(s: &[u8], settings: Settings, count: u8) -> Loading
     requires { ⌜ tailSize ≤ length (now s) ⌝ }
-    ensures { λ r. ⌜ told r ≡ seatAll (emptyHall settings) noNames (readSeats count (now (s .entry)) 0) ⌝ }
+    ensures { λ r. ⌜ loadingAnswer r ≡ seatAll (emptyHall settings) noNames (readSeats count (now (s .entry)) 0) ⌝ }
 {
     let mut hall = hall::empty_hall(settings);
     let mut names = identities::no_names();
@@ -151,7 +151,7 @@ fn take_seats(s: &[u8], settings: Settings, count: u8) -> Loading
 // 44 and 45, once the trailer is in order.
 fn settle(s: &[u8]) -> Loading
     requires { ⌜ tailSize ≤ length (now s) ⌝ }
-    ensures { λ r. ⌜ told r ≡ settled (now (s .entry)) ⌝ }
+    ensures { λ r. ⌜ loadingAnswer r ≡ settled (now (s .entry)) ⌝ }
 {
     let at = s.len() - sheet::TAIL_SIZE;
     let settings = seat_octets::settings_in(s, at);

@@ -2,7 +2,7 @@
 use mathlib.Core.List.{List, [], _∷_}
 use mathlib.Core.Path.{_≡_, refl, sym, ap, _∙_}
 use lib.ListN.{getD}
-use Rattle.message.specs.Answers.{Answer, refused, number}
+use Rattle.message.specs.Answers.{Answer, refused, refusalNumber}
 use Rattle.message.specs.declared.Refusal.{Refusal}
 use Rattle.message.specs.declared.Refusal.the-variants.{TooShort, TooLong, NotVersion2, Padded, NotApplication, WrongLength, NotNamed}
 use Rattle.message.specs.declared.Refusal.the-variants.{UnlistedType, PastTheEnd, AgainstTheTable, Missing, Unreadable, NoRoom}
@@ -13,7 +13,7 @@ refusals =
     TooShort ∷ TooShort ∷ TooLong ∷ NotVersion2 ∷ Padded ∷ NotApplication ∷ WrongLength ∷ NotNamed ∷ UnlistedType ∷ PastTheEnd
     ∷ AgainstTheTable ∷ Missing ∷ Unreadable ∷ NoRoom ∷ []
 
-named : (r : Refusal) → getD refusals (number r) TooShort ≡ r
+named : (r : Refusal) → getD refusals (refusalNumber r) TooShort ≡ r
 named TooShort = refl
 named TooLong = refl
 named NotVersion2 = refl
@@ -28,9 +28,9 @@ named Missing = refl
 named Unreadable = refl
 named NoRoom = refl
 
-pub number-one : (a b : Refusal) → number a ≡ number b → a ≡ b
+pub number-one : (a b : Refusal) → refusalNumber a ≡ refusalNumber b → a ≡ b
 number-one a b e = sym (named a) ∙ ap (λ n. getD refusals n TooShort) e ∙ named b
 
 -- the same of two answers that are refusals
-pub refusal-one : {A : Type 0} (a b : Refusal) → _≡_ {A = Answer A} (refused (number a)) (refused (number b)) → a ≡ b
+pub refusal-one : {A : Type 0} (a b : Refusal) → _≡_ {A = Answer A} (refused (refusalNumber a)) (refused (refusalNumber b)) → a ≡ b
 refusal-one a b e = number-one a b (cc)

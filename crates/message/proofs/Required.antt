@@ -7,9 +7,10 @@ use Rattle.words.specs.Choice.{if_then_else_}
 use Rattle.message.specs.Message.{required, hasAll}
 use Rattle.message.specs.Asked.{given}
 use Rattle.message.specs.declared.Has.{Has}
-use Rattle.message.specs.declared.Kind.{Kind}
-use Rattle.message.specs.declared.Kind.the-variants.{Request, Granted, Taken, Deny, Release, Idle, Revoke, QueuePositionRequest}
-use Rattle.message.specs.declared.Kind.the-variants.{QueuePositionInfo, Ack}
+use Rattle.message.specs.declared.MessageType.{MessageType}
+use Rattle.message.specs.declared.MessageType.the-variants.{Request, Granted, Taken, Deny, Release, Idle, Revoke}
+use Rattle.message.specs.declared.MessageType.the-variants.{QueuePositionRequest}
+use Rattle.message.specs.declared.MessageType.the-variants.{QueuePositionInfo, Ack}
 
 -- each answer is that of its field
 pub record Tells (h : Has) (f : ℕ → Bool) : Type 0 where
@@ -21,7 +22,7 @@ pub record Tells (h : Has) (f : ℕ → Bool) : Type 0 where
   pub source : h .source ≡ f 10
   pub «message_type» : h .«message_type» ≡ f 12
 
-pub required-by : (h : Has) (f : ℕ → Bool) → Tells h f → (k : Kind) → hasAll (given h) (required k) ≡ hasAll f (required k)
+pub required-by : (h : Has) (f : ℕ → Bool) → Tells h f → (k : MessageType) → hasAll (given h) (required k) ≡ hasAll f (required k)
 unfolding hasAll given if_then_else_
 required-by h f t Request = refl
 required-by h f t Granted = rw (t .duration)

@@ -9,13 +9,14 @@ use borrow.Author.Tests.{eqb-true, ltb-true, ltb-false}
 use Rattle.words.specs.Below.{below}
 use Rattle.words.specs.Choice.{by-test}
 use Rattle.message.specs.Types.{types, typed, typeNumber}
-use Rattle.message.specs.declared.Kind.{Kind}
-use Rattle.message.specs.declared.Kind.the-variants.{Request, Granted, Taken, Deny, Release, Idle, Revoke, QueuePositionRequest}
-use Rattle.message.specs.declared.Kind.the-variants.{QueuePositionInfo, Ack}
+use Rattle.message.specs.declared.MessageType.{MessageType}
+use Rattle.message.specs.declared.MessageType.the-variants.{Request, Granted, Taken, Deny, Release, Idle, Revoke}
+use Rattle.message.specs.declared.MessageType.the-variants.{QueuePositionRequest}
+use Rattle.message.specs.declared.MessageType.the-variants.{QueuePositionInfo, Ack}
 use Rattle.message.specs.declared.Typed.{Typed}
 use Rattle.message.specs.declared.Typed.the-variants.{Listed, Unlisted}
 
-pub type-small : (k : Kind) → typeNumber k ≤ 10
+pub type-small : (k : MessageType) → typeNumber k ≤ 10
 type-small Request = omega arith
 type-small Granted = omega arith
 type-small Taken = omega arith
@@ -28,7 +29,7 @@ type-small QueuePositionInfo = omega arith
 type-small Ack = omega arith
 
 -- the number names the type
-pub type-back : (k : Kind) → typed (typeNumber k) ≡ Listed k
+pub type-back : (k : MessageType) → typed (typeNumber k) ≡ Listed k
 type-back Request = refl
 type-back Granted = refl
 type-back Taken = refl
@@ -50,5 +51,5 @@ all-named n =
     by-test (ltb n 11) (λ t. below (λ i. named (typed i) i) 11 refl n (ltb-true n 11 t))
     (λ t. rw (List·getD-eq-default types Unlisted (ltb-false n 11 t)))
 
-pub type-named : (n : ℕ) (k : Kind) → typed n ≡ Listed k → typeNumber k ≡ n
+pub type-named : (n : ℕ) (k : MessageType) → typed n ≡ Listed k → typeNumber k ≡ n
 type-named n k e = eqb-true (typeNumber k) n (rw e at (all-named n))

@@ -9,17 +9,17 @@ pub data Answer (A : Type 0) : Type 0 where
   refused : ℕ → Answer A
   result : A → Answer A
 
-abbrev pub number : Refusal → ℕ
-number TooShort = 1
-number TooLong = 2
-number NotVersion2 = 3
-number Padded = 4
-number NotApplication = 5
-number WrongLength = 6
-number NotNamed = 7
-number UnlistedType = 8
-number PastTheEnd = 9
-number AgainstTheTable = 10
-number Missing = 11
-number Unreadable = 12
-number NoRoom = 13
+abbrev pub refusalNumber : Refusal → ℕ
+refusalNumber TooShort = 1
+refusalNumber TooLong = 2
+refusalNumber NotVersion2 = 3
+refusalNumber Padded = 4
+refusalNumber NotApplication = 5
+refusalNumber WrongLength = 6
+refusalNumber NotNamed = 7
+refusalNumber UnlistedType = 8
+refusalNumber PastTheEnd = 9
+refusalNumber AgainstTheTable = 10
+refusalNumber Missing = 11
+refusalNumber Unreadable = 12
+refusalNumber NoRoom = 13

@@ -9,9 +9,10 @@ use lib.Dec.{eqb, leb}
 use lib.ListN.{length}
 use Rattle.words.specs.Choice.{if_then_else_}
 use Rattle.octets.specs.Octets.{octets16, octets32, part}
-use Rattle.message.specs.declared.Kind.{Kind}
-use Rattle.message.specs.declared.Kind.the-variants.{Request, Granted, Taken, Deny, Release, Idle, Revoke, QueuePositionRequest}
-use Rattle.message.specs.declared.Kind.the-variants.{QueuePositionInfo, Ack}
+use Rattle.message.specs.declared.MessageType.{MessageType}
+use Rattle.message.specs.declared.MessageType.the-variants.{Request, Granted, Taken, Deny, Release, Idle, Revoke}
+use Rattle.message.specs.declared.MessageType.the-variants.{QueuePositionRequest}
+use Rattle.message.specs.declared.MessageType.the-variants.{QueuePositionInfo, Ack}
 use Rattle.message.specs.declared.Octet.{Octet}
 use Rattle.message.specs.declared.Word.{Word}
 use Rattle.message.specs.declared.Number.{Number}
@@ -29,7 +30,7 @@ abbrev pub field : ℕ → Option (List ℕ) → Field
 field i o = record { id = i; content = o }
 
 pub record Said : Type 0 where
-  pub kind : Kind
+  pub kind : MessageType
   pub ack : Bool
   pub ssrc : ℕ
   pub fields : List Field
@@ -100,7 +101,7 @@ unfoldable pub lies : Message → List ℕ → Bool
 lies m src = partLies src (m .granted) && partLies src (m .user) && phraseLies src (m .cause)
 
 -- "Required: Granted 1; Taken 4; Deny and Revoke 2; Idle 8; Queue Position Info 3; Ack 10 and 12"
-abbrev pub required : Kind → List ℕ
+abbrev pub required : MessageType → List ℕ
 required Request = []
 required Granted = 1 ∷ []
 required Taken = 4 ∷ []
@@ -112,14 +113,14 @@ required QueuePositionRequest = []
 required QueuePositionInfo = 3 ∷ []
 required Ack = 10 ∷ 12 ∷ []
 
-abbrev pub isGiven : Option (List ℕ) → Bool
-isGiven none = false
-isGiven (some xs) = true
+abbrev pub isThere : Option (List ℕ) → Bool
+isThere none = false
+isThere (some xs) = true
 
 -- whether the fields have this ID; whether all of these are given
 unfoldable pub has : List Field → ℕ → Bool
 has [] i = false
-has (f ∷ fs) i = if eqb i (f .id) then isGiven (f .content) else has fs i
+has (f ∷ fs) i = if eqb i (f .id) then isThere (f .content) else has fs i
 
 unfoldable pub hasAll : (ℕ → Bool) → List ℕ → Bool
 hasAll given [] = true

@@ -2,10 +2,11 @@
 use Prim.Native.Nat.{ℕ}
 use mathlib.Core.List.{List, [], _∷_}
 use lib.ListN.{getD}
-use Rattle.message.specs.declared.Kind.{Kind}
+use Rattle.message.specs.declared.MessageType.{MessageType}
 use Rattle.message.specs.declared.Typed.{Typed}
-use Rattle.message.specs.declared.Kind.the-variants.{Request, Granted, Taken, Deny, Release, Idle, Revoke, QueuePositionRequest}
-use Rattle.message.specs.declared.Kind.the-variants.{QueuePositionInfo, Ack}
+use Rattle.message.specs.declared.MessageType.the-variants.{Request, Granted, Taken, Deny, Release, Idle, Revoke}
+use Rattle.message.specs.declared.MessageType.the-variants.{QueuePositionRequest}
+use Rattle.message.specs.declared.MessageType.the-variants.{QueuePositionInfo, Ack}
 use Rattle.message.specs.declared.Typed.the-variants.{Listed, Unlisted}
 
 -- the types from 0 on; 7 and all from 11 on are not listed
@@ -18,7 +19,7 @@ abbrev pub typed : ℕ → Typed
 typed n = getD types n Unlisted
 
 -- the number that names a type
-abbrev pub typeNumber : Kind → ℕ
+abbrev pub typeNumber : MessageType → ℕ
 typeNumber Request = 0
 typeNumber Granted = 1
 typeNumber Taken = 2

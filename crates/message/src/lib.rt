@@ -5,12 +5,12 @@ ghost use Prim.Native.Nat.{ℕ, _≤_};
 ghost use Rattle.message.specs.Types.{typed, typeNumber};
 ghost use Rattle.message.specs.Table.{listed, atFault, against, padded, padding};
 ghost use lib.Dec.{ltb};
-ghost use Rattle.message.specs.Answers.{number};
-ghost use Rattle.message.specs.Message.{ofOctet, ofWord, ofCause, ofQueue, ofPart, isGiven, said, required, hasAll, complete};
+ghost use Rattle.message.specs.Answers.{refusalNumber};
+ghost use Rattle.message.specs.Message.{ofOctet, ofWord, ofCause, ofQueue, ofPart, isThere, said, required, hasAll, complete};
 ghost use Rattle.message.specs.Asked.{given};
 
 // The ten types.
-pub enum Kind {
+pub enum MessageType {
     Request,
     Granted,
     Taken,
@@ -25,7 +25,7 @@ pub enum Kind {
 
 // What the low four bits of a subtype name.
 pub enum Typed {
-    Listed(Kind),
+    Listed(MessageType),
     Unlisted,
 }
 
@@ -63,7 +63,7 @@ pub enum Cause {
 
 // A message as it is held: its fields in the table's order, identities and phrase as parts of a source that is lent beside it.
 pub struct Message {
-    pub kind: Kind,
+    pub kind: MessageType,
     pub ack: bool,
     pub ssrc: u32,
     pub priority: Octet,
@@ -82,7 +82,7 @@ pub struct Message {
     pub ssrc_field: Number,
 }
 
-// The refusals 1 to 13, in the paper's order; `number` of specs/ gives each its number.
+// The refusals 1 to 13, in the paper's order; `refusalNumber` of specs/ gives each its number.
 pub enum Refusal {
     TooShort,
     TooLong,
@@ -104,41 +104,41 @@ pub fn typed_by(low: u8) -> Typed
     ensures { λ r. ⌜ r ≡ typed low ⌝ }
 {
     match low {
-        0 => Typed::Listed(Kind::Request),
-        1 => Typed::Listed(Kind::Granted),
-        2 => Typed::Listed(Kind::Taken),
-        3 => Typed::Listed(Kind::Deny),
-        4 => Typed::Listed(Kind::Release),
-        5 => Typed::Listed(Kind::Idle),
-        6 => Typed::Listed(Kind::Revoke),
-        8 => Typed::Listed(Kind::QueuePositionRequest),
-        9 => Typed::Listed(Kind::QueuePositionInfo),
-        10 => Typed::Listed(Kind::Ack),
+        0 => Typed::Listed(MessageType::Request),
+        1 => Typed::Listed(MessageType::Granted),
+        2 => Typed::Listed(MessageType::Taken),
+        3 => Typed::Listed(MessageType::Deny),
+        4 => Typed::Listed(MessageType::Release),
+        5 => Typed::Listed(MessageType::Idle),
+        6 => Typed::Listed(MessageType::Revoke),
+        8 => Typed::Listed(MessageType::QueuePositionRequest),
+        9 => Typed::Listed(MessageType::QueuePositionInfo),
+        10 => Typed::Listed(MessageType::Ack),
         _ => Typed::Unlisted,
     }
 }
 
 // The number that names a type.
-pub fn type_number(kind: Kind) -> u8
+pub fn type_number(kind: MessageType) -> u8
     ensures { λ r. ⌜ r ≡ typeNumber kind ⌝ }
 {
     match kind {
-        Kind::Request => 0,
-        Kind::Granted => 1,
-        Kind::Taken => 2,
-        Kind::Deny => 3,
-        Kind::Release => 4,
-        Kind::Idle => 5,
-        Kind::Revoke => 6,
-        Kind::QueuePositionRequest => 8,
-        Kind::QueuePositionInfo => 9,
-        Kind::Ack => 10,
+        MessageType::Request => 0,
+        MessageType::Granted => 1,
+        MessageType::Taken => 2,
+        MessageType::Deny => 3,
+        MessageType::Release => 4,
+        MessageType::Idle => 5,
+        MessageType::Revoke => 6,
+        MessageType::QueuePositionRequest => 8,
+        MessageType::QueuePositionInfo => 9,
+        MessageType::Ack => 10,
     }
 }
 
 // The number of a refusal.
 pub fn refusal_number(r: Refusal) -> u8
-    ensures { λ n. ⌜ n ≡ number r ⌝ }
+    ensures { λ n. ⌜ n ≡ refusalNumber r ⌝ }
 {
     match r {
         Refusal::TooShort => 1,
@@ -248,31 +248,31 @@ pub fn padding(len: usize) -> usize
 }
 
 fn has_octet(o: Octet) -> bool
-    ensures { λ r. ⌜ r ≡ isGiven (ofOctet o) ⌝ }
+    ensures { λ r. ⌜ r ≡ isThere (ofOctet o) ⌝ }
 {
     if let Octet::Is(_) = o { true } else { false }
 }
 
 fn has_word(w: Word) -> bool
-    ensures { λ r. ⌜ r ≡ isGiven (ofWord w) ⌝ }
+    ensures { λ r. ⌜ r ≡ isThere (ofWord w) ⌝ }
 {
     if let Word::Is(_) = w { true } else { false }
 }
 
 fn has_queue(q: Queue) -> bool
-    ensures { λ r. ⌜ r ≡ isGiven (ofQueue q) ⌝ }
+    ensures { λ r. ⌜ r ≡ isThere (ofQueue q) ⌝ }
 {
     if let Queue::Is(_, _) = q { true } else { false }
 }
 
 fn has_part(p: Part) -> bool
-    ensures { λ r. ⌜ ((src : List ℕ) → r ≡ isGiven (ofPart src p)) ⌝ }
+    ensures { λ r. ⌜ ((src : List ℕ) → r ≡ isThere (ofPart src p)) ⌝ }
 {
     if let Part::At(_, _) = p { true } else { false }
 }
 
 fn has_cause(c: Cause) -> bool
-    ensures { λ r. ⌜ ((src : List ℕ) → r ≡ isGiven (ofCause src c)) ⌝ }
+    ensures { λ r. ⌜ ((src : List ℕ) → r ≡ isThere (ofCause src c)) ⌝ }
 {
     if let Cause::Is(_, _, _) = c {
         true
@@ -293,20 +293,20 @@ pub struct Has {
 }
 
 // Whether every field that a type requires is there: the one place that knows which these are.
-pub fn has_required(kind: Kind, has: Has) -> bool
+pub fn has_required(kind: MessageType, has: Has) -> bool
     ensures { λ r. ⌜ r ≡ hasAll (given has) (required kind) ⌝ }
 {
     match kind {
-        Kind::Request => true,
-        Kind::Granted => has.duration,
-        Kind::Taken => has.granted,
-        Kind::Deny => has.cause,
-        Kind::Release => true,
-        Kind::Idle => has.sequence,
-        Kind::Revoke => has.cause,
-        Kind::QueuePositionRequest => true,
-        Kind::QueuePositionInfo => has.queue,
-        Kind::Ack => has.source & has.message_type,
+        MessageType::Request => true,
+        MessageType::Granted => has.duration,
+        MessageType::Taken => has.granted,
+        MessageType::Deny => has.cause,
+        MessageType::Release => true,
+        MessageType::Idle => has.sequence,
+        MessageType::Revoke => has.cause,
+        MessageType::QueuePositionRequest => true,
+        MessageType::QueuePositionInfo => has.queue,
+        MessageType::Ack => has.source & has.message_type,
     }
 }
 

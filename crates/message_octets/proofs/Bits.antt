@@ -7,7 +7,7 @@ use mathlib.Core.List.{[]}
 use mathlib.Core.Path.{_≡_, refl, sym, ap, _∙_}
 use Rattle.words.specs.Choice.{if_then_else_, one as flag}
 use lib.Dec.{eqb}
-use Rattle.message.specs.Message.{fieldsOf, isGiven, ofOctet, ofWord, ofNumber, ofQueue, ofPart, ofCause, has}
+use Rattle.message.specs.Message.{fieldsOf, isThere, ofOctet, ofWord, ofNumber, ofQueue, ofPart, ofCause, has}
 use Rattle.message.specs.declared.Message.{Message}
 use Rattle.message_octets.specs.Held.{bits, worthIf, which, isSet}
 
@@ -37,20 +37,20 @@ in-order b₀ b₁ b₂ b₃ b₄ b₅ b₆ b₈ b₁₀ b₁₂ b₁₃ b₁₄
     ) (omega arith)
 
 pub which-is : (m : Message) →
-    worthIf (isGiven (ofOctet (m .priority))) 1 + worthIf (isGiven (ofWord (m .duration))) 2
-    + worthIf (isGiven (ofCause [] (m .cause))) 4 + worthIf (isGiven (ofQueue (m .queue))) 8
-    + worthIf (isGiven (ofPart [] (m .granted))) 16 + worthIf (isGiven (ofWord (m .permission))) 32
-    + worthIf (isGiven (ofPart [] (m .user))) 64 + worthIf (isGiven (ofWord (m .sequence))) 256
-    + worthIf (isGiven (ofWord (m .source))) 1024 + worthIf (isGiven (ofOctet (m .«message_type»))) 4096
-    + worthIf (isGiven (ofWord (m .indicator))) 8192 + worthIf (isGiven (ofNumber (m .«ssrc_field»))) 16384
+    worthIf (isThere (ofOctet (m .priority))) 1 + worthIf (isThere (ofWord (m .duration))) 2
+    + worthIf (isThere (ofCause [] (m .cause))) 4 + worthIf (isThere (ofQueue (m .queue))) 8
+    + worthIf (isThere (ofPart [] (m .granted))) 16 + worthIf (isThere (ofWord (m .permission))) 32
+    + worthIf (isThere (ofPart [] (m .user))) 64 + worthIf (isThere (ofWord (m .sequence))) 256
+    + worthIf (isThere (ofWord (m .source))) 1024 + worthIf (isThere (ofOctet (m .«message_type»))) 4096
+    + worthIf (isThere (ofWord (m .indicator))) 8192 + worthIf (isThere (ofNumber (m .«ssrc_field»))) 16384
     ≡ which m
 unfolding which has if_then_else_
 which-is m =
-    in-order (isGiven (ofOctet (m .priority))) (isGiven (ofWord (m .duration))) (isGiven (ofCause [] (m .cause)))
-    (isGiven (ofQueue (m .queue))) (isGiven (ofPart [] (m .granted))) (isGiven (ofWord (m .permission))) (isGiven (ofPart [] (m .user)))
-    (isGiven (ofWord (m .sequence))) (isGiven (ofWord (m .source))) (isGiven (ofOctet (m .«message_type»)))
-    (isGiven (ofWord (m .indicator)))
-    (isGiven (ofNumber (m .«ssrc_field»)))
+    in-order (isThere (ofOctet (m .priority))) (isThere (ofWord (m .duration))) (isThere (ofCause [] (m .cause)))
+    (isThere (ofQueue (m .queue))) (isThere (ofPart [] (m .granted))) (isThere (ofWord (m .permission))) (isThere (ofPart [] (m .user)))
+    (isThere (ofWord (m .sequence))) (isThere (ofWord (m .source))) (isThere (ofOctet (m .«message_type»)))
+    (isThere (ofWord (m .indicator)))
+    (isThere (ofNumber (m .«ssrc_field»)))
 
 -- the lowest bit, and what is left above it
 lowest : (b : Bool) (n : ℕ) → (flag b + 2 * n) % 2 ≡ flag b

@@ -17,8 +17,8 @@ use Rattle.words.specs.Choice.{one as flag}
 use Rattle.octets.specs.Octets.{be32, over, part, octets16, octets32}
 use Rattle.octets.proofs.Over.{length-over, head-length, over-two, over-before}
 use Rattle.message.specs.Types.{typeNumber}
-use Rattle.message.specs.Message.{ofOctet, ofWord, ofNumber, ofQueue, ofCause, isGiven}
-use Rattle.message.specs.declared.Kind.{Kind}
+use Rattle.message.specs.Message.{ofOctet, ofWord, ofNumber, ofQueue, ofCause, isThere}
+use Rattle.message.specs.declared.MessageType.{MessageType}
 use Rattle.message.specs.declared.Message.{Message}
 use Rattle.header.specs.Header.{ssrcPlace, ackBit}
 use Rattle.reading.specs.Reading.{messageAt}
@@ -121,11 +121,11 @@ unfolding firstWorth
 first-most m =
     omega (
       arith,
-      worth-most (isGiven (ofOctet (m .priority))) 1,
-      worth-most (isGiven (ofOctet (m .«message_type»))) 4096,
-      worth-most (isGiven (ofWord (m .duration))) 2,
-      worth-most (isGiven (ofCause [] (m .cause))) 4,
-      worth-most (isGiven (ofQueue (m .queue))) 8,
+      worth-most (isThere (ofOctet (m .priority))) 1,
+      worth-most (isThere (ofOctet (m .«message_type»))) 4096,
+      worth-most (isThere (ofWord (m .duration))) 2,
+      worth-most (isThere (ofCause [] (m .cause))) 4,
+      worth-most (isThere (ofQueue (m .queue))) 8,
     )
 
 pub next-most : (has : ℕ) (m : Message) → nextWorth has m ≤ has + 25888
@@ -133,20 +133,20 @@ unfolding nextWorth
 next-most has m =
     omega (
       arith,
-      worth-most (isGiven (ofWord (m .permission))) 32,
-      worth-most (isGiven (ofWord (m .sequence))) 256,
-      worth-most (isGiven (ofWord (m .source))) 1024,
-      worth-most (isGiven (ofWord (m .indicator))) 8192,
-      worth-most (isGiven (ofNumber (m .«ssrc_field»))) 16384,
+      worth-most (isThere (ofWord (m .permission))) 32,
+      worth-most (isThere (ofWord (m .sequence))) 256,
+      worth-most (isThere (ofWord (m .source))) 1024,
+      worth-most (isThere (ofWord (m .indicator))) 8192,
+      worth-most (isThere (ofNumber (m .«ssrc_field»))) 16384,
     )
 
-head-is : (k : Kind) (s : List ℕ) (start : ℕ → ℕ) → headBy k s (which (messageAt k s start)) ≡ headOctets (messageAt k s start)
+head-is : (k : MessageType) (s : List ℕ) (start : ℕ → ℕ) → headBy k s (which (messageAt k s start)) ≡ headOctets (messageAt k s start)
 unfolding headBy headOctets messageAt
 head-is k s start =
     ap (λ (n : ℕ). typeNumber k ∷ n ∷ octets16 (which (messageAt k s start)) ++ octets32 (be32 s ssrcPlace))
     (sym (flag-bit (ackBit s) (omega arith)))
 
-pub held-by-rows : (k : Kind) (s : List ℕ) (start : ℕ → ℕ) (room zeros first next parts all : List ℕ) → messageSize ≤ length room
+pub held-by-rows : (k : MessageType) (s : List ℕ) (start : ℕ → ℕ) (room zeros first next parts all : List ℕ) → messageSize ≤ length room
     → zeros ≡ over room 0 (replicate messageSize 0) → Lays zeros priorityPlace (firstOctets (messageAt k s start)) first
     → Lays first permissionPlace (nextOctets (messageAt k s start)) next → Lays next phrasePlace (partOctets (messageAt k s start)) parts
     → all ≡ over parts 0 (headBy k s (which (messageAt k s start))) → all ≡ over room 0 (heldOctets (messageAt k s start))

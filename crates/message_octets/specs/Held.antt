@@ -5,13 +5,13 @@ use Prim.Native.Nat.{ℕ, zero, suc, _+_, _*_, _/_, _%_, _^_}
 use mathlib.Core.Bool.{Bool, true, false, not, _||_}
 use mathlib.Core.List.{List, [], _∷_, _++_}
 use lib.Dec.{ltb, eqb}
-use lib.ListN.{length, getD}
+use lib.ListN.{length}
 use Rattle.message.specs.Message.{countOf as countIn, fieldsOf, has}
 use Rattle.words.specs.Choice.{if_then_else_, one as flag}
-use Rattle.octets.specs.Octets.{be16, be32, octets16, octets32, over}
+use Rattle.octets.specs.Octets.{be16, be32, octets16, octets32, over, nthOctet}
 use Rattle.message.specs.Types.{typed, typeNumber}
 use Rattle.message.specs.Answers.{Answer, refused, result}
-use Rattle.message.specs.declared.Kind.{Kind}
+use Rattle.message.specs.declared.MessageType.{MessageType}
 use Rattle.message.specs.declared.Typed.{Typed}
 use Rattle.message.specs.declared.Typed.the-variants.{Listed, Unlisted}
 use Rattle.message.specs.declared.Octet.{Octet}
@@ -61,21 +61,21 @@ abbrev pub positionIn : Queue → ℕ
 positionIn Queue.Absent = 0
 positionIn (Queue.Is position priority) = position
 
-abbrev pub priorityIn : Queue → ℕ
-priorityIn Queue.Absent = 0
-priorityIn (Queue.Is position priority) = priority
+abbrev pub queuePriorityIn : Queue → ℕ
+queuePriorityIn Queue.Absent = 0
+queuePriorityIn (Queue.Is position priority) = priority
 
-abbrev pub causeIn : Cause → ℕ
-causeIn Cause.Absent = 0
-causeIn (Cause.Is cause from count) = cause
+abbrev pub rejectCauseIn : Cause → ℕ
+rejectCauseIn Cause.Absent = 0
+rejectCauseIn (Cause.Is cause from count) = cause
 
 abbrev pub phraseIn : Cause → Part
 phraseIn Cause.Absent = Part.Absent
 phraseIn (Cause.Is cause from count) = Part.At from count
 
-abbrev pub startIn : Part → ℕ
-startIn Part.Absent = 0
-startIn (Part.At from count) = from
+abbrev pub partStart : Part → ℕ
+partStart Part.Absent = 0
+partStart (Part.At from count) = from
 
 -- 0 to 7: type, Ack bit, which fields it has, SSRC
 unfoldable pub headOctets : Message → List ℕ
@@ -85,7 +85,7 @@ headOctets m = typeNumber (m .kind) ∷ flag (m .ack) ∷ octets16 (which m) ++ 
 unfoldable pub firstOctets : Message → List ℕ
 firstOctets m =
     octetIn (m .priority) ∷ octetIn (m .«message_type») ∷ octets16 (wordIn (m .duration))
-    ++ octets16 (causeIn (m .cause)) ++ (positionIn (m .queue) ∷ priorityIn (m .queue) ∷ [])
+    ++ octets16 (rejectCauseIn (m .cause)) ++ (positionIn (m .queue) ∷ queuePriorityIn (m .queue) ∷ [])
 
 -- 16 to 27: Permission to Request, Message Sequence-Number, Source, Floor Indicator, SSRC
 unfoldable pub nextOctets : Message → List ℕ
@@ -95,7 +95,7 @@ nextOctets m =
 
 -- where a part starts in the source and how many octets it has, each in 16 bits
 unfoldable pub placeOctets : Part → List ℕ
-placeOctets p = octets16 (startIn p % 65536) ++ octets16 (countIn p % 65536)
+placeOctets p = octets16 (partStart p % 65536) ++ octets16 (countIn p % 65536)
 
 -- 28 to 39: the phrase, Granted Party's Identity, User ID
 unfoldable pub partOctets : Message → List ℕ
@@ -143,26 +143,23 @@ abbrev pub causeIf : Bool → ℕ → ℕ → ℕ → Cause
 causeIf true cause from count = Cause.Is cause from count
 causeIf false cause from count = Cause.Absent
 
-abbrev pub octetAt : List ℕ → ℕ → ℕ
-octetAt s at = getD s at 0
-
 -- the message of this type, by the bits of the fields that it has
-unfoldable pub messageWith : Kind → List ℕ → ℕ → Message
+unfoldable pub messageWith : MessageType → List ℕ → ℕ → Message
 messageWith k s fields =
     record {
       kind = k;
-      ack = eqb (octetAt s ackPlace) 1;
+      ack = eqb (nthOctet s ackPlace) 1;
       ssrc = be32 s ssrcPlace;
-      priority = octetIf (isSet fields 0) (octetAt s priorityPlace);
+      priority = octetIf (isSet fields 0) (nthOctet s priorityPlace);
       duration = wordIf (isSet fields 1) (be16 s durationPlace);
       cause = causeIf (isSet fields 2) (be16 s causePlace) (be16 s phrasePlace) (be16 s (phrasePlace + 2));
-      queue = queueIf (isSet fields 3) (octetAt s queuePlace) (octetAt s (queuePlace + 1));
+      queue = queueIf (isSet fields 3) (nthOctet s queuePlace) (nthOctet s (queuePlace + 1));
       granted = partIf (isSet fields 4) (be16 s grantedPlace) (be16 s (grantedPlace + 2));
       permission = wordIf (isSet fields 5) (be16 s permissionPlace);
       user = partIf (isSet fields 6) (be16 s userPlace) (be16 s (userPlace + 2));
       sequence = wordIf (isSet fields 8) (be16 s sequencePlace);
       source = wordIf (isSet fields 10) (be16 s sourcePlace);
-      «message_type» = octetIf (isSet fields 12) (octetAt s messageTypePlace);
+      «message_type» = octetIf (isSet fields 12) (nthOctet s messageTypePlace);
       indicator = wordIf (isSet fields 13) (be16 s indicatorPlace);
       «ssrc_field» = numberIf (isSet fields 14) (be32 s ssrcFieldPlace);
     }
@@ -171,24 +168,24 @@ messageWith k s fields =
 unfoldable pub unlistedField : ℕ → Bool
 unlistedField fields = isSet fields 7 || isSet fields 9 || isSet fields 11 || isSet fields 15
 
-abbrev pub ofType : Typed → List ℕ → Held
-ofType Unlisted s = Nothing
-ofType (Listed k) s = Is (messageWith k s (be16 s fieldsPlace))
+abbrev pub heldOfType : Typed → List ℕ → Held
+heldOfType Unlisted s = Nothing
+heldOfType (Listed k) s = Is (messageWith k s (be16 s fieldsPlace))
 
 -- octets that are not 40, an Ack bit above 1, an unlisted field and an unlisted type hold no message
 unfoldable pub heldAt : List ℕ → Held
 heldAt s =
     if not (eqb (length s) messageSize) then Nothing
-    else if ltb 1 (octetAt s ackPlace) then Nothing
+    else if ltb 1 (nthOctet s ackPlace) then Nothing
     else if unlistedField (be16 s fieldsPlace) then Nothing
-    else ofType (typed (octetAt s typePlace)) s
+    else heldOfType (typed (nthOctet s typePlace)) s
 
 -- WHAT IS ANSWERED
 
 -- a packet read into a room: the refusal's number, 1 to 11; then 13 if the room is shorter than 40 octets; else 0
-abbrev pub answered : Answer Message → ℕ → ℕ
-answered (refused n) room = n
-answered (result m) room = if ltb room messageSize then 13 else 0
+abbrev pub readNumber : Answer Message → ℕ → ℕ
+readNumber (refused n) room = n
+readNumber (result m) room = if ltb room messageSize then 13 else 0
 
 -- "A refusal returns its number only and writes nothing; a result leaves the room past its end untouched" (document 01, "What is answered
 -- to packets")
@@ -197,7 +194,7 @@ keeping (refused n) room = room
 keeping (result m) room = if ltb (length room) messageSize then room else over room 0 (heldOctets m)
 
 unfoldable pub readHeld : List ℕ → ℕ → ℕ
-readHeld packet room = answered (reading packet) room
+readHeld packet room = readNumber (reading packet) room
 
 unfoldable pub keptIn : List ℕ → List ℕ → List ℕ
 keptIn packet room = keeping (reading packet) room

@@ -6,12 +6,12 @@ use mathlib.Core.Path.{_≡_}
 use lib.ListN.{length, replicate}
 use Rattle.octets.specs.Octets.{be32, octets16, octets32, part, over}
 use Rattle.message.specs.Types.{typeNumber}
-use Rattle.message.specs.Message.{ofOctet, ofWord, ofNumber, ofQueue, ofPart, ofCause, isGiven}
-use Rattle.message.specs.declared.Kind.{Kind}
+use Rattle.message.specs.Message.{ofOctet, ofWord, ofNumber, ofQueue, ofPart, ofCause, isThere}
+use Rattle.message.specs.declared.MessageType.{MessageType}
 use Rattle.message.specs.declared.Queue.{Queue}
 use Rattle.message.specs.declared.Message.{Message}
 use Rattle.header.specs.Header.{ssrcPlace, ackBit}
-use Rattle.message_octets.specs.Held.{worthIf, positionIn, priorityIn}
+use Rattle.message_octets.specs.Held.{worthIf, positionIn, queuePriorityIn}
 use Rattle.message_octets.specs.Places.{messageSize}
 
 -- a room for a message that has zeros from a place on
@@ -25,26 +25,26 @@ pub record Lays (room : List ℕ) (at : ℕ) (octets after : List ℕ) : Type 0 
   pub blank : Blank after (at + length octets)
 
 abbrev pub queueOctets : Queue → List ℕ
-queueOctets q = positionIn q ∷ priorityIn q ∷ []
+queueOctets q = positionIn q ∷ queuePriorityIn q ∷ []
 
 -- what the bits of the fields are worth whose places stand in a row, with those before them
 unfoldable pub firstWorth : Message → ℕ
 firstWorth m =
-    0 + worthIf (isGiven (ofOctet (m .priority))) 1 + worthIf (isGiven (ofOctet (m .«message_type»))) 4096
-    + worthIf (isGiven (ofWord (m .duration))) 2
-    + worthIf (isGiven (ofCause [] (m .cause))) 4
-    + worthIf (isGiven (ofQueue (m .queue))) 8
+    0 + worthIf (isThere (ofOctet (m .priority))) 1 + worthIf (isThere (ofOctet (m .«message_type»))) 4096
+    + worthIf (isThere (ofWord (m .duration))) 2
+    + worthIf (isThere (ofCause [] (m .cause))) 4
+    + worthIf (isThere (ofQueue (m .queue))) 8
 
 unfoldable pub nextWorth : ℕ → Message → ℕ
 nextWorth has m =
-    has + worthIf (isGiven (ofWord (m .permission))) 32 + worthIf (isGiven (ofWord (m .sequence))) 256
-    + worthIf (isGiven (ofWord (m .source))) 1024
-    + worthIf (isGiven (ofWord (m .indicator))) 8192
-    + worthIf (isGiven (ofNumber (m .«ssrc_field»))) 16384
+    has + worthIf (isThere (ofWord (m .permission))) 32 + worthIf (isThere (ofWord (m .sequence))) 256
+    + worthIf (isThere (ofWord (m .source))) 1024
+    + worthIf (isThere (ofWord (m .indicator))) 8192
+    + worthIf (isThere (ofNumber (m .«ssrc_field»))) 16384
 
 unfoldable pub partsWorth : ℕ → Message → ℕ
-partsWorth has m = has + worthIf (isGiven (ofPart [] (m .granted))) 16 + worthIf (isGiven (ofPart [] (m .user))) 64
+partsWorth has m = has + worthIf (isThere (ofPart [] (m .granted))) 16 + worthIf (isThere (ofPart [] (m .user))) 64
 
 -- type, Ack bit and SSRC out of the packet's header, and the fields' bits
-unfoldable pub headBy : Kind → List ℕ → ℕ → List ℕ
+unfoldable pub headBy : MessageType → List ℕ → ℕ → List ℕ
 headBy k s fields = typeNumber k ∷ ackBit s ∷ octets16 fields ++ octets32 (be32 s ssrcPlace)

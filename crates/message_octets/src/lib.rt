@@ -1,19 +1,19 @@
 // A message as 40 octets (docs/FORMS.md, "A message"), for C programs: its identities and its phrase are places in a source that is lent
 // beside it. A packet is read into such octets here; crate message_writing writes a message out of them.
 use header::Opening;
-use message::Kind;
+use message::MessageType;
 ghost use mathlib.Core.Path.{_≡_};
 ghost use mathlib.Core.List.{[], _∷_};
 ghost use Prim.Native.Nat.{_+_, _-_, _≤_, _<_};
 ghost use lib.ListN.{length, getD};
 ghost use Rattle.octets.specs.Octets.{octets16, octets32, over};
-ghost use Rattle.message.specs.Message.{ofOctet, ofWord, ofNumber, ofQueue, ofPart, ofCause, isGiven};
+ghost use Rattle.message.specs.Message.{ofOctet, ofWord, ofNumber, ofQueue, ofPart, ofCause, isThere};
 ghost use Rattle.message.specs.declared.Part.the-variants as part;
 ghost use Rattle.reading.specs.Reading as reads;
 ghost use Rattle.walk.specs.Walk.{Reach};
 ghost use Rattle.header.specs.Header.{headerSize};
 ghost use Rattle.message_octets.specs.Places.{priorityPlace, permissionPlace, phrasePlace, messageSize};
-ghost use Rattle.message_octets.specs.Held.{worthIf, octetIn, wordIn, numberIn, causeIn, phraseIn, firstOctets, nextOctets, placeOctets, partOctets, heldOctets, readHeld, keptIn};
+ghost use Rattle.message_octets.specs.Held.{worthIf, octetIn, wordIn, numberIn, rejectCauseIn, phraseIn, firstOctets, nextOctets, placeOctets, partOctets, heldOctets, readHeld, keptIn};
 ghost use Rattle.message_octets.specs.Laying.{Blank, Lays, queueOctets, firstWorth, nextWorth, partsWorth, headBy};
 
 // Where each thing stands in the octets of a message, and how many there are: in a field's place its number, in a part's place where it starts
@@ -86,7 +86,7 @@ fn lay_octet(room: &mut [u8], to: usize, s: &[u8], at: usize, has: u16, worth: u
     requires { ⌜ Blank (now room) to × (to + 1 ≤ messageSize) ⌝ }
     requires { ⌜ (at + 2 ≤ length (now s)) × (has + worth < 65536) ⌝ }
     ensures { λ _. ⌜ Lays (now (room .entry)) to (octetIn (reads.octetAt (now (s .entry)) at) ∷ []) (now (room .exit)) ⌝ }
-    ensures { λ r. ⌜ r ≡ has + worthIf (isGiven (ofOctet (reads.octetAt (now (s .entry)) at))) worth ⌝ }
+    ensures { λ r. ⌜ r ≡ has + worthIf (isThere (ofOctet (reads.octetAt (now (s .entry)) at))) worth ⌝ }
     ensures { λ r. ⌜ r ≤ has + worth ⌝ }
 {
     if at == 0 {
@@ -100,7 +100,7 @@ fn lay_word(room: &mut [u8], to: usize, s: &[u8], at: usize, has: u16, worth: u1
     requires { ⌜ Blank (now room) to × (to + 2 ≤ messageSize) ⌝ }
     requires { ⌜ (at + 2 ≤ length (now s)) × (has + worth < 65536) ⌝ }
     ensures { λ _. ⌜ Lays (now (room .entry)) to (octets16 (wordIn (reads.wordAt (now (s .entry)) at))) (now (room .exit)) ⌝ }
-    ensures { λ r. ⌜ r ≡ has + worthIf (isGiven (ofWord (reads.wordAt (now (s .entry)) at))) worth ⌝ }
+    ensures { λ r. ⌜ r ≡ has + worthIf (isThere (ofWord (reads.wordAt (now (s .entry)) at))) worth ⌝ }
     ensures { λ r. ⌜ r ≤ has + worth ⌝ }
 {
     if at == 0 {
@@ -114,7 +114,7 @@ fn lay_number(room: &mut [u8], to: usize, s: &[u8], at: usize, has: u16, worth: 
     requires { ⌜ Blank (now room) to × (to + 4 ≤ messageSize) ⌝ }
     requires { ⌜ (at + 4 ≤ length (now s)) × (has + worth < 65536) ⌝ }
     ensures { λ _. ⌜ Lays (now (room .entry)) to (octets32 (numberIn (reads.numberAt (now (s .entry)) at))) (now (room .exit)) ⌝ }
-    ensures { λ r. ⌜ r ≡ has + worthIf (isGiven (ofNumber (reads.numberAt (now (s .entry)) at))) worth ⌝ }
+    ensures { λ r. ⌜ r ≡ has + worthIf (isThere (ofNumber (reads.numberAt (now (s .entry)) at))) worth ⌝ }
     ensures { λ r. ⌜ r ≤ has + worth ⌝ }
 {
     if at == 0 {
@@ -128,7 +128,7 @@ fn lay_queue(room: &mut [u8], to: usize, s: &[u8], at: usize, has: u16, worth: u
     requires { ⌜ Blank (now room) to × (to + 2 ≤ messageSize) ⌝ }
     requires { ⌜ (at + 2 ≤ length (now s)) × (has + worth < 65536) ⌝ }
     ensures { λ _. ⌜ Lays (now (room .entry)) to (queueOctets (reads.queueAt (now (s .entry)) at)) (now (room .exit)) ⌝ }
-    ensures { λ r. ⌜ r ≡ has + worthIf (isGiven (ofQueue (reads.queueAt (now (s .entry)) at))) worth ⌝ }
+    ensures { λ r. ⌜ r ≡ has + worthIf (isThere (ofQueue (reads.queueAt (now (s .entry)) at))) worth ⌝ }
     ensures { λ r. ⌜ r ≤ has + worth ⌝ }
 {
     if at == 0 {
@@ -141,8 +141,8 @@ fn lay_queue(room: &mut [u8], to: usize, s: &[u8], at: usize, has: u16, worth: u
 fn lay_cause(room: &mut [u8], to: usize, s: &[u8], at: usize, has: u16, worth: u16) -> u16
     requires { ⌜ Blank (now room) to × (to + 2 ≤ messageSize) ⌝ }
     requires { ⌜ (at + 2 ≤ length (now s)) × (has + worth < 65536) ⌝ }
-    ensures { λ _. ⌜ Lays (now (room .entry)) to (octets16 (causeIn (reads.causeAt (now (s .entry)) at))) (now (room .exit)) ⌝ }
-    ensures { λ r. ⌜ r ≡ has + worthIf (isGiven (ofCause [] (reads.causeAt (now (s .entry)) at))) worth ⌝ }
+    ensures { λ _. ⌜ Lays (now (room .entry)) to (octets16 (rejectCauseIn (reads.causeAt (now (s .entry)) at))) (now (room .exit)) ⌝ }
+    ensures { λ r. ⌜ r ≡ has + worthIf (isThere (ofCause [] (reads.causeAt (now (s .entry)) at))) worth ⌝ }
     ensures { λ r. ⌜ r ≤ has + worth ⌝ }
 {
     if at == 0 {
@@ -165,7 +165,7 @@ fn lay_part(room: &mut [u8], to: usize, s: &[u8], at: usize, has: u16, worth: u1
     requires { ⌜ Blank (now room) to × (to + 4 ≤ messageSize) ⌝ }
     requires { ⌜ (at + 2 ≤ length (now s)) × (has + worth < 65536) ⌝ }
     ensures { λ _. ⌜ Lays (now (room .entry)) to (placeOctets (reads.partAt (now (s .entry)) at)) (now (room .exit)) ⌝ }
-    ensures { λ r. ⌜ r ≡ has + worthIf (isGiven (ofPart [] (reads.partAt (now (s .entry)) at))) worth ⌝ }
+    ensures { λ r. ⌜ r ≡ has + worthIf (isThere (ofPart [] (reads.partAt (now (s .entry)) at))) worth ⌝ }
     ensures { λ r. ⌜ r ≤ has + worth ⌝ }
 {
     if at == 0 {
@@ -191,8 +191,8 @@ fn lay_phrase(room: &mut [u8], to: usize, s: &[u8], at: usize)
 fn lay_first(room: &mut [u8], s: &[u8], starts: &[usize; 16]) -> u16
     requires { ⌜ Blank (now room) priorityPlace ⌝ }
     requires { ⌜ Reach (now s) (λ i. getD (now starts) i 0) ⌝ }
-    ensures { λ _. ⌜ ((k : Kind) → Lays (now (room .entry)) priorityPlace (firstOctets (reads.messageAt k (now (s .entry)) (λ i. getD (now (starts .entry)) i 0))) (now (room .exit))) ⌝ }
-    ensures { λ r. ⌜ ((k : Kind) → r ≡ firstWorth (reads.messageAt k (now (s .entry)) (λ i. getD (now (starts .entry)) i 0))) ⌝ }
+    ensures { λ _. ⌜ ((k : MessageType) → Lays (now (room .entry)) priorityPlace (firstOctets (reads.messageAt k (now (s .entry)) (λ i. getD (now (starts .entry)) i 0))) (now (room .exit))) ⌝ }
+    ensures { λ r. ⌜ ((k : MessageType) → r ≡ firstWorth (reads.messageAt k (now (s .entry)) (λ i. getD (now (starts .entry)) i 0))) ⌝ }
 {
     let has = lay_octet(room, PRIORITY, s, starts[0], 0, HAS_PRIORITY);
     let has = lay_octet(room, MESSAGE_TYPE, s, starts[12], has, HAS_MESSAGE_TYPE);
@@ -205,8 +205,8 @@ fn lay_next(room: &mut [u8], s: &[u8], starts: &[usize; 16], has: u16) -> u16
     requires { ⌜ Blank (now room) permissionPlace ⌝ }
     requires { ⌜ Reach (now s) (λ i. getD (now starts) i 0) ⌝ }
     requires { ⌜ has + 25888 < 65536 ⌝ }
-    ensures { λ _. ⌜ ((k : Kind) → Lays (now (room .entry)) permissionPlace (nextOctets (reads.messageAt k (now (s .entry)) (λ i. getD (now (starts .entry)) i 0))) (now (room .exit))) ⌝ }
-    ensures { λ r. ⌜ ((k : Kind) → r ≡ nextWorth has (reads.messageAt k (now (s .entry)) (λ i. getD (now (starts .entry)) i 0))) ⌝ }
+    ensures { λ _. ⌜ ((k : MessageType) → Lays (now (room .entry)) permissionPlace (nextOctets (reads.messageAt k (now (s .entry)) (λ i. getD (now (starts .entry)) i 0))) (now (room .exit))) ⌝ }
+    ensures { λ r. ⌜ ((k : MessageType) → r ≡ nextWorth has (reads.messageAt k (now (s .entry)) (λ i. getD (now (starts .entry)) i 0))) ⌝ }
 {
     let has = lay_word(room, PERMISSION, s, starts[5], has, HAS_PERMISSION);
     let has = lay_word(room, SEQUENCE, s, starts[8], has, HAS_SEQUENCE);
@@ -219,15 +219,15 @@ fn lay_parts(room: &mut [u8], s: &[u8], starts: &[usize; 16], has: u16) -> u16
     requires { ⌜ Blank (now room) phrasePlace ⌝ }
     requires { ⌜ Reach (now s) (λ i. getD (now starts) i 0) ⌝ }
     requires { ⌜ has + 80 < 65536 ⌝ }
-    ensures { λ _. ⌜ ((k : Kind) → Lays (now (room .entry)) phrasePlace (partOctets (reads.messageAt k (now (s .entry)) (λ i. getD (now (starts .entry)) i 0))) (now (room .exit))) ⌝ }
-    ensures { λ r. ⌜ ((k : Kind) → r ≡ partsWorth has (reads.messageAt k (now (s .entry)) (λ i. getD (now (starts .entry)) i 0))) ⌝ }
+    ensures { λ _. ⌜ ((k : MessageType) → Lays (now (room .entry)) phrasePlace (partOctets (reads.messageAt k (now (s .entry)) (λ i. getD (now (starts .entry)) i 0))) (now (room .exit))) ⌝ }
+    ensures { λ r. ⌜ ((k : MessageType) → r ≡ partsWorth has (reads.messageAt k (now (s .entry)) (λ i. getD (now (starts .entry)) i 0))) ⌝ }
 {
     lay_phrase(room, PHRASE, s, starts[2]);
     let has = lay_part(room, GRANTED, s, starts[4], has, HAS_GRANTED);
     lay_part(room, USER, s, starts[6], has, HAS_USER)
 }
 
-fn put_head(room: &mut [u8], s: &[u8], kind: Kind, fields: u16)
+fn put_head(room: &mut [u8], s: &[u8], kind: MessageType, fields: u16)
     requires { ⌜ (headerSize ≤ length (now s)) × (messageSize ≤ length (now room)) ⌝ }
     ensures { λ _. ⌜ now (room .exit) ≡ over (now (room .entry)) 0 (headBy kind (now (s .entry)) fields) ⌝ }
 {
@@ -237,7 +237,7 @@ fn put_head(room: &mut [u8], s: &[u8], kind: Kind, fields: u16)
 }
 
 // Writes a packet's message into the first 40 octets of a room.
-fn put_held(room: &mut [u8], s: &[u8], kind: Kind, starts: &[usize; 16])
+fn put_held(room: &mut [u8], s: &[u8], kind: MessageType, starts: &[usize; 16])
     requires { ⌜ messageSize ≤ length (now room) ⌝ }
     requires { ⌜ Reach (now s) (λ i. getD (now starts) i 0) ⌝ }
     ensures { λ _. ⌜ now (room .exit) ≡ over (now (room .entry)) 0 (heldOctets (reads.messageAt kind (now (s .entry)) (λ i. getD (now (starts .entry)) i 0))) ⌝ }

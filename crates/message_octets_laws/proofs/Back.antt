@@ -5,7 +5,7 @@ use native.Mathlib.Omega.{arith}
 use mathlib.Core.Bool.{Bool, true, false}
 use mathlib.Core.List.{[]}
 use mathlib.Core.Path.{_≡_, refl, ap, _∙_}
-use Rattle.message.specs.Message.{countOf as countIn, isGiven, ofOctet, ofWord, ofNumber, ofQueue, ofPart, ofCause, has}
+use Rattle.message.specs.Message.{countOf as countIn, isThere, ofOctet, ofWord, ofNumber, ofQueue, ofPart, ofCause, has}
 use Rattle.words.specs.Choice.{if_then_else_, one as flag}
 use Rattle.octets.specs.Octets.{be16, be32, octets16, octets32}
 use Rattle.octets.proofs.Numbers.{be16-of, be32-back}
@@ -18,7 +18,8 @@ use Rattle.message.specs.declared.Queue.{Queue}
 use Rattle.message.specs.declared.Part.{Part}
 use Rattle.message.specs.declared.Cause.{Cause}
 use Rattle.message.specs.declared.Message.{Message}
-use Rattle.message_octets.specs.Held.{Is, which, octetIn, wordIn, numberIn, positionIn, priorityIn, causeIn, phraseIn, startIn, headOctets}
+use Rattle.message_octets.specs.Held.{Is, which, octetIn, wordIn, numberIn, positionIn, queuePriorityIn, rejectCauseIn, phraseIn, partStart}
+use Rattle.message_octets.specs.Held.{headOctets}
 use Rattle.message_octets.specs.Held.{firstOctets, nextOctets, placeOctets, partOctets, heldOctets, octetIf, wordIf, numberIf, queueIf}
 use Rattle.message_octets.specs.Held.{partIf, causeIf, messageWith, unlistedField, heldAt}
 use Rattle.message_octets_laws.specs.Laws.{Near, HeldBack}
@@ -35,27 +36,27 @@ flag-small true = omega arith
 flag-small false = omega arith
 
 -- each field, from its bit and what it holds
-octet-back : (o : Octet) (b : Bool) (n : ℕ) → b ≡ isGiven (ofOctet o) → n ≡ octetIn o → octetIf b n ≡ o
+octet-back : (o : Octet) (b : Bool) (n : ℕ) → b ≡ isThere (ofOctet o) → n ≡ octetIn o → octetIf b n ≡ o
 octet-back Octet.Absent b n e q = rw e
 octet-back (Octet.Is k) b n e q = rw (e, q)
 
-word-back : (w : Word) (b : Bool) (n : ℕ) → b ≡ isGiven (ofWord w) → n ≡ wordIn w → wordIf b n ≡ w
+word-back : (w : Word) (b : Bool) (n : ℕ) → b ≡ isThere (ofWord w) → n ≡ wordIn w → wordIf b n ≡ w
 word-back Word.Absent b n e q = rw e
 word-back (Word.Is k) b n e q = rw (e, q)
 
-number-back : (w : Number) (b : Bool) (n : ℕ) → b ≡ isGiven (ofNumber w) → n ≡ numberIn w → numberIf b n ≡ w
+number-back : (w : Number) (b : Bool) (n : ℕ) → b ≡ isThere (ofNumber w) → n ≡ numberIn w → numberIf b n ≡ w
 number-back Number.Absent b n e q = rw e
 number-back (Number.Is k) b n e q = rw (e, q)
 
-queue-back : (w : Queue) (b : Bool) → b ≡ isGiven (ofQueue w) → queueIf b (positionIn w) (priorityIn w) ≡ w
+queue-back : (w : Queue) (b : Bool) → b ≡ isThere (ofQueue w) → queueIf b (positionIn w) (queuePriorityIn w) ≡ w
 queue-back Queue.Absent b e = rw e
 queue-back (Queue.Is position priority) b e = rw e
 
-part-back : (p : Part) (b : Bool) (n k : ℕ) → b ≡ isGiven (ofPart [] p) → n ≡ startIn p → k ≡ countIn p → partIf b n k ≡ p
+part-back : (p : Part) (b : Bool) (n k : ℕ) → b ≡ isThere (ofPart [] p) → n ≡ partStart p → k ≡ countIn p → partIf b n k ≡ p
 part-back Part.Absent b n k e q r = rw e
 part-back (Part.At from count) b n k e q r = rw (e, q, r)
 
-cause-back : (c : Cause) (b : Bool) (m n k : ℕ) → b ≡ isGiven (ofCause [] c) → m ≡ causeIn c → n ≡ startIn (phraseIn c)
+cause-back : (c : Cause) (b : Bool) (m n k : ℕ) → b ≡ isThere (ofCause [] c) → m ≡ rejectCauseIn c → n ≡ partStart (phraseIn c)
     → k ≡ countIn (phraseIn c) → causeIf b m n k ≡ c
 cause-back Cause.Absent b m n k e o q r = rw e
 cause-back (Cause.Is cause from count) b m n k e o q r = rw (e, o, q, r)
@@ -75,16 +76,16 @@ module _ (m : Message) where
     priority = octet-back (m .priority) _ _ (is-set m 0 (omega arith)) refl i;
     duration = word-back (m .duration) _ _ (is-set m 1 (omega arith)) (be16-of (wordIn (m .duration))) i;
     cause =
-        cause-back (m .cause) _ _ _ _ (is-set m 2 (omega arith)) (be16-of (causeIn (m .cause)))
-        (place-there (startIn (phraseIn (m .cause))) (near .phrase .start))
+        cause-back (m .cause) _ _ _ _ (is-set m 2 (omega arith)) (be16-of (rejectCauseIn (m .cause)))
+        (place-there (partStart (phraseIn (m .cause))) (near .phrase .start))
         (place-there (countIn (phraseIn (m .cause))) (near .phrase .count)) i;
     queue = queue-back (m .queue) _ (is-set m 3 (omega arith)) i;
     granted =
-        part-back (m .granted) _ _ _ (is-set m 4 (omega arith)) (place-there (startIn (m .granted)) (near .granted .start))
+        part-back (m .granted) _ _ _ (is-set m 4 (omega arith)) (place-there (partStart (m .granted)) (near .granted .start))
         (place-there (countIn (m .granted)) (near .granted .count)) i;
     permission = word-back (m .permission) _ _ (is-set m 5 (omega arith)) (be16-of (wordIn (m .permission))) i;
     user =
-        part-back (m .user) _ _ _ (is-set m 6 (omega arith)) (place-there (startIn (m .user)) (near .user .start))
+        part-back (m .user) _ _ _ (is-set m 6 (omega arith)) (place-there (partStart (m .user)) (near .user .start))
         (place-there (countIn (m .user)) (near .user .count)) i;
     sequence = word-back (m .sequence) _ _ (is-set m 8 (omega arith)) (be16-of (wordIn (m .sequence))) i;
     source = word-back (m .source) _ _ (is-set m 10 (omega arith)) (be16-of (wordIn (m .source))) i;

@@ -11,19 +11,19 @@ use Rattle.words.specs.Choice.{if_then_else_, by-test, if-yes}
 use Rattle.message.specs.Answers.{Answer, refused, result}
 use Rattle.message.specs.Types.{typed}
 use Rattle.message.specs.Message.{said, complete}
-use Rattle.message.specs.declared.Kind.{Kind}
+use Rattle.message.specs.declared.MessageType.{MessageType}
 use Rattle.message.specs.declared.Typed.{Typed}
 use Rattle.message.specs.declared.Typed.the-variants.{Listed, Unlisted}
 use Rattle.message.specs.declared.Message.{Message}
-use Rattle.field.specs.declared.Found.{Found}
-use Rattle.field.specs.declared.Step.{Step}
-use Rattle.field.specs.declared.Step.the-variants.{Field, End, PastTheEnd, AgainstTheTable}
+use Rattle.field.specs.declared.FieldFound.{FieldFound}
+use Rattle.field.specs.declared.FieldStep.{FieldStep}
+use Rattle.field.specs.declared.FieldStep.the-variants.{Field, End, PastTheEnd, AgainstTheTable}
 use Rattle.field.specs.Fields.{Fields, whole, fault, infront, stepAt, stepThen, fieldsFrom, fieldsIn}
 use Rattle.walk.specs.Starts.{startOf}
 use Rattle.header.specs.Header.{headerSize, typeBits}
 use Rattle.header.specs.Opening.{ofType, opening}
 use Rattle.reading.specs.Reading.{messageAt, judged, opened, reading}
-use Rattle.message_octets.specs.Held.{answered, readHeld}
+use Rattle.message_octets.specs.Held.{readNumber, readHeld}
 use Rattle.message_octets_laws.specs.Laws.{WasRead, ReadIf0}
 use Rattle.message_octets.specs.Places.{messageSize}
 
@@ -37,11 +37,11 @@ abbrev Ended : Fields → Type 0
 Ended (whole fs) = Unit {0}
 Ended (fault n) = 1 ≤ n
 
-front-ended : (f : Found) (fs : Fields) → Ended fs → Ended (infront f fs)
+front-ended : (f : FieldFound) (fs : Fields) → Ended fs → Ended (infront f fs)
 front-ended f (whole fs) e = tt
 front-ended f (fault n) e = e
 
-step-ended : (t : Step) (rest : ℕ → Fields) → ((p : ℕ) → Ended (rest p)) → Ended (stepThen t rest)
+step-ended : (t : FieldStep) (rest : ℕ → Fields) → ((p : ℕ) → Ended (rest p)) → Ended (stepThen t rest)
 step-ended End rest e = tt
 step-ended PastTheEnd rest e = omega arith
 step-ended AgainstTheTable rest e = omega arith
@@ -57,7 +57,7 @@ unfolding if_then_else_
 choice true a b p q = p
 choice false a b p q = q
 
-judged-numbered : (k : Kind) (s : List ℕ) (fs : Fields) → Ended fs → Numbered (judged k s fs)
+judged-numbered : (k : MessageType) (s : List ℕ) (fs : Fields) → Ended fs → Numbered (judged k s fs)
 judged-numbered k s (fault n) e = e
 judged-numbered k s (whole fs) e =
     choice (complete (said (messageAt k s (startOf fs)) s)) (result (messageAt k s (startOf fs))) (refused 11) tt (omega arith)
@@ -76,7 +76,7 @@ opening-numbered s =
     (choice _ (refused 5) _ (some 4)
     (choice _ (refused 6) _ (some 5) (choice _ (refused 7) _ (some 6) (type-numbered (typed (typeBits s)))))))))
 
-opened-numbered : (s : List ℕ) (a : Answer Kind) → Numbered a → Numbered (opened a s)
+opened-numbered : (s : List ℕ) (a : Answer MessageType) → Numbered a → Numbered (opened a s)
 unfolding fieldsIn
 opened-numbered s (refused n) p = p
 opened-numbered s (result k) p = judged-numbered k s (fieldsIn s) (ended (length s) s headerSize)
@@ -85,7 +85,7 @@ numbered : (s : List ℕ) → Numbered (reading s)
 unfolding reading
 numbered s = opened-numbered s (opening s) (opening-numbered s)
 
-done : (a : Answer Message) (packet : List ℕ) (room : ℕ) → reading packet ≡ a → Numbered a → answered a room ≡ 0 → WasRead packet room
+done : (a : Answer Message) (packet : List ℕ) (room : ℕ) → reading packet ≡ a → Numbered a → readNumber a room ≡ 0 → WasRead packet room
 done (refused n) packet room e p z = absurd (omega arith)
 done (result m) packet room e p z =
     by-test (ltb room messageSize)

@@ -7,7 +7,7 @@ use mathlib.Core.Path.{_≡_, refl}
 use Rattle.words.specs.Choice.{if_then_else_}
 use Rattle.octets.specs.Octets.{be16, be32, octets16, octets32}
 use Rattle.message.specs.Message.{has}
-use Rattle.message.specs.declared.Kind.the-variants.{Taken}
+use Rattle.message.specs.declared.MessageType.the-variants.{Taken}
 use Rattle.message.specs.declared.Octet.{Octet}
 use Rattle.message.specs.declared.Word.{Word}
 use Rattle.message.specs.declared.Number.{Number}

@@ -11,12 +11,12 @@ use Rattle.message.specs.declared.Part.{Part}
 use Rattle.message.specs.declared.Message.{Message}
 use Rattle.reading.specs.Reading.{reading}
 use Rattle.writing.specs.Wire.{wire}
-use Rattle.message_octets.specs.Held.{Is, phraseIn, startIn, heldOctets, heldAt, readHeld, keptIn, writingOf, writtenOf}
+use Rattle.message_octets.specs.Held.{Is, phraseIn, partStart, heldOctets, heldAt, readHeld, keptIn, writingOf, writtenOf}
 use Rattle.message_octets.specs.Places.{messageSize}
 
 -- A message whose places are below 65,536 is held in octets that hold it, and no other (proofs/Back).
 pub record NearPart (p : Part) : Type 0 where
-  pub start : startIn p < 65536
+  pub start : partStart p < 65536
   pub count : countIn p < 65536
 
 pub record Near (m : Message) : Type 0 where

@@ -2,27 +2,27 @@
 use Prim.Native.Nat.{ℕ, _+_, _*_}
 use mathlib.Core.Bool.{Bool, true, false}
 use mathlib.Core.List.{List}
-use Rattle.octets.specs.Octets.{be16}
+use Rattle.octets.specs.Octets.{be16, nthOctet}
 use Rattle.message.specs.Types.{typed}
 use Rattle.message.specs.Message.{required, hasAll}
-use Rattle.message.specs.declared.Kind.{Kind}
+use Rattle.message.specs.declared.MessageType.{MessageType}
 use Rattle.message.specs.declared.Typed.{Typed}
 use Rattle.message.specs.declared.Typed.the-variants.{Listed, Unlisted}
 use Rattle.message.specs.declared.Part.{Part}
 use Rattle.message.specs.declared.Cause.{Cause}
 use Rattle.message.specs.declared.Message.{Message}
 use Rattle.readable.specs.Readable.{readable}
-use Rattle.message_octets.specs.Held.{Held, Is, Nothing, octetAt, bitOf, isSet, partIf, causeIf, messageWith}
+use Rattle.message_octets.specs.Held.{Held, Is, Nothing, bitOf, isSet, partIf, causeIf, messageWith}
 use Rattle.message_octets.specs.Places.{typePlace, causePlace, phrasePlace}
 
 -- the type that an octet names, and any where it names none
-abbrev pub kindOf : Typed → Kind
-kindOf Unlisted = Kind.Request
+abbrev pub kindOf : Typed → MessageType
+kindOf Unlisted = MessageType.Request
 kindOf (Listed k) = k
 
 -- the message that octets hold, if they hold one, by the bits of the fields that it has
 unfoldable pub messageIn : List ℕ → ℕ → Message
-messageIn s fields = messageWith (kindOf (typed (octetAt s typePlace))) s fields
+messageIn s fields = messageWith (kindOf (typed (nthOctet s typePlace))) s fields
 
 -- what the octets have of an identity, by the worth of its bit and its place, and of the cause
 abbrev pub partAt : List ℕ → ℕ → ℕ → ℕ → Part

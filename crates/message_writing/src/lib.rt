@@ -2,7 +2,7 @@
 // and its phrase out of a source that is lent beside them. No message is made on the way.
 use message::Cause;
 use message::Has;
-use message::Kind;
+use message::MessageType;
 use message::Number;
 use message::Octet;
 use message::Part;
@@ -124,7 +124,7 @@ fn has_unlisted(fields: u16) -> bool
 }
 
 // Whether the bits of all fields that a type requires are set.
-fn has_all(kind: Kind, fields: u16) -> bool
+fn has_all(kind: MessageType, fields: u16) -> bool
     ensures { λ r. ⌜ r ≡ hasAll (isSet fields) (required kind) ⌝ }
 {
     let has = Has {

@@ -9,6 +9,10 @@ use lib.ListN.{length, getD, take, drop}
 abbrev pub Octets : List ℕ → Type 0
 Octets s = (i : ℕ) → getD s i 0 < 256
 
+-- the octet at a place; zero past the end
+abbrev pub nthOctet : List ℕ → ℕ → ℕ
+nthOctet s at = getD s at 0
+
 -- the number that two octets, and four, stand for from a place on
 unfoldable pub be16 : List ℕ → ℕ → ℕ
 be16 s at = 256 * getD s at 0 + getD s (at + 1) 0

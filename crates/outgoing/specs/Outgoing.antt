@@ -5,8 +5,8 @@ use mathlib.Core.Bool.{false}
 use mathlib.Core.List.{List}
 use lib.ListN.{length}
 use Rattle.message.specs.Answers.{Answer, result}
-use Rattle.message.specs.declared.Kind.{Kind}
-use Rattle.message.specs.declared.Kind.the-variants as type
+use Rattle.message.specs.declared.MessageType.{MessageType}
+use Rattle.message.specs.declared.MessageType.the-variants as type
 use Rattle.message.specs.declared.Octet.{Octet}
 use Rattle.message.specs.declared.Word.{Word}
 use Rattle.message.specs.declared.Number.{Number}
@@ -17,13 +17,13 @@ use Rattle.message.specs.declared.Message.{Message}
 use Rattle.writing.specs.Writing.{writing, written, Tells}
 use Rattle.writing.specs.declared.Writing.{Writing}
 use Rattle.hall.specs.declared.Settings.{Settings}
-use Rattle.steps.specs.declared.Kind.{Kind as Say}
+use Rattle.steps.specs.declared.Kind.{Kind}
 use Rattle.steps.specs.declared.Kind.the-variants as say
 use Rattle.outgoing.specs.declared.Outgoing.{Outgoing}
 use Rattle.outgoing.specs.declared.Outgoing.the-variants.{Packet, Silence}
 
 -- a message with no field but those that are named
-abbrev pub carrying : Kind → ℕ → Octet → Word → Cause → Queue → Part → Word → Word → Message
+abbrev pub carrying : MessageType → ℕ → Octet → Word → Cause → Queue → Part → Word → Word → Message
 carrying k ssrc priority duration cause queue granted permission sequence =
     record {
       kind = k;
@@ -45,7 +45,7 @@ carrying k ssrc priority duration cause queue granted permission sequence =
 
 -- Granted: its priority and the Duration. Taken: the identity of the seat, which is the whole lent source, permission 1, the sequence
 -- number. Deny and Revoke: their cause. Idle: the sequence number. Info: place and priority.
-unfoldable pub outgoing : Settings → Say → ℕ → Outgoing
+unfoldable pub outgoing : Settings → Kind → ℕ → Outgoing
 outgoing s say.Nothing n = Silence
 outgoing s (say.Granted p) n =
     Packet (carrying type.Granted (s .ssrc) (Octet.Is p) (Word.Is (s .duration)) Cause.Absent Queue.Absent Part.Absent Word.Absent
@@ -71,7 +71,7 @@ abbrev pub sent : Outgoing → List ℕ → List ℕ → List ℕ
 sent Silence identity room = room
 sent (Packet m) identity room = written m identity room
 
-abbrev pub Sends : Settings → Say → List ℕ → List ℕ → Writing → List ℕ → Type 0
+abbrev pub Sends : Settings → Kind → List ℕ → List ℕ → Writing → List ℕ → Type 0
 Sends s k identity room answer after =
     Tells (sending (outgoing s k (length identity)) identity (length room)) (sent (outgoing s k (length identity)) identity room) answer
     after

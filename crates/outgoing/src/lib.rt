@@ -10,7 +10,7 @@ use message::Word;
 use steps::Kind;
 use writing::Writing;
 ghost use mathlib.Core.Path.{_≡_};
-ghost use Rattle.message.specs.declared.Kind.the-variants as type;
+ghost use Rattle.message.specs.declared.MessageType.the-variants as type;
 ghost use Rattle.message.specs.declared.Octet.{Octet};
 ghost use Rattle.message.specs.declared.Word.{Word};
 ghost use Rattle.message.specs.declared.Cause.{Cause};
@@ -36,7 +36,7 @@ pub struct Load {
 }
 
 // A message with no other field, no phrase and no Ack bit.
-fn carry(kind: message::Kind, ssrc: u32, load: Load) -> Message
+fn carry(kind: message::MessageType, ssrc: u32, load: Load) -> Message
     ensures { λ r.
         ⌜ r ≡ carrying kind ssrc (load .priority) (load .duration) (load .cause) (load .queue) (load .granted) (load .permission) (load .sequence) ⌝ }
 {
@@ -78,7 +78,7 @@ fn granted(ssrc: u32, duration: u16, priority: u8) -> Message
         permission: Word::Absent,
         sequence: Word::Absent,
     };
-    carry(message::Kind::Granted, ssrc, load)
+    carry(message::MessageType::Granted, ssrc, load)
 }
 
 fn taken(ssrc: u32, count: usize, sequence: u16) -> Message
@@ -93,7 +93,7 @@ fn taken(ssrc: u32, count: usize, sequence: u16) -> Message
         permission: Word::Is(1),
         sequence: Word::Is(sequence),
     };
-    carry(message::Kind::Taken, ssrc, load)
+    carry(message::MessageType::Taken, ssrc, load)
 }
 
 fn idle(ssrc: u32, sequence: u16) -> Message
@@ -108,7 +108,7 @@ fn idle(ssrc: u32, sequence: u16) -> Message
         permission: Word::Absent,
         sequence: Word::Is(sequence),
     };
-    carry(message::Kind::Idle, ssrc, load)
+    carry(message::MessageType::Idle, ssrc, load)
 }
 
 fn info(ssrc: u32, place: u8, priority: u8) -> Message
@@ -123,11 +123,11 @@ fn info(ssrc: u32, place: u8, priority: u8) -> Message
         permission: Word::Absent,
         sequence: Word::Absent,
     };
-    carry(message::Kind::QueuePositionInfo, ssrc, load)
+    carry(message::MessageType::QueuePositionInfo, ssrc, load)
 }
 
 // Deny and Revoke have a cause and no phrase.
-fn caused(kind: message::Kind, ssrc: u32, why: u16) -> Message
+fn caused(kind: message::MessageType, ssrc: u32, why: u16) -> Message
     ensures { λ r. ⌜ r ≡ carrying kind ssrc Octet.Absent Word.Absent (Cause.Is why 0 0) Queue.Absent Part.Absent Word.Absent Word.Absent ⌝ }
 {
     let load = Load {
@@ -152,9 +152,9 @@ fn to_send(settings: Settings, kind: Kind, count: usize) -> Outgoing
         Kind::Nothing => Outgoing::Silence,
         Kind::Granted(priority) => Outgoing::Packet(granted(ssrc, duration, priority)),
         Kind::Taken(_, sequence) => Outgoing::Packet(taken(ssrc, count, sequence)),
-        Kind::Deny(why) => Outgoing::Packet(caused(message::Kind::Deny, ssrc, why)),
+        Kind::Deny(why) => Outgoing::Packet(caused(message::MessageType::Deny, ssrc, why)),
         Kind::Idle(sequence) => Outgoing::Packet(idle(ssrc, sequence)),
-        Kind::Revoke(why) => Outgoing::Packet(caused(message::Kind::Revoke, ssrc, why)),
+        Kind::Revoke(why) => Outgoing::Packet(caused(message::MessageType::Revoke, ssrc, why)),
         Kind::Info(place, priority) => Outgoing::Packet(info(ssrc, place, priority)),
     }
 }

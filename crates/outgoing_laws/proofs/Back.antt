@@ -13,8 +13,8 @@ use Rattle.octets.specs.Octets.{be16, octets16, part}
 use Rattle.octets.proofs.Over.{length-part}
 use Rattle.message.specs.Table.{rowIn, against, atFault}
 use Rattle.message.specs.Message.{said, has, hasAll, complete, lies}
-use Rattle.message.specs.declared.Kind.{Kind}
-use Rattle.message.specs.declared.Kind.the-variants as type
+use Rattle.message.specs.declared.MessageType.{MessageType}
+use Rattle.message.specs.declared.MessageType.the-variants as type
 use Rattle.message.specs.declared.Octet.{Octet}
 use Rattle.message.specs.declared.Word.{Word}
 use Rattle.message.specs.declared.Queue.{Queue}
@@ -24,7 +24,7 @@ use Rattle.message.specs.declared.Message.{Message}
 use Rattle.readable.specs.Readable.{allFit, readable}
 use Rattle.packet_laws.proofs.Back.{read-back}
 use Rattle.hall.specs.declared.Settings.{Settings}
-use Rattle.steps.specs.declared.Kind.{Kind as Say}
+use Rattle.steps.specs.declared.Kind.{Kind}
 use Rattle.steps.specs.declared.Kind.the-variants as say
 use Rattle.outgoing.specs.declared.Outgoing.{Outgoing}
 use Rattle.outgoing.specs.declared.Outgoing.the-variants.{Packet, Silence}
@@ -40,7 +40,7 @@ whole-length : (identity : List ℕ) → length (part identity 0 (length identit
 whole-length identity = length-part identity 0 (length identity) (omega arith)
 
 -- a cause with no phrase
-abbrev causing : Kind → ℕ → ℕ → Message
+abbrev causing : MessageType → ℕ → ℕ → Message
 causing k ssrc why = carrying k ssrc Octet.Absent Word.Absent (Cause.Is why 0 0) Queue.Absent Part.Absent Word.Absent Word.Absent
 
 caused : (ssrc why : ℕ) (identity : List ℕ) →
@@ -48,7 +48,7 @@ caused : (ssrc why : ℕ) (identity : List ℕ) →
 unfolding readable lies allFit complete said has hasAll rowIn against atFault be16 octets16 part if_then_else_
 caused ssrc why identity = (rw (le-leb 0 (length identity) zero-le), rw (le-leb 0 (length identity) zero-le))
 
-accepts : (s : Settings) (k : Say) (identity : List ℕ) → 1 ≤ length identity → length identity ≤ 62 →
+accepts : (s : Settings) (k : Kind) (identity : List ℕ) → 1 ≤ length identity → length identity ≤ 62 →
     Accepted identity (outgoing s k (length identity))
 unfolding outgoing readable lies allFit complete said has hasAll rowIn against atFault be16 octets16 if_then_else_
 accepts s say.Nothing identity h k = tt

@@ -10,7 +10,7 @@ use Rattle.writing.specs.Wire.{wire}
 use Rattle.readable.specs.Readable.{readable}
 use Rattle.packet_laws.specs.Again.{ReadsAs}
 use Rattle.hall.specs.declared.Settings.{Settings}
-use Rattle.steps.specs.declared.Kind.{Kind as Say}
+use Rattle.steps.specs.declared.Kind.{Kind}
 use Rattle.outgoing.specs.declared.Outgoing.the-variants.{Packet}
 use Rattle.outgoing.specs.Outgoing.{outgoing}
 
@@ -22,5 +22,5 @@ pub record ReadsBack (m : Message) (identity : List ℕ) : Type 0 where
 
 abbrev pub OutgoingReadsBack : Type 0
 OutgoingReadsBack =
-    (s : Settings) (k : Say) (identity : List ℕ) (m : Message) → 1 ≤ length identity → length identity ≤ 62
+    (s : Settings) (k : Kind) (identity : List ℕ) (m : Message) → 1 ≤ length identity → length identity ≤ 62
     → outgoing s k (length identity) ≡ Packet m → ReadsBack m identity

@@ -3,12 +3,12 @@
 use Prim.Native.Nat.{ℕ}
 use mathlib.Core.List.{List}
 use Rattle.message.specs.Answers.{Answer, refused, result}
-use Rattle.message.specs.declared.Kind.{Kind}
-use Rattle.message.specs.declared.Kind.the-variants.{Request, Granted, Taken, Deny, Release, Idle, Revoke, QueuePositionRequest}
-use Rattle.message.specs.declared.Kind.the-variants.{QueuePositionInfo, Ack}
+use Rattle.message.specs.declared.MessageType.{MessageType}
+use Rattle.message.specs.declared.MessageType.the-variants.{Request, Granted, Taken, Deny, Release, Idle, Revoke, QueuePositionRequest}
+use Rattle.message.specs.declared.MessageType.the-variants.{QueuePositionInfo, Ack}
 use Rattle.message.specs.declared.Octet.{Octet}
 use Rattle.message.specs.declared.Message.{Message}
-use Rattle.message.specs.Answers as refusal
+use Rattle.message.specs.Answers.{refusalNumber}
 use Rattle.reading.specs.Reading.{reading}
 use Rattle.header.specs.declared.Opening.{Opening}
 use Rattle.header.specs.declared.Opening.the-variants.{Of, Refused}
@@ -24,12 +24,12 @@ use Rattle.events.specs.declared.Event.{Event}
 use Rattle.events.specs.declared.Event.the-variants as event
 
 -- the priority that a request asks for; that the field is missing is a case of its own
-abbrev pub askedIn : Octet → Asked
-askedIn Octet.Absent = NoField
-askedIn (Octet.Is p) = Priority p
+abbrev pub priorityAsked : Octet → Asked
+priorityAsked Octet.Absent = NoField
+priorityAsked (Octet.Is p) = Priority p
 
 -- the event that a message is, by its type: the seat is named by the header's SSRC, and the Ack bit is passed over
-abbrev pub eventBy : Kind → ℕ → Asked → Event
+abbrev pub eventBy : MessageType → ℕ → Asked → Event
 eventBy Request ssrc asked = event.Request ssrc asked
 eventBy Release ssrc asked = event.Release ssrc
 eventBy QueuePositionRequest ssrc asked = event.Position ssrc
@@ -42,7 +42,7 @@ eventBy QueuePositionInfo ssrc asked = event.Other ssrc
 eventBy Ack ssrc asked = event.Other ssrc
 
 unfoldable pub eventOf : Message → Event
-eventOf m = eventBy (m .kind) (m .ssrc) (askedIn (m .priority))
+eventOf m = eventBy (m .kind) (m .ssrc) (priorityAsked (m .priority))
 
 -- a packet that was not read has its refusal's number for an answer, and nothing changes
 abbrev pub byReading : Core → Hall → Answer Message → Step
@@ -55,4 +55,4 @@ hears c h packet = byReading c h (reading packet)
 -- the paper's number of a refusal that the reader judged by; 0 where it read
 abbrev pub refusalIn : Opening → ℕ
 refusalIn (Of k) = 0
-refusalIn (Refused r) = refusal.number r
+refusalIn (Refused r) = refusalNumber r

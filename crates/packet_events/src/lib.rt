@@ -4,7 +4,7 @@ use hall::Answer;
 use hall::Asked;
 use hall::Hall;
 use header::Opening;
-use message::Kind;
+use message::MessageType;
 use steps::Core;
 use steps::Step;
 ghost use mathlib.Core.Path.{_≡_};
@@ -12,11 +12,11 @@ ghost use Prim.Native.Nat.{_+_, _≤_};
 ghost use lib.ListN.{length};
 ghost use Rattle.octets.specs.Octets.{be32};
 ghost use Rattle.reading.specs.Reading.{octetAt};
-ghost use Rattle.packet_events.specs.PacketEvents.{askedIn, eventBy, refusalIn, hears};
+ghost use Rattle.packet_events.specs.PacketEvents.{priorityAsked, eventBy, refusalIn, hears};
 
 fn asked_at(packet: &[u8], at: usize) -> Asked
     requires { ⌜ at + 2 ≤ length (now packet) ⌝ }
-    ensures { λ r. ⌜ r ≡ askedIn (octetAt (now (packet .entry)) at) ⌝ }
+    ensures { λ r. ⌜ r ≡ priorityAsked (octetAt (now (packet .entry)) at) ⌝ }
 {
     if at == 0 {
         return Asked::NoField;
@@ -25,28 +25,28 @@ fn asked_at(packet: &[u8], at: usize) -> Asked
 }
 
 // The event that a message is: Request, Release and Queue Position Request have a rule, all others get 23 if they are heard at all.
-fn event_by(kind: Kind, ssrc: u32, asked: Asked) -> Event
+fn event_by(kind: MessageType, ssrc: u32, asked: Asked) -> Event
     ensures { λ r. ⌜ r ≡ eventBy kind ssrc asked ⌝ }
 {
     match kind {
-        Kind::Request => Event::Request(ssrc, asked),
-        Kind::Release => Event::Release(ssrc),
-        Kind::QueuePositionRequest => Event::Position(ssrc),
-        Kind::Granted => Event::Other(ssrc),
-        Kind::Taken => Event::Other(ssrc),
-        Kind::Deny => Event::Other(ssrc),
-        Kind::Idle => Event::Other(ssrc),
-        Kind::Revoke => Event::Other(ssrc),
-        Kind::QueuePositionInfo => Event::Other(ssrc),
-        Kind::Ack => Event::Other(ssrc),
+        MessageType::Request => Event::Request(ssrc, asked),
+        MessageType::Release => Event::Release(ssrc),
+        MessageType::QueuePositionRequest => Event::Position(ssrc),
+        MessageType::Granted => Event::Other(ssrc),
+        MessageType::Taken => Event::Other(ssrc),
+        MessageType::Deny => Event::Other(ssrc),
+        MessageType::Idle => Event::Other(ssrc),
+        MessageType::Revoke => Event::Other(ssrc),
+        MessageType::QueuePositionInfo => Event::Other(ssrc),
+        MessageType::Ack => Event::Other(ssrc),
     }
 }
 
 // The event that a packet is which was read: of its message only the type, the SSRC and the priority asked for make it.
-fn event_at(packet: &[u8], kind: Kind, priority: usize) -> Event
+fn event_at(packet: &[u8], kind: MessageType, priority: usize) -> Event
     requires { ⌜ 8 ≤ length (now packet) ⌝ }
     requires { ⌜ priority + 2 ≤ length (now packet) ⌝ }
-    ensures { λ r. ⌜ r ≡ eventBy kind (be32 (now (packet .entry)) 4) (askedIn (octetAt (now (packet .entry)) priority)) ⌝ }
+    ensures { λ r. ⌜ r ≡ eventBy kind (be32 (now (packet .entry)) 4) (priorityAsked (octetAt (now (packet .entry)) priority)) ⌝ }
 {
     let ssrc = octets::number32(packet, 4);
     let asked = asked_at(packet, priority);

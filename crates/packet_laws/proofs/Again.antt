@@ -12,9 +12,9 @@ use Rattle.octets.specs.Octets.{octets16, octets32}
 use Rattle.message.specs.Table.{rowIn, atFault}
 use Rattle.message.specs.Message.{said, fieldsOf, complete, lies}
 use Rattle.message.specs.Answers.{refused, result}
-use Rattle.message.specs.declared.Kind.{Kind}
+use Rattle.message.specs.declared.MessageType.{MessageType}
 use Rattle.message.specs.declared.Message.{Message}
-use Rattle.field.specs.declared.Found.{Found}
+use Rattle.field.specs.declared.FieldFound.{FieldFound}
 use Rattle.field.specs.Fields.{Fields, whole, fault, fieldsIn}
 use Rattle.walk.specs.Starts.{startOf}
 use Rattle.reading.specs.Reading.{messageAt, judged, reading}
@@ -32,8 +32,8 @@ use Rattle.packet_laws.proofs.Back.{read-back}
 
 -- a message that was read, by the fields that were found
 record Accepted (s : List ℕ) (m : Message) : Type 0 where
-  kind : Kind
-  found : List Found
+  kind : MessageType
+  found : List FieldFound
   all : fieldsIn s ≡ whole found
   is : messageAt kind s (startOf found) ≡ m
   full : complete (said m s) ≡ true
@@ -46,7 +46,8 @@ chosen false a m e = (cc, cc)
 never : {P : Type 0} (n : ℕ) (m : Message) → refused n ≡ result m → P
 never n m e = let z : _≡_ {A = ℕ} 0 1 = cc in absurd (omega arith)
 
-by-fields : (k : Kind) (s : List ℕ) (m : Message) (fields : Fields) → fieldsIn s ≡ fields → judged k s fields ≡ result m → Accepted s m
+by-fields : (k : MessageType) (s : List ℕ) (m : Message) (fields : Fields) → fieldsIn s ≡ fields → judged k s fields ≡ result m →
+    Accepted s m
 by-fields k s m (fault n) q e = never n m e
 by-fields k s m (whole found) q e =
     let a : Message = messageAt k s (startOf found) in
@@ -64,7 +65,7 @@ accepted s m e =
     record { long = opened-by s (r .kind) (r .opens) .long; rest = by-fields (r .kind) s m (fieldsIn s) refl (r .judges) }
 
 -- the twelve fields of such a message, each by its kind: they can be written, and take no more than they took
-module _ (s : List ℕ) (k : Kind) (found : List Found) (w : AllJudged s headerSize found) where
+module _ (s : List ℕ) (k : MessageType) (found : List FieldFound) (w : AllJudged s headerSize found) where
   abbrev m : Message
   m = messageAt k s (startOf found)
 

@@ -16,9 +16,9 @@ use Rattle.message.specs.Table.{rowOf, rowIn, lengthOf}
 use Rattle.message.specs.Message.{Field, field, said, fieldsOf, complete, lies}
 use Rattle.message.specs.Answers.{refused, result}
 use Rattle.message.proofs.Types.{type-small, type-back}
-use Rattle.message.specs.declared.Kind.{Kind}
+use Rattle.message.specs.declared.MessageType.{MessageType}
 use Rattle.message.specs.declared.Message.{Message}
-use Rattle.field.specs.declared.Found.{Found}
+use Rattle.field.specs.declared.FieldFound.{FieldFound}
 use Rattle.field.specs.Fields.{fieldsIn}
 use Rattle.walk.specs.Starts.{startOf}
 use Rattle.reading.specs.Reading.{reading, messageAt, judged}
@@ -84,7 +84,8 @@ body-within (f ∷ fs) e =
     ))
 
 -- a message's fields, read where they stand
-fields-back : (m : Message) (src s : List ℕ) (k : Kind) (start : ℕ → ℕ) → ((i : ℕ) → Stands s i (firstOf (fieldsOf m src) i) (start i))
+fields-back : (m : Message) (src s : List ℕ) (k : MessageType) (start : ℕ → ℕ) →
+    ((i : ℕ) → Stands s i (firstOf (fieldsOf m src) i) (start i))
     → fieldsOf (messageAt k s start) s ≡ fieldsOf m src
 unfolding messageAt firstOf if_then_else_ rowIn
 fields-back m src s k start h =
@@ -104,7 +105,7 @@ fields-back m src s k start h =
     ∷ []
 
 -- a packet that passes checks 1 to 8 is judged by its fields
-judged-next : (s : List ℕ) (k : Kind) → Opened s k → reading s ≡ judged k s (fieldsIn s)
+judged-next : (s : List ℕ) (k : MessageType) → Opened s k → reading s ≡ judged k s (fieldsIn s)
 unfolding reading
 judged-next s k o = rw (opens s k o)
 
@@ -162,7 +163,7 @@ module _ (m : Message) (src : List ℕ) (e : readable m src ≡ true) where
 
   back : ReadsAs s (said m src)
   back =
-      let found : List Found = walked .found in
+      let found : List FieldFound = walked .found in
       let m′ : Message = messageAt (m .kind) s (startOf found) in
       let q : said m′ s ≡ said m src = same-told (startOf found) (walked .stands) in
       record {

@@ -18,14 +18,14 @@ use Rattle.walk.specs.declared.Walk.the-variants.{Whole, PastTheEnd, AgainstThe
 use native.Mathlib.Omega.{arith}
 use Rattle.reading.specs.declared.Reading.{Reading}
 use Rattle.reading.specs.declared.Reading.the-variants.{Read}
-use Rattle.reading.specs.Reading.{messageAt, told as toldByReader}
+use Rattle.reading.specs.Reading.{messageAt, readingAnswer}
 use Rattle.packet_laws.specs.Again.{NumbersDiffer, ReadersCoincide, WritersCoincide, LaysCoincide, JudgesCoincide, OpeningsCoincide}
 use Rattle.packet_laws.specs.Again.{WalksCoincide}
 
 pub numbers-differ : NumbersDiffer
 numbers-differ = number-one
 
-pub read-told : (q q′ : Reading) → toldByReader q ≡ toldByReader q′ → q ≡ q′
+pub read-told : (q q′ : Reading) → readingAnswer q ≡ readingAnswer q′ → q ≡ q′
 read-told (Read m) (Read m′) e = ap Read (cc)
 read-told (Read m) (Reading.Refused r) e = cc
 read-told (Reading.Refused r) (Read m) e = cc

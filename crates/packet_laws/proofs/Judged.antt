@@ -12,8 +12,8 @@ use Rattle.words.specs.Choice.{if_then_else_, by-test}
 use Rattle.octets.specs.Octets.{be16}
 use Rattle.message.specs.Table.{padded}
 use Rattle.message.specs.Message.{Field}
-use Rattle.field.specs.declared.Found.{Found}
-use Rattle.field.specs.declared.Step.{Step}
+use Rattle.field.specs.declared.FieldFound.{FieldFound}
+use Rattle.field.specs.declared.FieldStep.{FieldStep}
 use Rattle.field.specs.Fields.{Fields, whole, fault, infront, stepThen, stepAt, fieldsFrom, idAt, lengthAt}
 use Rattle.walk.specs.Starts.{startOf}
 use Rattle.field.proofs.Steps.{Sound, step-sound}
@@ -21,11 +21,11 @@ use Rattle.packet_laws.proofs.Numbers.{length-place}
 use Rattle.packet_laws.proofs.Fits.{Agrees, agrees}
 
 -- how many octets the first field with this ID takes, and all fields together
-unfoldable pub sizeOf : List Found → ℕ → ℕ
+unfoldable pub sizeOf : List FieldFound → ℕ → ℕ
 sizeOf [] i = 0
 sizeOf (f ∷ fs) i = if eqb i (f .id) then padded (f .len) else sizeOf fs i
 
-unfoldable pub total : List Found → ℕ
+unfoldable pub total : List FieldFound → ℕ
 total [] = 0
 total (f ∷ fs) = padded (f .len) + total fs
 
@@ -40,12 +40,12 @@ abbrev pub Judged : List ℕ → ℕ → ℕ → ℕ → Type 0
 Judged s i at size = (at ≡ 0) ⊎ Good s i at size
 
 -- the walk's fields, each judged, and all within the packet
-pub record AllJudged (s : List ℕ) (p : ℕ) (fs : List Found) : Type 0 where
+pub record AllJudged (s : List ℕ) (p : ℕ) (fs : List FieldFound) : Type 0 where
   pub each : (i : ℕ) → Judged s i (startOf fs i) (sizeOf fs i)
   pub ends : p ≤ length s → p + total fs ≤ length s
 
 -- one more field in front: it is the first with its ID, and with another ID the first is as it was
-good : (s : List ℕ) (p : ℕ) (f : Found) → Sound s p f → Good s (idAt s p) (p + 2) (padded (lengthAt s p))
+good : (s : List ℕ) (p : ℕ) (f : FieldFound) → Sound s p f → Good s (idAt s p) (p + 2) (padded (lengthAt s p))
 unfolding padded
 good s p f h =
     record {
@@ -55,10 +55,10 @@ good s p f h =
       sized = rw length-place;
     }
 
-front : (s : List ℕ) (p : ℕ) (f : Found) (fs : List Found) → Sound s p f → AllJudged s (f .next) fs → AllJudged s p (f ∷ fs)
+front : (s : List ℕ) (p : ℕ) (f : FieldFound) (fs : List FieldFound) → Sound s p f → AllJudged s (f .next) fs → AllJudged s p (f ∷ fs)
 unfolding startOf sizeOf total if_then_else_
 front s p f fs h w =
-    let n : f .next ≡ p + padded (lengthAt s p) = ap (λ (g : Found). g .next) (h .is) in
+    let n : f .next ≡ p + padded (lengthAt s p) = ap (λ (g : FieldFound). g .next) (h .is) in
     rw (h .is)
     (record {
       each = λ i.
@@ -66,30 +66,30 @@ front s p f fs h w =
       ends = λ l. omega (arith, h .fits, h .inside, w .ends (omega (arith, h .fits)));
     })
 
-ended : (s : List ℕ) (p : ℕ) (fs : List Found) → [] ≡ fs → AllJudged s p fs
+ended : (s : List ℕ) (p : ℕ) (fs : List FieldFound) → [] ≡ fs → AllJudged s p fs
 unfolding startOf total
 ended s p fs e = rw (← e) (record { each = λ i. inl refl; ends = λ l. omega arith })
 
 -- the rest of a walk that was whole
-record Rest (f : Found) (rest : Fields) (fs : List Found) : Type 0 where
-  found : List Found
+record Rest (f : FieldFound) (rest : Fields) (fs : List FieldFound) : Type 0 where
+  found : List FieldFound
   all : rest ≡ whole found
   is : f ∷ found ≡ fs
 
-rest-of : (f : Found) (rest : Fields) (fs : List Found) → infront f rest ≡ whole fs → Rest f rest fs
+rest-of : (f : FieldFound) (rest : Fields) (fs : List FieldFound) → infront f rest ≡ whole fs → Rest f rest fs
 rest-of f (whole gs) fs e = record { found = gs; all = refl; is = cc }
 rest-of f (fault n) fs e = record { found = []; all = cc; is = cc }
 
-pub all-judged : (s : List ℕ) (steps p : ℕ) (fs : List Found) → fieldsFrom steps s p ≡ whole fs → AllJudged s p fs
+pub all-judged : (s : List ℕ) (steps p : ℕ) (fs : List FieldFound) → fieldsFrom steps s p ≡ whole fs → AllJudged s p fs
 unfolding fieldsFrom
 all-judged s zero p fs e = ended s p fs (cc)
 all-judged s (suc steps) p fs e = go (stepAt s p) refl e (λ q gs. all-judged s steps q gs)
   where
-    go : (t : Step) → stepAt s p ≡ t → stepThen t (λ next. fieldsFrom steps s next) ≡ whole fs
-        → ((q : ℕ) (gs : List Found) → fieldsFrom steps s q ≡ whole gs → AllJudged s q gs) → AllJudged s p fs
-    go Step.End q h more = ended s p fs (cc)
-    go Step.PastTheEnd q h more = ended s p fs (cc)
-    go Step.AgainstTheTable q h more = ended s p fs (cc)
-    go (Step.Field f) q h more =
+    go : (t : FieldStep) → stepAt s p ≡ t → stepThen t (λ next. fieldsFrom steps s next) ≡ whole fs
+        → ((q : ℕ) (gs : List FieldFound) → fieldsFrom steps s q ≡ whole gs → AllJudged s q gs) → AllJudged s p fs
+    go FieldStep.End q h more = ended s p fs (cc)
+    go FieldStep.PastTheEnd q h more = ended s p fs (cc)
+    go FieldStep.AgainstTheTable q h more = ended s p fs (cc)
+    go (FieldStep.Field f) q h more =
         let r = rest-of f (fieldsFrom steps s (f .next)) fs h in
         rw (← r .is) (front s p f (r .found) (step-sound s p f q) (more (f .next) (r .found) (r .all)))

@@ -11,16 +11,16 @@ use lib.Seq.{take-append-seam, drop-append-seam}
 use borrow.Author.Tests.{le-ltb, not-false}
 use Rattle.words.specs.Choice.{if_then_else_}
 use Rattle.octets.specs.Octets.{over}
-use Rattle.message.specs.Answers.{refused, result, number}
+use Rattle.message.specs.Answers.{refused, result, refusalNumber}
 use Rattle.message.specs.Message.{Said, said}
 use Rattle.message.specs.declared.Message.{Message}
 use Rattle.reading.specs.declared.Reading.{Reading}
 use Rattle.reading.specs.declared.Reading.the-variants.{Read}
-use Rattle.reading.specs.Reading.{Reads, told as toldByReader}
+use Rattle.reading.specs.Reading.{Reads, readingAnswer}
 use Rattle.writing.specs.declared.Writing.the-variants.{Written}
 use Rattle.writing.specs.Wire.{wire}
 use Rattle.readable.specs.Readable.{readable}
-use Rattle.writing.specs.Writing.{writing, written, told as toldByWriter}
+use Rattle.writing.specs.Writing.{writing, written, writingAnswer}
 use Rattle.packet_laws.specs.Again.{ReadsAs, IsRead, WriteThenRead, RefusalWritesNothing, RestUntouched, ReadThenWrite}
 use Rattle.header.proofs.Openings.{passed}
 use Rattle.packet_laws.proofs.Back.{read-back}
@@ -57,19 +57,19 @@ wrote m src room n e =
 
 pub write-then-read : WriteThenRead
 write-then-read m src room room′ r n q p e z =
-    let w = wrote m src room n (sym (ap toldByWriter e) ∙ p .0) in
+    let w = wrote m src room n (sym (ap writingAnswer e) ∙ p .0) in
     let t : take n room′ ≡ wire (said m src) = ap (take n) (p .1) ∙ w .octets in
     rw t (is-read (wire (said m src)) (said m src) q (read-back m src (w .accepted)) (rw t at z))
 
 pub refusal-writes-nothing : RefusalWritesNothing
 unfolding written
 refusal-writes-nothing m src room room′ r why p e =
-    let told : writing m src (length room) ≡ refused (number why) = sym (p .0) ∙ ap toldByWriter e in
+    let told : writing m src (length room) ≡ refused (refusalNumber why) = sym (p .0) ∙ ap writingAnswer e in
     p .1 ∙ rw told
 
 pub rest-untouched : RestUntouched
 rest-untouched m src room room′ r n p e =
-    let w = wrote m src room n (sym (ap toldByWriter e) ∙ p .0) in
+    let w = wrote m src room n (sym (ap writingAnswer e) ∙ p .0) in
     ap (drop n) (p .1) ∙ w .behind
 
 -- a writer of a readable message that has room for it
@@ -80,7 +80,7 @@ writes m src room e h = rw (e, le-ltb room (length (wire (said m src))) h)
 
 pub read-then-write : ReadThenWrite
 read-then-write s room room′ q m r p e h wp =
-    let a = read-is-written s m (sym p ∙ ap toldByReader e) in
+    let a = read-is-written s m (sym p ∙ ap readingAnswer e) in
     let n : ℕ = length (wire (said m s)) in
     let l : n ≤ length room = omega (arith, a .noLonger) in
     let wr : r ≡ Written n = told-one r (Written n) (wp .0 ∙ writes m s (length room) (a .accepted) l) in

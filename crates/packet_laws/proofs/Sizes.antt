@@ -11,7 +11,7 @@ use Rattle.words.specs.Below.{and-left, and-right}
 use Rattle.words.specs.Choice.{if_then_else_, if-no, by-test}
 use Rattle.message.specs.Message.{Field}
 use Rattle.message.specs.Table.{padded}
-use Rattle.field.specs.declared.Found.{Found}
+use Rattle.field.specs.declared.FieldFound.{FieldFound}
 use Rattle.packet_laws.proofs.Judged.{sizeOf, total}
 use Rattle.packet_laws.proofs.Kept.{sum}
 
@@ -49,7 +49,7 @@ unfolding sum
 sum-none [] = refl
 sum-none (f ∷ fs) = omega (arith, sum-none fs)
 
-pub firsts-within : (found : List Found) (least : ℕ) (fs : List Field) → ascends least fs ≡ true → sum (sizeOf found) fs ≤ total found
+pub firsts-within : (found : List FieldFound) (least : ℕ) (fs : List Field) → ascends least fs ≡ true → sum (sizeOf found) fs ≤ total found
 unfolding sizeOf total
 firsts-within [] least fs a = omega (arith, sum-none fs)
 firsts-within (f ∷ found) least fs a =

@@ -6,8 +6,8 @@ use mathlib.Core.Path.{_≡_, refl, ap}
 use mathlib.Core.List.{List, []}
 use lib.ListN.{length}
 use Rattle.message.specs.Table.{padded}
-use Rattle.field.specs.declared.Found.{Found}
-use Rattle.field.specs.declared.Step.{Step}
+use Rattle.field.specs.declared.FieldFound.{FieldFound}
+use Rattle.field.specs.declared.FieldStep.{FieldStep}
 use Rattle.field.specs.Fields.{whole, infront, stepThen, stepAt, fieldsFrom, fieldsIn, lengthAt}
 use Rattle.header.specs.Header.{headerSize}
 use Rattle.packet_laws.specs.Again.{StepsSuffice}
@@ -24,13 +24,13 @@ unfolding fieldsFrom
 enough s zero more p h = rw zero-add (at-the-end s more p (omega arith))
 enough s (suc steps) more p h = rw suc-add (go (stepAt s p) refl (λ q l. enough s steps more q l))
   where
-    go : (t : Step) → stepAt s p ≡ t → ((q : ℕ) → length s ≤ q + steps → fieldsFrom (steps + more) s q ≡ fieldsFrom steps s q)
+    go : (t : FieldStep) → stepAt s p ≡ t → ((q : ℕ) → length s ≤ q + steps → fieldsFrom (steps + more) s q ≡ fieldsFrom steps s q)
         → stepThen t (λ next. fieldsFrom (steps + more) s next) ≡ stepThen t (λ next. fieldsFrom steps s next)
-    go Step.End e rest = refl
-    go Step.PastTheEnd e rest = refl
-    go Step.AgainstTheTable e rest = refl
-    go (Step.Field f) e rest =
-        let n : f .next ≡ p + padded (lengthAt s p) = ap (λ (g : Found). g .next) (step-sound s p f e .is) in
+    go FieldStep.End e rest = refl
+    go FieldStep.PastTheEnd e rest = refl
+    go FieldStep.AgainstTheTable e rest = refl
+    go (FieldStep.Field f) e rest =
+        let n : f .next ≡ p + padded (lengthAt s p) = ap (λ (g : FieldFound). g .next) (step-sound s p f e .is) in
         ap (infront f) (rest (f .next) (omega (arith, padded-least (lengthAt s p))))
 
 pub steps-suffice : StepsSuffice

@@ -16,8 +16,8 @@ use Rattle.words.specs.Choice.{if_then_else_, by-test}
 use Rattle.octets.specs.Octets.{be16}
 use Rattle.message.specs.Table.{rowOf, padded, padding, lengthOf}
 use Rattle.message.specs.Message.{Field, field}
-use Rattle.field.specs.declared.Found.{Found}
-use Rattle.field.specs.declared.Step.{Step}
+use Rattle.field.specs.declared.FieldFound.{FieldFound}
+use Rattle.field.specs.declared.FieldStep.{FieldStep}
 use Rattle.field.specs.Fields.{Fields, whole, stepAt, fieldsFrom, idAt, lengthAt, fieldAt}
 use Rattle.walk.specs.Starts.{startOf}
 use Rattle.field_writing.specs.Wire.{fieldOctets, optional, body}
@@ -35,7 +35,7 @@ firstOf (f ∷ fs) i = if eqb i (f .id) then orElse (f .content) (firstOf fs i) 
 
 -- the walk's answer, for fields that stand in s: it is whole, and each first field starts where it stands
 pub record Walked (s : List ℕ) (fs : List Field) (answer : Fields) : Type 0 where
-  pub found : List Found
+  pub found : List FieldFound
   pub all : answer ≡ whole found
   pub stands : (i : ℕ) → Stands s i (firstOf fs i) (startOf found i)
 
@@ -87,7 +87,7 @@ module _ (s : List ℕ) (i : ℕ) (c rest : List ℕ) (p : ℕ)
   ends : length s - p ≡ padded (lengthOf i c) + length rest
   ends = simp (length-drop, length-append, length-laid) at (ap length e)
 
-  found-there : stepAt s p ≡ Step.Field (fieldAt s p)
+  found-there : stepAt s p ≡ FieldStep.Field (fieldAt s p)
   found-there =
       let n : length s - p ≡ padded (lengthOf i c) + length rest = ends in
       let w : 4 ≤ padded (lengthOf i c) = padded-least (lengthOf i c) in

@@ -9,7 +9,7 @@ use lib.ListN.{length, take, drop}
 use Rattle.message.specs.declared.Message.{Message}
 use Rattle.message.specs.declared.Refusal.{Refusal}
 use Rattle.message.specs.Message.{Said, said, lies}
-use Rattle.message.specs.Answers.{Answer, result, number}
+use Rattle.message.specs.Answers.{Answer, result, refusalNumber}
 use Rattle.reading.specs.declared.Reading.{Reading}
 use Rattle.reading.specs.declared.Reading.the-variants.{Read}
 use Rattle.field.specs.Fields.{fieldsFrom, fieldsIn}
@@ -95,7 +95,7 @@ ReadThenWrite =
 
 -- "any two results it would allow are proved to coincide" (proofs/Coincide)
 abbrev pub NumbersDiffer : Type 0
-NumbersDiffer = (a b : Refusal) → number a ≡ number b → a ≡ b
+NumbersDiffer = (a b : Refusal) → refusalNumber a ≡ refusalNumber b → a ≡ b
 
 abbrev pub ReadersCoincide : Type 0
 ReadersCoincide = (s : List ℕ) (q q′ : Reading) → Reads s q → Reads s q′ → q ≡ q′

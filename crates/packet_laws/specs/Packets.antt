@@ -8,8 +8,8 @@ use mathlib.Core.Option.{none, some}
 use lib.Dec.{eqb}
 use Rattle.words.specs.Choice.{if_then_else_}
 use Rattle.octets.specs.Octets.{be16, be32, octets16, octets32, part}
-use Rattle.message.specs.declared.Kind.{Kind}
-use Rattle.message.specs.declared.Kind.the-variants.{Request, Granted, Taken, Deny, Idle, Ack}
+use Rattle.message.specs.declared.MessageType.{MessageType}
+use Rattle.message.specs.declared.MessageType.the-variants.{Request, Granted, Taken, Deny, Idle, Ack}
 use Rattle.message.specs.declared.Part.{Part}
 use Rattle.message.specs.Table.{rowIn, against, atFault, padding, padded}
 use Rattle.message.specs.Message.{Field, field, Said, said, has, hasAll, complete}
@@ -28,7 +28,7 @@ abbrev at : List Field → ℕ → Field
 at [] i = field i none
 at (f ∷ fs) i = if eqb i (f .id) then f else at fs i
 
-abbrev with : Kind → Bool → ℕ → List Field → Said
+abbrev with : MessageType → Bool → ℕ → List Field → Said
 with k asksAck ssrc fs =
     record {
       kind = k;

@@ -3,8 +3,8 @@
 //
 // A line is a title, a colon, and the packet's octets in hexadecimal, a space before each; ` 00*254` stands for 254 octets of 00.
 use message::Cause;
-use message::Kind;
 use message::Message;
+use message::MessageType;
 use message::Number;
 use message::Octet;
 use message::Part;
@@ -352,7 +352,7 @@ fn entries(all: &[u8], room: &mut [u8]) {
 // The edges of the writer: messages that no packet could have brought, and rooms at and below the size of the result.
 
 // A message of a type, with no field.
-fn bare(kind: Kind) -> Message {
+fn bare(kind: MessageType) -> Message {
     Message {
         kind: kind,
         ack: false,
@@ -375,7 +375,7 @@ fn bare(kind: Kind) -> Message {
 // A message with every field, its identities and its phrase parts of one source.
 fn full(identity: usize, phrase: usize, permission: u16, source: u16) -> Message {
     Message {
-        kind: Kind::Ack,
+        kind: MessageType::Ack,
         ack: true,
         ssrc: 0xFFFF_FFFF,
         priority: Octet::Is(255),
@@ -409,8 +409,8 @@ fn message_of(k: usize) -> Message
     requires { ⌜ k < 12 ⌝ }
 {
     match k {
-        0..=1 => bare(Kind::Release),
-        2 => bare(Kind::Granted),
+        0..=1 => bare(MessageType::Release),
+        2 => bare(MessageType::Granted),
         _ => full(IDENTITIES[k], PHRASES[k], PERMISSIONS[k], SOURCES[k]),
     }
 }

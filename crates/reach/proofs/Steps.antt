@@ -19,7 +19,7 @@ use Rattle.steps.specs.declared.AlsoRuns.the-variants.{NoMore, T2, T20}
 use Rattle.steps.specs.declared.Phase.{Phase}
 use Rattle.steps.specs.declared.Phase.the-variants.{Stopped, Idle, Taken, Revoking}
 use Rattle.steps.specs.declared.Core.{Core}
-use Rattle.steps.specs.declared.Message.{Message}
+use Rattle.steps.specs.declared.Sending.{Sending}
 use Rattle.steps.specs.Words.{next, numbered, _inPhase_, _withLine_, _countingC7_}
 use Rattle.steps.specs.Causes.{mediaBurstTooLong, mediaBurstPreempted}
 use Rattle.giving.specs.Floor.{holds}
@@ -97,7 +97,7 @@ module _ (h : Hall) (k : HallOk h) where
       CoreOk h (c inPhase Revoking e n)
   revoked c o e b n q u = turned c o e (Revoking e n) (λ s. ap (λ (p : Phase). holds p s) q) (λ s. refl) refl u
 
-  six : {c : Core} {t : ℕ} {new : Core} {first second : Message} → CoreOk h c → Six c h t new first second → CoreOk h new
+  six : {c : Core} {t : ℕ} {new : Core} {first second : Sending} → CoreOk h c → Six c h t new first second → CoreOk h new
   six {c} o (informs q f s) = rw q o
   six {c} o (presses e b k q f s) = rw q (revoked c o e b mediaBurstPreempted k refl)
   six {c} o (informsAndPresses e b k q f s) = rw q (revoked c o e b mediaBurstPreempted k refl)

@@ -7,15 +7,15 @@ use mathlib.Core.Path.{_≡_, refl, sym, ap, _∙_}
 use lib.Dec.{eqb, lit<}
 use lib.ListN.{getD}
 use Rattle.words.specs.Choice.{if_then_else_, by-test, if-yes, if-no}
-use Rattle.message.specs.Answers.{Answer, refused, result, number}
+use Rattle.message.specs.Answers.{Answer, refused, result, refusalNumber}
 use Rattle.message.specs.Message.{said, complete}
 use Rattle.message.specs.declared.Message.{Message}
-use Rattle.message.specs.declared.Kind.{Kind}
+use Rattle.message.specs.declared.MessageType.{MessageType}
 use Rattle.message.specs.declared.Refusal.{Refusal}
 use Rattle.header.specs.Opening.{opening}
 use Rattle.header.specs.declared.Opening.the-variants.{Of}
 use Rattle.header.proofs.Openings.{opened-by}
-use Rattle.field.specs.declared.Found.{Found}
+use Rattle.field.specs.declared.FieldFound.{FieldFound}
 use Rattle.field.specs.Fields.{Fields, whole, fault, fieldsIn}
 use Rattle.walk.specs.declared.Walk.{Walk}
 use Rattle.walk.specs.declared.Walk.the-variants.{Whole}
@@ -27,7 +27,7 @@ use Rattle.reading.specs.Judging.{Judges}
 
 -- a packet that was read passed checks 1 to 8, and its fields give its message
 pub record ReadBy (s : List ℕ) (m : Message) : Type 0 where
-  pub kind : Kind
+  pub kind : MessageType
   pub opens : opening s ≡ result kind
   pub judges : judged kind s (fieldsIn s) ≡ result m
 
@@ -35,13 +35,13 @@ pub read-by : (s : List ℕ) (m : Message) → reading s ≡ result m → ReadBy
 unfolding reading
 read-by s m e = go (opening s) refl e
   where
-    go : (a : Answer Kind) → opening s ≡ a → opened a s ≡ result m → ReadBy s m
+    go : (a : Answer MessageType) → opening s ≡ a → opened a s ≡ result m → ReadBy s m
     go (refused n) q h = absurd (let z : _≡_ {A = ℕ} 0 1 = cc in omega arith)
     go (result k) q h = record { kind = k; opens = q; judges = h }
 
 -- the message by the array of starts
-module _ (starts : List ℕ) (fs : List Found) (n : Notes starts fs) where
-  pub message-notes : (k : Kind) (s : List ℕ) → messageAt k s (λ i. getD starts i 0) ≡ messageAt k s (startOf fs)
+module _ (starts : List ℕ) (fs : List FieldFound) (n : Notes starts fs) where
+  pub message-notes : (k : MessageType) (s : List ℕ) → messageAt k s (λ i. getD starts i 0) ≡ messageAt k s (startOf fs)
   unfolding messageAt
   message-notes k s =
       simp (
@@ -60,17 +60,17 @@ module _ (starts : List ℕ) (fs : List Found) (n : Notes starts fs) where
       )
 
 -- the answer once the walk is over: a fault, or the message and whether it is complete
-module _ (k : Kind) (s starts : List ℕ) (w : Walk) where
-  pub judged-fault : (r : Refusal) → (w ≡ Whole → ⊥) → number r ≡ faultNumber w → Walked (fieldsIn s) w starts →
-      refused (number r) ≡ judged k s (fieldsIn s)
+module _ (k : MessageType) (s starts : List ℕ) (w : Walk) where
+  pub judged-fault : (r : Refusal) → (w ≡ Whole → ⊥) → refusalNumber r ≡ faultNumber w → Walked (fieldsIn s) w starts →
+      refused (refusalNumber r) ≡ judged k s (fieldsIn s)
   judged-fault r not-whole e walked = by-fields (fieldsIn s) walked
     where
-      by-fields : (fields : Fields) → Walked fields w starts → refused (number r) ≡ judged k s fields
+      by-fields : (fields : Fields) → Walked fields w starts → refused (refusalNumber r) ≡ judged k s fields
       by-fields (whole fs) v = absurd (not-whole (v .0))
       by-fields (fault n) v = ap refused (e ∙ v .0)
 
   pub record Found-all : Type 0 where
-    pub fs : List Found
+    pub fs : List FieldFound
     pub is : fieldsIn s ≡ whole fs
     pub notes : Notes starts fs
 
@@ -93,7 +93,7 @@ module _ (k : Kind) (s starts : List ℕ) (w : Walk) where
     unfolding reading
     by-fields = rw opens
 
-    pub judges-fault : (r : Refusal) → number r ≡ faultNumber w → 0 < faultNumber w → reading s ≡ refused (number r)
+    pub judges-fault : (r : Refusal) → refusalNumber r ≡ faultNumber w → 0 < faultNumber w → reading s ≡ refused (refusalNumber r)
     judges-fault r e h =
         by-fields ∙ sym (judged-fault r (λ q. let z : faultNumber w ≡ 0 = ap faultNumber q in omega (arith, z, h)) e walked)
 

@@ -8,8 +8,8 @@ use lib.ListN.{getD}
 use Rattle.words.specs.Choice.{if_then_else_}
 use Rattle.octets.specs.Octets.{be16, be32}
 use Rattle.message.specs.Message.{said, complete}
-use Rattle.message.specs.Answers.{Answer, refused, result, number}
-use Rattle.message.specs.declared.Kind.{Kind}
+use Rattle.message.specs.Answers.{Answer, refused, result, refusalNumber}
+use Rattle.message.specs.declared.MessageType.{MessageType}
 use Rattle.message.specs.declared.Octet.{Octet}
 use Rattle.message.specs.declared.Word.{Word}
 use Rattle.message.specs.declared.Number.{Number}
@@ -44,7 +44,7 @@ unfoldable pub causeAt : List ℕ → ℕ → Cause
 causeAt s at = if eqb at 0 then Cause.Absent else Cause.Is (be16 s at) (at + 2) (getD s (at - 1) 0 - 2)
 
 -- the message of a packet of this type, by the starts of its fields' contents
-unfoldable pub messageAt : Kind → List ℕ → (ℕ → ℕ) → Message
+unfoldable pub messageAt : MessageType → List ℕ → (ℕ → ℕ) → Message
 messageAt k s start =
     record {
       kind = k;
@@ -65,13 +65,13 @@ messageAt k s start =
     }
 
 -- 9 and 10 as the fields are judged, 11 last
-abbrev pub judged : Kind → List ℕ → Fields → Answer Message
+abbrev pub judged : MessageType → List ℕ → Fields → Answer Message
 judged k s (fault n) = refused n
 judged k s (whole fs) =
     if complete (said (messageAt k s (startOf fs)) s) then result (messageAt k s (startOf fs)) else refused 11
 
 -- 1 to 8 by the first twelve octets, then the fields
-abbrev pub opened : Answer Kind → List ℕ → Answer Message
+abbrev pub opened : Answer MessageType → List ℕ → Answer Message
 opened (refused n) s = refused n
 opened (result k) s = judged k s (fieldsIn s)
 
@@ -79,10 +79,10 @@ unfoldable pub reading : List ℕ → Answer Message
 reading s = opened (opening s) s
 
 -- the reader's answer in the paper's numbers
-abbrev pub told : Reading → Answer Message
-told (Read m) = result m
-told (Refused r) = refused (number r)
+abbrev pub readingAnswer : Reading → Answer Message
+readingAnswer (Read m) = result m
+readingAnswer (Refused r) = refused (refusalNumber r)
 
 -- what a reader promises of its answer to a packet; of two such answers `packet_laws` proves that they are one
 abbrev pub Reads : List ℕ → Reading → Type 0
-Reads s answer = told answer ≡ reading s
+Reads s answer = readingAnswer answer ≡ reading s

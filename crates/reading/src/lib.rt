@@ -3,8 +3,8 @@
 use header::Opening;
 use message::Cause;
 use message::Has;
-use message::Kind;
 use message::Message;
+use message::MessageType;
 use message::Number;
 use message::Octet;
 use message::Part;
@@ -93,7 +93,7 @@ fn cause_at(s: &[u8], at: usize) -> Cause
 }
 
 // The message of a packet of this type, from the starts of its fields' contents.
-fn message_at(s: &[u8], kind: Kind, starts: &[usize; 16]) -> Message
+fn message_at(s: &[u8], kind: MessageType, starts: &[usize; 16]) -> Message
     requires { ⌜ Reach (now s) (λ i. getD (now starts) i 0) ⌝ }
     ensures { λ r. ⌜ r ≡ messageAt kind (now (s .entry)) (λ i. getD (now (starts .entry)) i 0) ⌝ }
 {
@@ -117,7 +117,7 @@ fn message_at(s: &[u8], kind: Kind, starts: &[usize; 16]) -> Message
 }
 
 // Whether every field that a type requires has been noted.
-fn has_all(kind: Kind, starts: &[usize; 16]) -> bool
+fn has_all(kind: MessageType, starts: &[usize; 16]) -> bool
     ensures { λ r. ⌜ ((s : List ℕ) → r ≡ complete (said (messageAt kind s (λ i. getD (now (starts .entry)) i 0)) s)) ⌝ }
 {
     let has = Has {
@@ -133,7 +133,7 @@ fn has_all(kind: Kind, starts: &[usize; 16]) -> bool
 }
 
 // Checks 9 to 11.
-fn judge_fields(s: &[u8], kind: Kind, starts: &mut [usize; 16]) -> Opening
+fn judge_fields(s: &[u8], kind: MessageType, starts: &mut [usize; 16]) -> Opening
     requires { ⌜ now starts ≡ replicate 16 0 ⌝ }
     requires { ⌜ opening (now s) ≡ result kind ⌝ }
     ensures { λ r. ⌜ Judges r (now (s .entry)) (now (starts .exit)) ⌝ }

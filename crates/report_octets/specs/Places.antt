@@ -45,8 +45,8 @@ secondPlace = 16
 -- A MESSAGE OF A REPORT, places within it
 
 -- the whole message; its kind stands at its start
-abbrev pub messageSize : ℕ
-messageSize = 8
+abbrev pub sentSize : ℕ
+sentSize = 8
 
 -- the seat
 abbrev pub seatWithin : ℕ

@@ -10,7 +10,7 @@ use Rattle.words.specs.Choice.{if_then_else_, one}
 use Rattle.octets.specs.Octets.{be16, octets16}
 use Rattle.steps.specs.declared.Kind.{Kind}
 use Rattle.steps.specs.declared.Kind.the-variants as say
-use Rattle.steps.specs.declared.Message.{Message}
+use Rattle.steps.specs.declared.Sending.{Sending}
 use Rattle.steps.specs.declared.Mark.{Mark}
 use Rattle.steps.specs.declared.Mark.the-variants.{NoSeat, Seat}
 use Rattle.steps.specs.declared.Given.{Given}
@@ -57,7 +57,7 @@ particulars (say.Info k p) = with 9 0 k p
 abbrev pub octetsWith : Particulars → ℕ → List ℕ
 octetsWith q mask = (q .kind ∷ q .seat ∷ octets16 (q .number)) ++ (q .priority ∷ 0 ∷ octets16 mask)
 
-unfoldable pub messageOctets : Message → List ℕ
+unfoldable pub messageOctets : Sending → List ℕ
 messageOctets m = octetsWith (particulars (m .kind)) (maskOf (m .to))
 
 unfoldable pub marksOctets : Marks → List ℕ

@@ -3,14 +3,14 @@ use steps::Given;
 use steps::Kind;
 use steps::Mark;
 use steps::Marks;
-use steps::Message;
 use steps::Report;
+use steps::Sending;
 ghost use mathlib.Core.Path.{_≡_};
 ghost use Prim.Native.Nat.{_+_, _<_, _≤_};
 ghost use lib.ListN.{length};
 ghost use Rattle.octets.specs.Octets.{over};
 ghost use Rattle.words.specs.Choice.{one};
-ghost use Rattle.report_octets.specs.Places.{reportSize, firstPlace, messageSize};
+ghost use Rattle.report_octets.specs.Places.{reportSize, firstPlace, sentSize};
 ghost use Rattle.report_octets.specs.Report.{maskOf, seatOctet, givenOctet, howOctet, with, particulars, messageOctets, marksOctets, reportOctets, particularsAt, kindOf, alike, saidBy, saidAt, messageIn};
 
 // The places of a report and of its messages; specs/Places.antt has the same names.
@@ -129,8 +129,8 @@ pub fn particulars_of(kind: Kind) -> Particulars
 }
 
 // Writes a message of a report at a place; the mask is its receivers.
-fn put_message(room: &mut [u8], at: usize, m: Message, mask: u16)
-    requires { ⌜ at + messageSize ≤ length (now room) ⌝ }
+fn put_message(room: &mut [u8], at: usize, m: Sending, mask: u16)
+    requires { ⌜ at + sentSize ≤ length (now room) ⌝ }
     requires { ⌜ mask ≡ maskOf (m .to) ⌝ }
     ensures { λ _. ⌜ now (room .exit) ≡ over (now (room .entry)) at (messageOctets m) ⌝ }
 {
@@ -178,7 +178,7 @@ pub fn put_report(room: &mut [u8], report: Report)
 // What the octets of a report say.
 
 fn particulars_at(r: &[u8], at: usize) -> Particulars
-    requires { ⌜ at + messageSize ≤ length (now r) ⌝ }
+    requires { ⌜ at + sentSize ≤ length (now r) ⌝ }
     ensures { λ q. ⌜ q ≡ particularsAt (now (r .entry)) at ⌝ }
 {
     let number = octets::number16(r, at + NUMBER_WITHIN);
@@ -220,7 +220,7 @@ fn said_by(q: Particulars, behind: u8) -> Told
 }
 
 fn said_at(r: &[u8], at: usize) -> Told
-    requires { ⌜ at + messageSize ≤ length (now r) ⌝ }
+    requires { ⌜ at + sentSize ≤ length (now r) ⌝ }
     ensures { λ t. ⌜ t ≡ saidAt (now (r .entry)) at ⌝ }
 {
     let q = particulars_at(r, at);

@@ -14,7 +14,7 @@ use Rattle.words.proofs.Tests.{clash, and-both, and-three, and-four, and-five, 
 use Rattle.octets.specs.Octets.{Octets, be16, octets16}
 use Rattle.steps.specs.declared.Kind.{Kind}
 use Rattle.steps.specs.declared.Kind.the-variants as say
-use Rattle.steps.specs.declared.Message.{Message}
+use Rattle.steps.specs.declared.Sending.{Sending}
 use Rattle.steps.specs.declared.Mark.{Mark}
 use Rattle.steps.specs.declared.Mark.the-variants.{NoSeat, Seat}
 use Rattle.steps.specs.declared.Given.{Given}
@@ -103,7 +103,7 @@ given-back NotGiven = refl
 given-back (AtOnce s) = refl
 given-back (OutOfLine s) = refl
 
-message-back : (m : Message) → MessageFits m → (r : List ℕ) (at : ℕ) → particularsAt r at ≡ particulars (m .kind) →
+message-back : (m : Sending) → MessageFits m → (r : List ℕ) (at : ℕ) → particularsAt r at ≡ particulars (m .kind) →
     be16 r (at + maskWithin) ≡ maskOf (m .to)
     → messageAt r at ≡ m
 unfolding messageAt
@@ -292,7 +292,7 @@ particulars-fit (say.Idle n) h = record { kind = omega arith; seat = omega arith
 particulars-fit (say.Revoke n) h = record { kind = omega arith; seat = omega arith; number = h; priority = omega arith }
 particulars-fit (say.Info k p) h = record { kind = omega arith; seat = omega arith; number = omega (arith, h .0); priority = h .1 }
 
-message-octets : (m : Message) (xs : List ℕ) → MessageFits m → Every xs → Every (messageOctets m ++ xs)
+message-octets : (m : Sending) (xs : List ℕ) → MessageFits m → Every xs → Every (messageOctets m ++ xs)
 unfolding messageOctets octets16
 message-octets m xs k o =
     let q = particulars (m .kind) in

@@ -10,7 +10,7 @@ use Rattle.words.specs.Choice.{if_then_else_}
 use Rattle.octets.specs.Octets.{Octets, be16}
 use Rattle.steps.specs.declared.Kind.{Kind}
 use Rattle.steps.specs.declared.Kind.the-variants as say
-use Rattle.steps.specs.declared.Message.{Message}
+use Rattle.steps.specs.declared.Sending.{Sending}
 use Rattle.steps.specs.declared.Mark.{Mark}
 use Rattle.steps.specs.declared.Mark.the-variants.{NoSeat, Seat}
 use Rattle.steps.specs.declared.Given.{Given}
@@ -48,7 +48,7 @@ marksIn r =
       given = givenOf (getD r givenPlace 0) (getD r howPlace 0);
     }
 
-unfoldable pub messageAt : List ℕ → ℕ → Message
+unfoldable pub messageAt : List ℕ → ℕ → Sending
 messageAt r at = record { kind = kindOf (particularsAt r at); to = setOf (be16 r (at + maskWithin)) }
 
 unfoldable pub reportIn : List ℕ → Report
@@ -97,7 +97,7 @@ KindFits (say.Idle n) = n < 65536
 KindFits (say.Revoke n) = n < 65536
 KindFits (say.Info k p) = (k < 256) × (p < 256)
 
-pub record MessageFits (m : Message) : Type 0 where
+pub record MessageFits (m : Sending) : Type 0 where
   pub kind : KindFits (m .kind)
   pub to : length (m .to) ≡ 16
 

@@ -12,7 +12,7 @@ use Rattle.hall.specs.Seats.{queues}
 use Rattle.steps.specs.declared.Phase.{Phase}
 use Rattle.steps.specs.declared.Phase.the-variants.{Stopped, Idle, Taken, Revoking}
 use Rattle.steps.specs.declared.Core.{Core}
-use Rattle.steps.specs.declared.Message.{Message}
+use Rattle.steps.specs.declared.Sending.{Sending}
 use Rattle.steps.specs.declared.Mark.{Mark}
 use Rattle.steps.specs.declared.Mark.the-variants.{NoSeat}
 use Rattle.steps.specs.declared.Given.the-variants.{NotGiven}
@@ -26,7 +26,7 @@ use Rattle.request.specs.Cut.{infoFor, lineAfter, markAfter, stands, ref
 
 -- the mark of who was placed does not change what a step says, and rule 6 sets none by itself
 module _ (a : Answer) (k : Core) (x : Mark) where
-  placed-more : (b : Bool) (r : Report) (m : Message) →
+  placed-more : (b : Bool) (r : Report) (m : Sending) →
       (record { answer = a; core = k; report = more b r m } placing x)
       ≡ record { answer = a; core = k; report = more b ((record { answer = a; core = k; report = r } placing x) .report) m }
   placed-more true r m = refl

@@ -8,7 +8,7 @@ use Rattle.line.specs.Line.{entryOf}
 use Rattle.hall.specs.declared.Hall.{Hall}
 use Rattle.hall.specs.Seats.{only, queues}
 use Rattle.steps.specs.declared.Core.{Core}
-use Rattle.steps.specs.declared.Message.{Message}
+use Rattle.steps.specs.declared.Sending.{Sending}
 use Rattle.steps.specs.declared.Mark.{Mark}
 use Rattle.steps.specs.declared.Mark.the-variants.{NoSeat, Seat}
 use Rattle.steps.specs.declared.Step.{Step}
@@ -17,7 +17,7 @@ use Rattle.steps.specs.Causes.{anotherHasPermission, queueFull}
 use Rattle.request.specs.Request.{waits, full, infoOf, staysOrMoves, comesIn, asksAgain, placed, rule5}
 
 -- what Info is to an asker, with or without queueing
-abbrev pub infoFor : Line → ℕ → Bool → Message
+abbrev pub infoFor : Line → ℕ → Bool → Sending
 infoFor l s queueing = if queueing then infoOf l s ⇒ only s else silence
 
 -- the line after a request of one who waits, and of a newcomer that may go in; and the mark

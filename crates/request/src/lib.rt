@@ -7,8 +7,8 @@ use steps::Core;
 use steps::Given;
 use steps::Kind;
 use steps::Mark;
-use steps::Message;
 use steps::Phase;
+use steps::Sending;
 use steps::Step;
 ghost use mathlib.Core.Path.{_≡_};
 ghost use Rattle.steps.specs.Words.{_placing_};
@@ -111,13 +111,13 @@ fn holder_asks(core: Core) -> Step
 }
 
 // What Info says, and to whom, for an asker that may not have negotiated queueing.
-fn info_for(line: Line, seat: u8, queueing: bool) -> Message
+fn info_for(line: Line, seat: u8, queueing: bool) -> Sending
     ensures { λ r. ⌜ r ≡ infoFor line seat queueing ⌝ }
 {
     if queueing {
         let info = info_of(line, seat);
         let to = hall::only_seat(seat);
-        Message { kind: info, to }
+        Sending { kind: info, to }
     } else {
         steps::no_message()
     }

@@ -40,10 +40,10 @@ unfoldable pub writtenBy : Hall → Names → List ℕ → List ℕ
 writtenBy h ns room = take (saving h ns room .written) (roomAfter h ns room)
 
 -- saving's answer in the paper's numbers
-abbrev pub told : Saving → Save
-told (Saved n) = saved n
-told NoRoom = notSaved 13
+abbrev pub savingAnswer : Saving → Save
+savingAnswer (Saved n) = saved n
+savingAnswer NoRoom = notSaved 13
 
 -- what `saving::save` promises of its answer r
 abbrev pub Saves : Hall → Names → List ℕ → Saving → Type 0
-Saves h ns room r = told r ≡ saving h ns room
+Saves h ns room r = savingAnswer r ≡ saving h ns room

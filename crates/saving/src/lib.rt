@@ -9,7 +9,7 @@ ghost use lib.ListN.{length};
 ghost use Rattle.octets.specs.Octets.{over};
 ghost use Rattle.identities.specs.Identity.{octetsOf};
 ghost use Rattle.sheet.specs.Layout.{seatHead, whoSits, seatOctets, seatsOctets, seatsOf};
-ghost use Rattle.saving.specs.Saving.{roomAfter, Saves, told};
+ghost use Rattle.saving.specs.Saving.{roomAfter, Saves, savingAnswer};
 ghost use Rattle.saving.specs.Walk.{octetsAt, countAt, Measured};
 
 // What saving answers: how many octets the sheet has, or why there is none; specs/Saving.antt has the paper's number of each.
@@ -115,7 +115,7 @@ fn put_seats(room: &mut [u8], hall: Hall, names: Names)
 pub fn save(hall: Hall, names: Names, room: &mut [u8]) -> Saving
     ensures { λ r. ⌜ Saves hall names (now (room .entry)) r ⌝ }
     ensures { λ _. ⌜ now (room .exit) ≡ roomAfter hall names (now (room .entry)) ⌝ }
-    ensures { λ r. ⌜ told r .written ≤ 1124 ⌝ }
+    ensures { λ r. ⌜ savingAnswer r .written ≤ 1124 ⌝ }
 {
     let extent = extent_of(hall, names);
     let at = extent.octets;

@@ -15,7 +15,7 @@ use Rattle.line.specs.declared.Line.{Line}
 use Rattle.line.specs.Line.{waiting, empty}
 use Rattle.screen.specs.declared.Shown.{Shown}
 use Rattle.screen.specs.declared.Shown.the-variants.{All, NoRoom}
-use Rattle.screen.specs.Screen.{shownIn, answered, told, over, left, listing}
+use Rattle.screen.specs.Screen.{shownIn, answered, shownAnswer, over, left, listing}
 
 -- the first i entries of the line over the room's
 abbrev pub upTo : List Entry → List Entry → ℕ → List Entry
@@ -54,7 +54,7 @@ unfolding answered if_then_else_
 answered-none es places h = rw (lt-leb (length es) places h)
 
 -- the answer in the paper's numbers determines the answer, so any two answers that a promise here allows coincide
-pub told-one : (a b : Shown) → told a ≡ told b → a ≡ b
+pub told-one : (a b : Shown) → shownAnswer a ≡ shownAnswer b → a ≡ b
 told-one (All m) (All n) e = ap All cc
 told-one (All m) NoRoom e = cc
 told-one NoRoom (All n) e = cc

@@ -16,9 +16,9 @@ unfoldable pub shownIn : List Entry → ℕ → ℕ
 shownIn es places = if leb (length es) places then length es else 0
 
 -- the answer in the paper's numbers, and which it is
-abbrev pub told : Shown → Answer ℕ
-told (All n) = result n
-told NoRoom = refused 13
+abbrev pub shownAnswer : Shown → Answer ℕ
+shownAnswer (All n) = result n
+shownAnswer NoRoom = refused 13
 
 unfoldable pub answered : List Entry → ℕ → Answer ℕ
 answered es places = if leb (length es) places then result (length es) else refused 13

@@ -8,6 +8,7 @@ use native.Mathlib.Omega.{arith}
 use lib.Dec.{eqb, leb}
 use lib.ListN.{length}
 use borrow.Author.Tests.{eqb-true, eqb-false, eq-eqb, le-leb, not-true}
+use Rattle.octets.specs.Octets.{nthOctet}
 use Rattle.words.specs.Choice.{if-yes, if-no, by-test}
 use Rattle.words.specs.Below.{allBelow, below}
 use Rattle.words.proofs.Tests.{and-four, and-no}
@@ -17,32 +18,32 @@ use Rattle.hall.specs.Seats.{firstFrom, lowest, finds}
 use Rattle.identities.specs.Identity.{lengthAllowed}
 use Rattle.hall.proofs.Laws.{at-same}
 use Rattle.desk_octets.specs.Places.{highestColumn, flagsColumn}
-use Rattle.desk_octets.specs.Form.{octetAt, upTo, hallFits}
+use Rattle.desk_octets.specs.Form.{upTo, hallFits}
 use Rattle.seat_octets.specs.Layout.{flagsOctet, flagsOf, flagsTop}
 use Rattle.seat_octets.proofs.Bits.{flags-forth}
 use Rattle.desk_octets.proofs.Tests.{all-below, together}
 use Rattle.desk_octets.proofs.Facts.{up-to, hall-facts}
-use Rattle.seats_test.specs.Seated.{ssrcAt, lengthAt, startOf, behind, freeFits}
+use Rattle.seats_test.specs.Seated.{ssrcInOctets, nameLengthAt, startOf, behind, freeFits}
 use Rattle.seats_test.proofs.Same.{finds-at}
 
 -- an octet of flags is zero exactly if it says none
 pub flags-zero : (s : List ℕ) → hallFits s ≡ true → (seat : ℕ) → seat < 16 →
-    eqb (octetAt s (flagsColumn + seat)) 0 ≡ eqb (flagsOctet (flagsOf (octetAt s (flagsColumn + seat)))) 0
+    eqb (nthOctet s (flagsColumn + seat)) 0 ≡ eqb (flagsOctet (flagsOf (nthOctet s (flagsColumn + seat)))) 0
 flags-zero s q seat b =
     ap (λ (n : ℕ). eqb n 0)
-    (sym (flags-forth (octetAt s (flagsColumn + seat)) (up-to flagsTop s flagsColumn 16 (hall-facts s q .flags) seat b)))
+    (sym (flags-forth (nthOctet s (flagsColumn + seat)) (up-to flagsTop s flagsColumn 16 (hall-facts s q .flags) seat b)))
 
 -- of a length that is at most 62 already, only the least is asked
 pub allowed-by-least : (n : ℕ) (o : List ℕ) → n ≡ length o → n ≤ 62 → leb 1 n ≡ lengthAllowed o
 unfolding lengthAllowed
 allowed-by-least n o e h = rw (sym e, le-leb n 62 h) (sym (and-true (leb 1 n)))
 
-no-length : (s : List ℕ) (seat : ℕ) → freeFits s seat ≡ true → lengthAt s seat ≡ 0
+no-length : (s : List ℕ) (seat : ℕ) → freeFits s seat ≡ true → nameLengthAt s seat ≡ 0
 unfolding freeFits
 no-length s seat q =
-    eqb-true (lengthAt s seat) 0
-    (and-four (eqb (ssrcAt s seat) 0) (eqb (octetAt s (highestColumn + seat)) 0) (eqb (octetAt s (flagsColumn + seat)) 0)
-    (eqb (lengthAt s seat) 0) q .3)
+    eqb-true (nameLengthAt s seat) 0
+    (and-four (eqb (ssrcInOctets s seat) 0) (eqb (nthOctet s (highestColumn + seat)) 0) (eqb (nthOctet s (flagsColumn + seat)) 0)
+    (eqb (nameLengthAt s seat) 0) q .3)
 
 -- of a free seat, that has no identity, all sixty-two octets are asked
 pub free-whole : (s : List ℕ) (seat : ℕ) → (upTo 0 s (startOf seat) 62 && freeFits s seat) ≡ (behind s seat && freeFits s seat)
@@ -51,9 +52,9 @@ free-whole s seat =
     by-test (freeFits s seat)
     (λ t. ap (λ (b : Bool). b && freeFits s seat) (none (no-length s seat t)))
     (λ t. and-no (upTo 0 s (startOf seat) 62) (freeFits s seat) t
-    ∙ sym (and-no (upTo 0 s (startOf seat + lengthAt s seat) (62 - lengthAt s seat)) (freeFits s seat) t))
+    ∙ sym (and-no (upTo 0 s (startOf seat + nameLengthAt s seat) (62 - nameLengthAt s seat)) (freeFits s seat) t))
   where
-    none : lengthAt s seat ≡ 0 → upTo 0 s (startOf seat) 62 ≡ upTo 0 s (startOf seat + lengthAt s seat) (62 - lengthAt s seat)
+    none : nameLengthAt s seat ≡ 0 → upTo 0 s (startOf seat) 62 ≡ upTo 0 s (startOf seat + nameLengthAt s seat) (62 - nameLengthAt s seat)
     none e = rw (e, add-zero (startOf seat))
 
 -- the search for the lowest seat finds a seat that passes exactly if none before it does

@@ -1,5 +1,6 @@
 -- A seat's identity in its octets: its length, what stands at each place, the zeros behind it; and when two are the same.
 -- Assumes nothing.
+use Rattle.octets.specs.Octets.{nthOctet}
 use Rattle.desk_octets.specs.Places.{identitiesColumn}
 use Prim.Native.Nat.{ℕ, _+_, _*_, _-_, _≤_, _<_}
 use mathlib.Core.Path.{_≡_, ap, sym, _∙_}
@@ -16,7 +17,7 @@ use Rattle.words.proofs.Tests.{both, or-left, or-right, or-else}
 use Rattle.identities.specs.declared.Name.{Name}
 use Rattle.identities.specs.Identity.{octetsOf, nameAt, same}
 use Rattle.desk_octets.specs.Columns.{column}
-use Rattle.desk_octets.specs.Form.{octetAt, nameIn, namesAt, upTo}
+use Rattle.desk_octets.specs.Form.{nameIn, namesAt, upTo}
 use Rattle.desk_octets.proofs.Columns.{length-column, getD-column}
 use Rattle.desk_octets.proofs.Facts.{up-to}
 use Rattle.desk_octets.proofs.Pieces.{name-of-seat}
@@ -24,59 +25,60 @@ use Rattle.seats_test.specs.Seats.{octetBehind, nameSound}
 use Rattle.desk_octets.proofs.Tests.{all-below, together}
 use Rattle.seats_test.proofs.Same.{same-is}
 use Rattle.identities.proofs.Same.{same-self}
-use Rattle.seats_test.specs.Seated.{lengthAt, startOf, behind}
+use Rattle.seats_test.specs.Seated.{nameLengthAt, startOf, behind}
 use Rattle.identity_octets.specs.Identity.{agree, sameOctets}
 
 -- the octets of a seat's identity
-module _ (s : List ℕ) (seat : ℕ) (b : seat < 16) (fits : lengthAt s seat ≤ 62) where
+module _ (s : List ℕ) (seat : ℕ) (b : seat < 16) (fits : nameLengthAt s seat ≤ 62) where
   abbrev octets : List ℕ
   octets = octetsOf (nameAt (namesAt s) seat)
 
   name-is : nameAt (namesAt s) seat ≡ nameIn s seat
   name-is = name-of-seat s seat b
 
-  row-at : (i : ℕ) → i < 62 → getD (nameIn s seat .octets) i 0 ≡ octetAt s (startOf seat + i)
+  row-at : (i : ℕ) → i < 62 → getD (nameIn s seat .octets) i 0 ≡ nthOctet s (startOf seat + i)
   unfolding nameIn
-  row-at i h = getD-column (octetAt s) (identitiesColumn + 62 * seat) 62 i 0 h
+  row-at i h = getD-column (nthOctet s) (identitiesColumn + 62 * seat) 62 i 0 h
 
-  in-length : length (octetsOf (nameIn s seat)) ≡ lengthAt s seat
+  in-length : length (octetsOf (nameIn s seat)) ≡ nameLengthAt s seat
   unfolding octetsOf nameIn
   in-length =
       omega (
         arith,
-        length-take (lengthAt s seat) (column (octetAt s) (identitiesColumn + 62 * seat) 62),
-        length-column (octetAt s) (identitiesColumn + 62 * seat) 62,
+        length-take (nameLengthAt s seat) (column (nthOctet s) (identitiesColumn + 62 * seat) 62),
+        length-column (nthOctet s) (identitiesColumn + 62 * seat) 62,
       )
 
-  in-at : (i : ℕ) → i < lengthAt s seat → getD (octetsOf (nameIn s seat)) i 0 ≡ octetAt s (startOf seat + i)
+  in-at : (i : ℕ) → i < nameLengthAt s seat → getD (octetsOf (nameIn s seat)) i 0 ≡ nthOctet s (startOf seat + i)
   unfolding octetsOf nameIn
-  in-at i h = getD-take (lengthAt s seat) (column (octetAt s) (identitiesColumn + 62 * seat) 62) i 0 h ∙ row-at i (omega arith)
+  in-at i h = getD-take (nameLengthAt s seat) (column (nthOctet s) (identitiesColumn + 62 * seat) 62) i 0 h ∙ row-at i (omega arith)
 
-  pub octets-length : length octets ≡ lengthAt s seat
+  pub octets-length : length octets ≡ nameLengthAt s seat
   octets-length = ap (λ (n : Name). length (octetsOf n)) name-is ∙ in-length
 
-  pub octets-at : (i : ℕ) → i < lengthAt s seat → getD octets i 0 ≡ octetAt s (startOf seat + i)
+  pub octets-at : (i : ℕ) → i < nameLengthAt s seat → getD octets i 0 ≡ nthOctet s (startOf seat + i)
   octets-at i h = ap (λ (n : Name). getD (octetsOf n) i 0) name-is ∙ in-at i h
 
   -- zeros behind it
   abbrev Zeros : Type 0
-  Zeros = (i : ℕ) → i < 62 → lengthAt s seat ≤ i → octetAt s (startOf seat + i) ≡ 0
+  Zeros = (i : ℕ) → i < 62 → nameLengthAt s seat ≤ i → nthOctet s (startOf seat + i) ≡ 0
 
   behind-zeros : behind s seat ≡ true → Zeros
   unfolding behind
   behind-zeros q i h k =
-      let e : startOf seat + lengthAt s seat + (i - lengthAt s seat) ≡ startOf seat + i = omega arith in
-      let l : octetAt s (startOf seat + lengthAt s seat + (i - lengthAt s seat)) ≤ 0 =
-      up-to 0 s (startOf seat + lengthAt s seat) (62 - lengthAt s seat) q (i - lengthAt s seat) (omega arith) in
-      ap (octetAt s) (sym e) ∙ omega arith
+      let e : startOf seat + nameLengthAt s seat + (i - nameLengthAt s seat) ≡ startOf seat + i = omega arith in
+      let l : nthOctet s (startOf seat + nameLengthAt s seat + (i - nameLengthAt s seat)) ≤ 0 =
+      up-to 0 s (startOf seat + nameLengthAt s seat) (62 - nameLengthAt s seat) q (i - nameLengthAt s seat) (omega arith) in
+      ap (nthOctet s) (sym e) ∙ omega arith
 
   zeros-behind : Zeros → behind s seat ≡ true
   unfolding behind upTo
   zeros-behind z =
-      all-below (λ j. leb (octetAt s (startOf seat + lengthAt s seat + j)) 0) (62 - lengthAt s seat)
-      (λ i h. let e : startOf seat + lengthAt s seat + i ≡ startOf seat + (lengthAt s seat + i) = omega arith in
-      let y : octetAt s (startOf seat + lengthAt s seat + i) ≡ 0 = ap (octetAt s) e ∙ z (lengthAt s seat + i) (omega arith) (omega arith) in
-      le-leb (octetAt s (startOf seat + lengthAt s seat + i)) 0 (omega arith))
+      all-below (λ j. leb (nthOctet s (startOf seat + nameLengthAt s seat + j)) 0) (62 - nameLengthAt s seat)
+      (λ i h. let e : startOf seat + nameLengthAt s seat + i ≡ startOf seat + (nameLengthAt s seat + i) = omega arith in
+      let y : nthOctet s (startOf seat + nameLengthAt s seat + i) ≡ 0 =
+      ap (nthOctet s) e ∙ z (nameLengthAt s seat + i) (omega arith) (omega arith) in
+      le-leb (nthOctet s (startOf seat + nameLengthAt s seat + i)) 0 (omega arith))
 
   len-is : nameIn s seat .len ≡ length (octetsOf (nameIn s seat))
   unfolding nameIn
@@ -103,33 +105,34 @@ module _ (s : List ℕ) (seat : ℕ) (b : seat < 16) (fits : lengthAt s seat ≤
   name-sound = in-sound ∙ ap nameSound (sym name-is)
 
 -- two identities with zeros behind them are the same exactly if their lengths and their sixty-two octets are
-module _ (s : List ℕ) (t u : ℕ) (b : t < 16) (d : u < 16) (e : lengthAt s t ≤ 62) (f : lengthAt s u ≤ 62) where
-  lists-same : lengthAt s t ≡ lengthAt s u → sameOctets s (startOf t) (startOf u) ≡ true → octets s t b e ≡ octets s u d f
+module _ (s : List ℕ) (t u : ℕ) (b : t < 16) (d : u < 16) (e : nameLengthAt s t ≤ 62) (f : nameLengthAt s u ≤ 62) where
+  lists-same : nameLengthAt s t ≡ nameLengthAt s u → sameOctets s (startOf t) (startOf u) ≡ true → octets s t b e ≡ octets s u d f
   unfolding sameOctets
   lists-same l q =
       ext-getD 0 (octets s t b e) (octets s u d f) (octets-length s t b e ∙ l ∙ sym (octets-length s u d f))
-      (λ i h. let k : i < lengthAt s t = rw (octets-length s t b e) at h in
+      (λ i h. let k : i < nameLengthAt s t = rw (octets-length s t b e) at h in
       octets-at s t b e i k ∙ eqb-true _ _ (below (agree s (startOf t) (startOf u)) 62 q i (omega arith))
       ∙ sym (octets-at s u d f i (omega arith)))
 
   rows-same : Zeros s t b e → Zeros s u d f → octets s t b e ≡ octets s u d f → sameOctets s (startOf t) (startOf u) ≡ true
   unfolding sameOctets
   rows-same y z q =
-      let l : lengthAt s t ≡ lengthAt s u = sym (octets-length s t b e) ∙ ap length q ∙ octets-length s u d f in
+      let l : nameLengthAt s t ≡ nameLengthAt s u = sym (octets-length s t b e) ∙ ap length q ∙ octets-length s u d f in
       all-below (agree s (startOf t) (startOf u)) 62
-      (λ i h. eq-eqb _ _ (by-test (ltb i (lengthAt s t))
-      (λ m. let k : i < lengthAt s t = ltb-true i (lengthAt s t) m in
+      (λ i h. eq-eqb _ _ (by-test (ltb i (nameLengthAt s t))
+      (λ m. let k : i < nameLengthAt s t = ltb-true i (nameLengthAt s t) m in
       sym (octets-at s t b e i k) ∙ ap (λ (o : List ℕ). getD o i 0) q ∙ octets-at s u d f i (omega arith))
-      (λ m. let k : lengthAt s t ≤ i = ltb-false i (lengthAt s t) m in y i h k ∙ sym (z i h (omega arith)))))
+      (λ m. let k : nameLengthAt s t ≤ i = ltb-false i (nameLengthAt s t) m in y i h k ∙ sym (z i h (omega arith)))))
 
   pub names-same : behind s t ≡ true → behind s u ≡ true →
-      (eqb (lengthAt s t) (lengthAt s u) && sameOctets s (startOf t) (startOf u)) ≡ same (octets s t b e) (octets s u d f)
+      (eqb (nameLengthAt s t) (nameLengthAt s u) && sameOctets s (startOf t) (startOf u)) ≡ same (octets s t b e) (octets s u d f)
   names-same y z =
-      together (eqb (lengthAt s t) (lengthAt s u) && sameOctets s (startOf t) (startOf u)) (same (octets s t b e) (octets s u d f))
-      (λ q. let o = lists-same (eqb-true _ _ (and-left (eqb (lengthAt s t) (lengthAt s u)) (sameOctets s (startOf t) (startOf u)) q))
-      (and-right (eqb (lengthAt s t) (lengthAt s u)) (sameOctets s (startOf t) (startOf u)) q) in
+      together (eqb (nameLengthAt s t) (nameLengthAt s u) && sameOctets s (startOf t) (startOf u)) (same (octets s t b e) (octets s u d f))
+      (λ q. let o = lists-same
+      (eqb-true _ _ (and-left (eqb (nameLengthAt s t) (nameLengthAt s u)) (sameOctets s (startOf t) (startOf u)) q))
+      (and-right (eqb (nameLengthAt s t) (nameLengthAt s u)) (sameOctets s (startOf t) (startOf u)) q) in
       ap (λ (x : List ℕ). same x (octets s u d f)) o ∙ same-self (octets s u d f))
       (λ q. let o = same-is (octets s t b e) (octets s u d f) q in
-      both (eqb (lengthAt s t) (lengthAt s u)) (sameOctets s (startOf t) (startOf u))
+      both (eqb (nameLengthAt s t) (nameLengthAt s u)) (sameOctets s (startOf t) (startOf u))
       (eq-eqb _ _ (sym (octets-length s t b e) ∙ ap length o ∙ octets-length s u d f))
       (rows-same (behind-zeros s t b e y) (behind-zeros s u d f z) o))

@@ -21,7 +21,8 @@ use Rattle.desk_octets.proofs.Tests.{together, below-same}
 use Rattle.desk_octets.proofs.InOctets.{present-is, flags-are, highest-is, ssrc-is, settings-are}
 use Rattle.desk_octets.proofs.Facts.{fits-length}
 use Rattle.identities.proofs.Same.{same-self}
-use Rattle.seats_test.specs.Seated.{takenAt, ssrcAt, lengthAt, startOf, hasSsrcOf, hasNameOf, ssrcFirst, nameFirst, behind, takenFits}
+use Rattle.seats_test.specs.Seated.{takenAt, ssrcInOctets, nameLengthAt, startOf, hasSsrcOf, hasNameOf, ssrcFirst, nameFirst, behind}
+use Rattle.seats_test.specs.Seated.{takenFits}
 use Rattle.seats_test.specs.Seated.{freeFits, seatFits, seatsFit}
 use Rattle.identity_octets.specs.Identity.{sameOctets}
 use Rattle.seats_test.proofs.Laws.{finds-lowest, allowed-by-least, flags-zero}
@@ -33,7 +34,7 @@ own-is s = refl
 
 -- the searches, for octets whose lengths fit
 module _ (s : List ℕ) (hall : hallFits s ≡ true) (fits : namesFit s ≡ true) where
-  len : (seat : ℕ) → seat < 16 → lengthAt s seat ≤ 62
+  len : (seat : ℕ) → seat < 16 → nameLengthAt s seat ≤ 62
   len = fits-length s fits
 
   ssrc-same : (x t : ℕ) → t < 16 → hasSsrcOf s x t ≡ hasSsrc (hallAt s) x t
@@ -45,7 +46,7 @@ module _ (s : List ℕ) (hall : hallFits s ≡ true) (fits : namesFit s ≡ true
   unfolding ssrcFirst seatOf
   ssrc-first seat b t =
       let x = test.ssrcAt (hallAt s) seat in
-      below-same (λ j. not (hasSsrcOf s (ssrcAt s seat) j)) (λ j. not (hasSsrc (hallAt s) x j)) seat
+      below-same (λ j. not (hasSsrcOf s (ssrcInOctets s seat) j)) (λ j. not (hasSsrc (hallAt s) x j)) seat
       (λ j h. ap (λ (y : ℕ). not (hasSsrcOf s y j)) (ssrc-is s seat b) ∙ ap not (ssrc-same x j (omega arith)))
       ∙ sym (finds-lowest (hasSsrc (hallAt s) x) seat b
       (both (isPresent (hallAt s) seat) (eqb x x) (sym (present-is s seat b) ∙ t) (eq-eqb x x refl)))
@@ -54,7 +55,7 @@ module _ (s : List ℕ) (hall : hallFits s ≡ true) (fits : namesFit s ≡ true
     name-same : (u t : ℕ) → u < 16 → t < 16 → hasNameOf s u t ≡ hasName (hallAt s) (namesAt s) (octetsOf (nameAt (namesAt s) u)) t
     unfolding hasNameOf
     name-same u t d b =
-        and-assoc (takenAt s t) (eqb (lengthAt s t) (lengthAt s u)) (sameOctets s (startOf t) (startOf u))
+        and-assoc (takenAt s t) (eqb (nameLengthAt s t) (nameLengthAt s u)) (sameOctets s (startOf t) (startOf u))
         ∙ rw (present-is s t b, names-same s t u b d (len t b) (len u d) (all t b) (all u d))
 
     name-first : (seat : ℕ) → seat < 16 → takenAt s seat ≡ true →
@@ -73,7 +74,8 @@ module _ (s : List ℕ) (hall : hallFits s ≡ true) (fits : namesFit s ≡ true
         rw (
           ssrc-first seat b t,
           name-first seat b t,
-          allowed-by-least (lengthAt s seat) (octetsOf (nameAt (namesAt s) seat)) (sym (octets-length s seat b (len seat b))) (len seat b),
+          allowed-by-least (nameLengthAt s seat) (octetsOf (nameAt (namesAt s) seat)) (sym (octets-length s seat b (len seat b)))
+              (len seat b),
           ssrc-is s seat b,
           own-is s,
         )

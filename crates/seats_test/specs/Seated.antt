@@ -8,49 +8,50 @@ use mathlib.Core.List.{List}
 use lib.Dec.{leb, eqb}
 use Rattle.words.specs.Choice.{if_then_else_}
 use Rattle.words.specs.Below.{allBelow}
-use Rattle.octets.specs.Octets.{be32}
+use Rattle.octets.specs.Octets.{be32, nthOctet}
 use Rattle.hall.specs.Seats.{inRange}
-use Rattle.desk_octets.specs.Form.{octetAt, boolAt, settingsAt, upTo}
+use Rattle.desk_octets.specs.Form.{boolAt, settingsAt, upTo}
 use Rattle.identity_octets.specs.Identity.{sameOctets}
 
 -- what stands there of a seat
 abbrev pub takenAt : List ℕ → ℕ → Bool
 takenAt s seat = boolAt s (takenColumn + seat)
 
-abbrev pub ssrcAt : List ℕ → ℕ → ℕ
-ssrcAt s seat = be32 s (ssrcsColumn + 4 * seat)
+abbrev pub ssrcInOctets : List ℕ → ℕ → ℕ
+ssrcInOctets s seat = be32 s (ssrcsColumn + 4 * seat)
 
-abbrev pub lengthAt : List ℕ → ℕ → ℕ
-lengthAt s seat = octetAt s (lengthsColumn + seat)
+abbrev pub nameLengthAt : List ℕ → ℕ → ℕ
+nameLengthAt s seat = nthOctet s (lengthsColumn + seat)
 
 abbrev pub startOf : ℕ → ℕ
 startOf seat = identitiesColumn + 62 * seat
 
 -- a taken seat that has this SSRC; one that has the identity of another
 unfoldable pub hasSsrcOf : List ℕ → ℕ → ℕ → Bool
-hasSsrcOf s ssrc seat = takenAt s seat && eqb (ssrcAt s seat) ssrc
+hasSsrcOf s ssrc seat = takenAt s seat && eqb (ssrcInOctets s seat) ssrc
 
 unfoldable pub hasNameOf : List ℕ → ℕ → ℕ → Bool
-hasNameOf s other seat = takenAt s seat && eqb (lengthAt s seat) (lengthAt s other) && sameOctets s (startOf seat) (startOf other)
+hasNameOf s other seat = takenAt s seat && eqb (nameLengthAt s seat) (nameLengthAt s other) && sameOctets s (startOf seat) (startOf other)
 
 -- no earlier seat has what this one has
 unfoldable pub ssrcFirst : List ℕ → ℕ → Bool
-ssrcFirst s seat = allBelow (λ t. not (hasSsrcOf s (ssrcAt s seat) t)) seat
+ssrcFirst s seat = allBelow (λ t. not (hasSsrcOf s (ssrcInOctets s seat) t)) seat
 
 unfoldable pub nameFirst : List ℕ → ℕ → Bool
 nameFirst s seat = allBelow (λ t. not (hasNameOf s seat t)) seat
 
 -- zeros behind a seat's identity
 unfoldable pub behind : List ℕ → ℕ → Bool
-behind s seat = upTo 0 s (startOf seat + lengthAt s seat) (62 - lengthAt s seat)
+behind s seat = upTo 0 s (startOf seat + nameLengthAt s seat) (62 - nameLengthAt s seat)
 
 unfoldable pub takenFits : List ℕ → ℕ → Bool
-takenFits s seat = not (eqb (ssrcAt s seat) (be32 s settingsStart)) && ssrcFirst s seat && leb 1 (lengthAt s seat) && nameFirst s seat
+takenFits s seat =
+    not (eqb (ssrcInOctets s seat) (be32 s settingsStart)) && ssrcFirst s seat && leb 1 (nameLengthAt s seat) && nameFirst s seat
 
 unfoldable pub freeFits : List ℕ → ℕ → Bool
 freeFits s seat =
-    eqb (ssrcAt s seat) 0 && eqb (octetAt s (highestColumn + seat)) 0 && eqb (octetAt s (flagsColumn + seat)) 0
-    && eqb (lengthAt s seat) 0
+    eqb (ssrcInOctets s seat) 0 && eqb (nthOctet s (highestColumn + seat)) 0 && eqb (nthOctet s (flagsColumn + seat)) 0
+    && eqb (nameLengthAt s seat) 0
 
 unfoldable pub seatFits : List ℕ → ℕ → Bool
 seatFits s seat = behind s seat && (if takenAt s seat then takenFits s seat else freeFits s seat)

@@ -11,16 +11,17 @@ ghost use mathlib.Core.Path.{_≡_};
 ghost use mathlib.Core.Bool.{true};
 ghost use Prim.Native.Nat.{_+_, _≤_, _<_};
 ghost use lib.ListN.{length};
+ghost use Rattle.octets.specs.Octets.{nthOctet};
 ghost use Rattle.words.specs.Below.{allBelow};
-ghost use Rattle.desk_octets.specs.Form.{octetAt, hallAt, namesAt, hallFits, namesFit};
+ghost use Rattle.desk_octets.specs.Form.{hallAt, namesAt, hallFits, namesFit};
 ghost use Rattle.seats_test.specs.Seats.{seatsSound};
-ghost use Rattle.seats_test.specs.Seated.{ssrcAt, hasSsrcOf, hasNameOf, ssrcFirst, nameFirst, behind, takenFits, freeFits, seatFits};
+ghost use Rattle.seats_test.specs.Seated.{ssrcInOctets, hasSsrcOf, hasNameOf, ssrcFirst, nameFirst, behind, takenFits, freeFits, seatFits};
 ghost use Rattle.desk_octets.specs.Places.{lengthsColumn, deskSize};
 
 fn behind_is_zero(s: &[u8], seat: usize) -> bool
     requires { ⌜ deskSize ≤ length (now s) ⌝ }
     requires { ⌜ seat < 16 ⌝ }
-    requires { ⌜ octetAt (now s) (lengthsColumn + seat) ≤ 62 ⌝ }
+    requires { ⌜ nthOctet (now s) (lengthsColumn + seat) ≤ 62 ⌝ }
     ensures { λ r. ⌜ r ≡ behind (now (s .entry)) seat ⌝ }
 {
     let at = IDENTITIES_COLUMN + 62 * seat;
@@ -47,7 +48,7 @@ fn has_ssrc(s: &[u8], seat: usize, ssrc: u32) -> bool
 fn ssrc_is_first(s: &[u8], seat: usize, ssrc: u32) -> bool
     requires { ⌜ deskSize ≤ length (now s) ⌝ }
     requires { ⌜ seat < 16 ⌝ }
-    requires { ⌜ ssrc ≡ ssrcAt (now s) seat ⌝ }
+    requires { ⌜ ssrc ≡ ssrcInOctets (now s) seat ⌝ }
     ensures { λ r. ⌜ r ≡ ssrcFirst (now (s .entry)) seat ⌝ }
 {
     let mut ok = true;
@@ -99,7 +100,7 @@ fn name_is_first(s: &[u8], seat: usize) -> bool
 fn taken_fits(s: &[u8], seat: usize, ssrc: u32) -> bool
     requires { ⌜ deskSize ≤ length (now s) ⌝ }
     requires { ⌜ seat < 16 ⌝ }
-    requires { ⌜ ssrc ≡ ssrcAt (now s) seat ⌝ }
+    requires { ⌜ ssrc ≡ ssrcInOctets (now s) seat ⌝ }
     ensures { λ r. ⌜ r ≡ takenFits (now (s .entry)) seat ⌝ }
 {
     let own = ssrc == octets::number32(s, SETTINGS_START);
@@ -112,7 +113,7 @@ fn taken_fits(s: &[u8], seat: usize, ssrc: u32) -> bool
 fn free_fits(s: &[u8], seat: usize, ssrc: u32) -> bool
     requires { ⌜ deskSize ≤ length (now s) ⌝ }
     requires { ⌜ seat < 16 ⌝ }
-    requires { ⌜ ssrc ≡ ssrcAt (now s) seat ⌝ }
+    requires { ⌜ ssrc ≡ ssrcInOctets (now s) seat ⌝ }
     ensures { λ r. ⌜ r ≡ freeFits (now (s .entry)) seat ⌝ }
 {
     let no_ssrc = ssrc == 0;
@@ -125,7 +126,7 @@ fn free_fits(s: &[u8], seat: usize, ssrc: u32) -> bool
 fn seat_fits(s: &[u8], seat: usize) -> bool
     requires { ⌜ deskSize ≤ length (now s) ⌝ }
     requires { ⌜ seat < 16 ⌝ }
-    requires { ⌜ octetAt (now s) (lengthsColumn + seat) ≤ 62 ⌝ }
+    requires { ⌜ nthOctet (now s) (lengthsColumn + seat) ≤ 62 ⌝ }
     ensures { λ r. ⌜ r ≡ seatFits (now (s .entry)) seat ⌝ }
 {
     let ssrc = octets::number32(s, SSRCS_COLUMN + 4 * seat);

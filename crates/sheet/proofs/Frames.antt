@@ -9,13 +9,13 @@ use borrow.Author.Tests.{lt-ltb, le-ltb, eq-eqb, ne-eqb, ltb-true, ltb-false, eq
 use Rattle.words.specs.Choice.{if_then_else_, by-test}
 use Rattle.sheet.specs.declared.Verdict.{Verdict}
 use Rattle.sheet.specs.declared.Verdict.the-variants.{Accepted, NotASheet, OtherForm, WrongPlaces}
-use Rattle.sheet.specs.Layout.{form, letters, tailSize}
-use Rattle.sheet.specs.Framing.{settingsOffset, seatsOffset, seatCount, formOf, lettersOf, number, framing}
+use Rattle.sheet.specs.Layout.{form, sheetLetters, tailSize}
+use Rattle.sheet.specs.Framing.{settingsOffset, seatsOffset, seatCount, formOf, lettersOf, verdictNumber, framing}
 
 -- nothing is wrong with the trailer
 pub record Framed (s : List ℕ) : Type 0 where
   pub long : tailSize ≤ length s
-  pub lettered : lettersOf s ≡ letters
+  pub lettered : lettersOf s ≡ sheetLetters
   pub formed : formOf s ≡ form
   pub few : seatCount s ≤ 16
   pub placed : settingsOffset s + tailSize ≡ length s
@@ -27,20 +27,20 @@ module _ (s : List ℕ) where
   frames-short h = rw (lt-ltb (length s) tailSize h)
 
   module _ (h1 : tailSize ≤ length s) where
-    pub frames-letters : (lettersOf s ≡ letters → ⊥) → framing s ≡ NotASheet
+    pub frames-letters : (lettersOf s ≡ sheetLetters → ⊥) → framing s ≡ NotASheet
     unfolding framing if_then_else_
-    frames-letters h = rw (le-ltb (length s) tailSize h1, ne-eqb (lettersOf s) letters h)
+    frames-letters h = rw (le-ltb (length s) tailSize h1, ne-eqb (lettersOf s) sheetLetters h)
 
-    module _ (h2 : lettersOf s ≡ letters) where
+    module _ (h2 : lettersOf s ≡ sheetLetters) where
       pub frames-form : (formOf s ≡ form → ⊥) → framing s ≡ OtherForm
       unfolding framing if_then_else_
-      frames-form h = rw (le-ltb (length s) tailSize h1, eq-eqb (lettersOf s) letters h2, ne-eqb (formOf s) form h)
+      frames-form h = rw (le-ltb (length s) tailSize h1, eq-eqb (lettersOf s) sheetLetters h2, ne-eqb (formOf s) form h)
 
       module _ (h3 : formOf s ≡ form) where
         pub frames-count : 16 < seatCount s → framing s ≡ WrongPlaces
         unfolding framing if_then_else_
         frames-count h =
-            rw (le-ltb (length s) tailSize h1, eq-eqb (lettersOf s) letters h2, eq-eqb (formOf s) form h3, lt-ltb 16 (seatCount s) h)
+            rw (le-ltb (length s) tailSize h1, eq-eqb (lettersOf s) sheetLetters h2, eq-eqb (formOf s) form h3, lt-ltb 16 (seatCount s) h)
 
         module _ (h4 : seatCount s ≤ 16) where
           pub frames-settings : (settingsOffset s + tailSize ≡ length s → ⊥) → framing s ≡ WrongPlaces
@@ -48,7 +48,7 @@ module _ (s : List ℕ) where
           frames-settings h =
               rw (
                 le-ltb (length s) tailSize h1,
-                eq-eqb (lettersOf s) letters h2,
+                eq-eqb (lettersOf s) sheetLetters h2,
                 eq-eqb (formOf s) form h3,
                 le-ltb 16 (seatCount s) h4,
                 ne-eqb (settingsOffset s + tailSize) (length s) h,
@@ -60,7 +60,7 @@ module _ (s : List ℕ) where
             frames-seats h =
                 rw (
                   le-ltb (length s) tailSize h1,
-                  eq-eqb (lettersOf s) letters h2,
+                  eq-eqb (lettersOf s) sheetLetters h2,
                   eq-eqb (formOf s) form h3,
                   le-ltb 16 (seatCount s) h4,
                   eq-eqb (settingsOffset s + tailSize) (length s) h5,
@@ -73,25 +73,25 @@ module _ (s : List ℕ) where
   frames k =
       rw (
         le-ltb (length s) tailSize (k .long),
-        eq-eqb (lettersOf s) letters (k .lettered),
+        eq-eqb (lettersOf s) sheetLetters (k .lettered),
         eq-eqb (formOf s) form (k .formed),
         le-ltb 16 (seatCount s) (k .few),
         eq-eqb (settingsOffset s + tailSize) (length s) (k .placed),
         eq-eqb (seatsOffset s) 0 (k .first),
       )
 
-  module _ (a : number (framing s) ≡ 0) where
-    not-so : {P : Type 0} (v : Verdict) (n : ℕ) → number v ≡ suc n → framing s ≡ v → P
-    not-so v n k e = absurd (let q : suc n ≡ 0 = sym k ∙ ap number (sym e) ∙ a in omega arith)
+  module _ (a : verdictNumber (framing s) ≡ 0) where
+    not-so : {P : Type 0} (v : Verdict) (n : ℕ) → verdictNumber v ≡ suc n → framing s ≡ v → P
+    not-so v n k e = absurd (let q : suc n ≡ 0 = sym k ∙ ap verdictNumber (sym e) ∙ a in omega arith)
 
     pub framed : Framed s
     framed =
         by-test (ltb (length s) tailSize) (λ t. not-so NotASheet 40 refl (frames-short (ltb-true (length s) tailSize t)))
         (λ t.
         let h1 = ltb-false (length s) tailSize t in
-        by-test (eqb (lettersOf s) letters)
+        by-test (eqb (lettersOf s) sheetLetters)
         (λ u.
-        let h2 = eqb-true (lettersOf s) letters u in
+        let h2 = eqb-true (lettersOf s) sheetLetters u in
         by-test (eqb (formOf s) form)
         (λ v.
         let h3 = eqb-true (formOf s) form v in
@@ -106,4 +106,4 @@ module _ (s : List ℕ) where
         (λ y. not-so WrongPlaces 42 refl (frames-seats h1 h2 h3 h4 h5 (eqb-false (seatsOffset s) 0 y))))
         (λ x. not-so WrongPlaces 42 refl (frames-settings h1 h2 h3 h4 (eqb-false (settingsOffset s + tailSize) (length s) x)))))
         (λ v. not-so OtherForm 41 refl (frames-form h1 h2 (eqb-false (formOf s) form v))))
-        (λ u. not-so NotASheet 40 refl (frames-letters h1 (eqb-false (lettersOf s) letters u))))
+        (λ u. not-so NotASheet 40 refl (frames-letters h1 (eqb-false (lettersOf s) sheetLetters u))))

@@ -9,7 +9,7 @@ use Rattle.words.specs.Choice.{if_then_else_}
 use Rattle.octets.specs.Octets.{be16}
 use Rattle.sheet.specs.declared.Verdict.{Verdict}
 use Rattle.sheet.specs.declared.Verdict.the-variants.{Accepted, NotASheet, OtherForm, WrongPlaces, OutsideRange, SeatAtFault}
-use Rattle.sheet.specs.Layout.{form, letters, trailerSize, tailSize}
+use Rattle.sheet.specs.Layout.{form, sheetLetters, trailerSize, tailSize}
 
 -- where the settings and the trailer stand
 abbrev pub settingsPlace : List ℕ → ℕ
@@ -35,18 +35,18 @@ abbrev pub lettersOf : List ℕ → ℕ
 lettersOf s = be16 s (trailerPlace s + 6)
 
 -- loading's answers, in the paper's numbers
-abbrev pub number : Verdict → ℕ
-number Accepted = 0
-number NotASheet = 41
-number OtherForm = 42
-number WrongPlaces = 43
-number OutsideRange = 44
-number SeatAtFault = 45
+abbrev pub verdictNumber : Verdict → ℕ
+verdictNumber Accepted = 0
+verdictNumber NotASheet = 41
+verdictNumber OtherForm = 42
+verdictNumber WrongPlaces = 43
+verdictNumber OutsideRange = 44
+verdictNumber SeatAtFault = 45
 
 -- 41 under 20 octets or no FS; 42 form; 43 count above 16, settings not 20 octets before the end, or seats' offset not zero
 unfoldable pub framing : List ℕ → Verdict
 framing s =
-    if ltb (length s) tailSize || not (eqb (lettersOf s) letters) then NotASheet
+    if ltb (length s) tailSize || not (eqb (lettersOf s) sheetLetters) then NotASheet
     else if not (eqb (formOf s) form) then OtherForm
     else if ltb 16 (seatCount s) || not (eqb (settingsOffset s + tailSize) (length s)) || not (eqb (seatsOffset s) 0) then WrongPlaces
     else Accepted

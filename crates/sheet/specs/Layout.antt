@@ -32,8 +32,8 @@ abbrev pub form : ℕ
 form = 1
 
 -- the letters F and S, as one number
-abbrev pub letters : ℕ
-letters = 0x4653
+abbrev pub sheetLetters : ℕ
+sheetLetters = 0x4653
 
 -- the octets of a seat before its identity; of the trailer; of all that stands behind the seats
 abbrev pub seatHead : ℕ
@@ -58,7 +58,7 @@ seatsOctets [] = []
 seatsOctets (x ∷ xs) = seatOctets x ++ seatsOctets xs
 
 unfoldable pub trailer : ℕ → ℕ → List ℕ
-trailer settingsAt count = octets16 settingsAt ++ octets16 0 ++ count ∷ form ∷ octets16 letters
+trailer settingsAt count = octets16 settingsAt ++ octets16 0 ++ count ∷ form ∷ octets16 sheetLetters
 
 -- the sheet of some seats and settings
 unfoldable pub sheet : List Seat → Settings → List ℕ

@@ -5,7 +5,7 @@ ghost use Prim.Native.Nat.{_+_, _≤_};
 ghost use lib.ListN.{length};
 ghost use Rattle.octets.specs.Octets.{over};
 ghost use Rattle.sheet.specs.Layout.{trailerSize, trailer};
-ghost use Rattle.sheet.specs.Framing.{number, framing, seatCount};
+ghost use Rattle.sheet.specs.Framing.{verdictNumber, framing, seatCount};
 
 // The form that is written and read, and the letters F and S as one number.
 const FORM: u8 = 1;
@@ -40,7 +40,7 @@ pub enum Verdict {
 
 // The number of a verdict; 0 is accepted.
 pub fn verdict_number(verdict: Verdict) -> u8
-    ensures { λ r. ⌜ r ≡ number verdict ⌝ }
+    ensures { λ r. ⌜ r ≡ verdictNumber verdict ⌝ }
 {
     match verdict {
         Verdict::Accepted => 0,

@@ -16,7 +16,7 @@ use Rattle.identities.specs.Identity.{noNames}
 use Rattle.seat_octets.specs.Layout.{settingsSize, settingsOctets}
 use Rattle.seat_octets.proofs.SettingsLaws.{settings-forth}
 use Rattle.sheet.specs.Layout.{Seat, tailSize, seatsOctets, trailer, sheet, sheetOf}
-use Rattle.sheet.specs.Framing.{settingsPlace, trailerPlace, settingsOffset, seatCount, number, framing}
+use Rattle.sheet.specs.Framing.{settingsPlace, trailerPlace, settingsOffset, seatCount, verdictNumber, framing}
 use Rattle.sheet.proofs.Frames.{Framed, framed}
 use Rattle.loading.specs.Loading.{Load, refused, settingsOn, zeros, Seats, whole, fault, readSeats, joinAll, seatAll, settled, loading}
 use Rattle.loading.proofs.Loads.{loads-framed, loads-refused, settles-range, settles-zeros, settles}
@@ -46,9 +46,9 @@ module _ (s : List ℕ) (a : loading s .number ≡ 0) where
 
   sound : Sound s
   sound =
-      by-test (eqb (number (framing s)) 0)
+      by-test (eqb (verdictNumber (framing s)) 0)
       (λ t.
-      let f = eqb-true (number (framing s)) 0 t in
+      let f = eqb-true (verdictNumber (framing s)) 0 t in
       let goes = loads-framed s f in
       by-test (inRange (settingsOn s))
       (λ r.
@@ -56,7 +56,8 @@ module _ (s : List ℕ) (a : loading s .number ≡ 0) where
       (λ z. record { frame = framed s f; range = r; zero = eqb-true (zeros s) 0 z; goes = goes })
       (λ z. not-so 44 (above 43) (goes ∙ settles-zeros s r (eqb-false (zeros s) 0 z))))
       (λ r. not-so 44 (above 43) (goes ∙ settles-range s r)))
-      (λ t. let k = eqb-false (number (framing s)) 0 t in not-so (number (framing s)) k (loads-refused s (number (framing s)) refl k))
+      (λ t. let k = eqb-false (verdictNumber (framing s)) 0 t in
+      not-so (verdictNumber (framing s)) k (loads-refused s (verdictNumber (framing s)) refl k))
 
   abbrev st : Settings
   st = settingsOn s

@@ -12,7 +12,7 @@ use Rattle.hall.specs.Seats.{inRange, emptyHall, isPresent}
 use Rattle.identities.specs.declared.Names.{Names}
 use Rattle.identities.specs.Identity.{noNames}
 use Rattle.sheet.specs.Layout.{Seat, seatsFrom, seatsOf, sheet, sheetOf}
-use Rattle.sheet.specs.Framing.{seatCount, number}
+use Rattle.sheet.specs.Framing.{seatCount, verdictNumber}
 use Rattle.sheet.proofs.Frames.{frames}
 use Rattle.loading.specs.Loading.{Load, Seats, readSeats, joinAll, seatAll, loading}
 use Rattle.loading.proofs.Loads.{loads-framed, settles}
@@ -29,7 +29,7 @@ loads-sheet : (zs : List Seat) (st : Settings) → length zs ≤ 16 → inRange 
     loading (sheet zs st) ≡ joinAll (emptyHall st) noNames zs
 loads-sheet zs st few r =
     let s = sheet zs st in
-    loads-framed s (ap number (frames s (framed-sheet zs st few)))
+    loads-framed s (ap verdictNumber (frames s (framed-sheet zs st few)))
     ∙ settles s (ap inRange (settings-read zs st) ∙ r) (zeros-read zs st)
     ∙ ap (λ (t : Settings). seatAll (emptyHall t) noNames (readSeats (seatCount s) s 0)) (settings-read zs st)
     ∙ ap (λ (x : Seats). seatAll (emptyHall st) noNames x) (seats-again zs st)

@@ -8,9 +8,9 @@ use Rattle.sheet.specs.declared.Verdict.the-variants.{Accepted, NotASheet, Othe
 use Rattle.loading.specs.declared.Loading.{Loading}
 use Rattle.saving.specs.declared.Saving.{Saving}
 use Rattle.saving.specs.declared.Saving.the-variants.{Saved, NoRoom}
-use Rattle.sheet.specs.Framing.{number}
-use Rattle.loading.specs.Loading.{Load, told as toldByLoad}
-use Rattle.saving.specs.Saving.{Save, told as toldBySave}
+use Rattle.sheet.specs.Framing.{verdictNumber}
+use Rattle.loading.specs.Loading.{Load, loadingAnswer}
+use Rattle.saving.specs.Saving.{Save, savingAnswer}
 use Rattle.sheet_laws.specs.Sheets.{LoadingsCoincide, SavingsCoincide}
 
 verdictOf : ℕ → Verdict
@@ -22,7 +22,7 @@ verdictOf n =
     else if eqb n 44 then OutsideRange
     else SeatAtFault
 
-verdict-again : (v : Verdict) → verdictOf (number v) ≡ v
+verdict-again : (v : Verdict) → verdictOf (verdictNumber v) ≡ v
 unfolding verdictOf if_then_else_
 verdict-again Accepted = refl
 verdict-again NotASheet = refl
@@ -34,7 +34,7 @@ verdict-again SeatAtFault = refl
 loadingOf : Load → Loading
 loadingOf l = record { verdict = verdictOf (l .number); core = l .core; hall = l .hall; names = l .names }
 
-loading-again : (a : Loading) → loadingOf (toldByLoad a) ≡ a
+loading-again : (a : Loading) → loadingOf (loadingAnswer a) ≡ a
 unfolding loadingOf
 loading-again a = rw (verdict-again (a .verdict))
 
@@ -44,7 +44,7 @@ loadings-coincide s a b e f = sym (loading-again a) ∙ ap loadingOf (e ∙ sym 
 savingOf : Save → Saving
 savingOf s = if eqb (s .number) 0 then Saved (s .written) else NoRoom
 
-saving-again : (a : Saving) → savingOf (toldBySave a) ≡ a
+saving-again : (a : Saving) → savingOf (savingAnswer a) ≡ a
 unfolding savingOf if_then_else_
 saving-again (Saved n) = refl
 saving-again NoRoom = refl

@@ -19,7 +19,7 @@ use Rattle.seat_octets.proofs.Bits.{flags-forth}
 use Rattle.sheet.specs.Layout.{Seat, trailerSize, tailSize, seatOctets, seatsOctets, trailer}
 use Rattle.sheet.specs.Framing.{settingsPlace, trailerPlace, settingsOffset, seatsOffset, seatCount, formOf, lettersOf}
 use Rattle.sheet.proofs.Frames.{Framed}
-use Rattle.loading.specs.Loading.{identityLength, afterSeat, whoIs, readSeat, laidOut, Seats, whole, fault, infront, readSeats}
+use Rattle.loading.specs.Loading.{identityLength, afterSeat, whoIs, readSeat, laidOut, Seats, whole, fault, seatInfront, readSeats}
 use Rattle.loading.proofs.Loads.{laid-fits}
 
 module _ (s : List ℕ) (octets : Octets s) where
@@ -92,7 +92,7 @@ module _ (s : List ℕ) (octets : Octets s) where
         rw (← z) (record { count = refl; written = append-nil (take at s) ∙ ap (λ (m : ℕ). take m s) (eqb-true at (settingsPlace s) q) })
     back-none at zs false q e = absurd (let z : _≡_ {A = ℕ} 0 1 = cc in omega arith)
 
-    back-one : (n at : ℕ) (zs : List Seat) (rest : Seats) → laidOut s at ≡ true → infront (readSeat s at) rest ≡ whole zs
+    back-one : (n at : ℕ) (zs : List Seat) (rest : Seats) → laidOut s at ≡ true → seatInfront (readSeat s at) rest ≡ whole zs
         → ((ys : List Seat) → rest ≡ whole ys → Back n (afterSeat s at) ys) → Back (suc n) at zs
     unfolding seatsOctets
     back-one n at zs (whole ys) l e next =

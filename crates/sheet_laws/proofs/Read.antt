@@ -14,7 +14,7 @@ use Rattle.seat_octets.specs.Layout.{flagsOctet, flagsTop, settingsOctets}
 use Rattle.seat_octets.proofs.Numbers.{number-again, long-again, octet-at, be16-at, be32-at, part-at}
 use Rattle.seat_octets.proofs.Bits.{flags-back, flags-few}
 use Rattle.seat_octets.proofs.SettingsLaws.{settings-long, settings-back}
-use Rattle.sheet.specs.Layout.{Seat, form, letters, tailSize, seatOctets, seatsOctets, trailer, sheet}
+use Rattle.sheet.specs.Layout.{Seat, form, sheetLetters, tailSize, seatOctets, seatsOctets, trailer, sheet}
 use Rattle.sheet.specs.Framing.{settingsPlace, trailerPlace, seatCount}
 use Rattle.sheet.proofs.Frames.{Framed}
 use Rattle.sheet.proofs.Sizes.{length-seat, length-trailer, length-sheet}
@@ -42,7 +42,7 @@ module _ (at count : ℕ) where
   unfolding unfolds
   form-there = refl
 
-  letters-there : be16 (trailer at count) 6 ≡ letters
+  letters-there : be16 (trailer at count) 6 ≡ sheetLetters
   unfolding unfolds
   letters-there = refl
 

@@ -11,7 +11,7 @@ use Rattle.steps.specs.declared.Phase.{Phase}
 use Rattle.steps.specs.declared.Core.{Core}
 use Rattle.steps.specs.declared.Kind.{Kind}
 use Rattle.steps.specs.declared.Kind.the-variants as say
-use Rattle.steps.specs.declared.Message.{Message}
+use Rattle.steps.specs.declared.Sending.{Sending}
 use Rattle.steps.specs.declared.Mark.{Mark}
 use Rattle.steps.specs.declared.Mark.the-variants.{NoSeat, Seat}
 use Rattle.steps.specs.declared.Given.{Given}
@@ -44,10 +44,10 @@ abbrev pub numbered : Core → Core
 numbered c = record { phase = c .phase; line = c .line; sequence = next (c .sequence); c7 = c .c7; c20 = c .c20 }
 
 -- a message to a set of seats; the silence that stands where there is no message
-abbrev pub _⇒_ : Kind → List Bool → Message
+abbrev pub _⇒_ : Kind → List Bool → Sending
 k ⇒ seats = record { kind = k; to = seats }
 
-abbrev pub silence : Message
+abbrev pub silence : Sending
 silence = say.Nothing ⇒ replicate 16 false
 
 abbrev pub isNothing : Kind → Bool
@@ -60,7 +60,7 @@ isNothing (say.Revoke n) = false
 isNothing (say.Info k p) = false
 
 -- a report with these messages, in which nobody is struck off and nobody's floor ends; one with no message and no mark
-abbrev pub reportOf : Message → Message → Mark → Given → Report
+abbrev pub reportOf : Sending → Sending → Mark → Given → Report
 reportOf first second p g =
     record { first = first; second = second; marks = record { placed = p; struck = replicate 16 false; ended = NoSeat; given = g } }
 
@@ -86,11 +86,11 @@ abbrev pub _turns_ : Step → Phase → Step
 r turns p = record { answer = r .answer; core = r .core inPhase p; report = r .report }
 
 -- the step with one message more, behind the one that it has
-abbrev pub more : Bool → Report → Message → Report
+abbrev pub more : Bool → Report → Sending → Report
 more true r m = record { first = m; second = r .second; marks = r .marks }
 more false r m = record { first = r .first; second = m; marks = r .marks }
 
-abbrev pub _sends_ : Step → Message → Step
+abbrev pub _sends_ : Step → Sending → Step
 r sends m = record { answer = r .answer; core = r .core; report = more (isNothing (r .report .first .kind)) (r .report) m }
 
 -- the step with a mark

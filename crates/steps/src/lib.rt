@@ -42,7 +42,7 @@ pub enum Kind {
     Info(u8, u8),
 }
 
-pub struct Message {
+pub struct Sending {
     pub kind: Kind,
     pub to: [bool; 16],
 }
@@ -66,8 +66,8 @@ pub struct Marks {
 }
 
 pub struct Report {
-    pub first: Message,
-    pub second: Message,
+    pub first: Sending,
+    pub second: Sending,
     pub marks: Marks,
 }
 
@@ -93,18 +93,18 @@ pub const MEDIA_BURST_PREEMPTED: u16 = 4;
 
 // What a step reports. A report is built at once, and all are built here: a step that is built and then changed is copied whole each time.
 
-pub fn no_message() -> Message
+pub fn no_message() -> Sending
     ensures { λ r. ⌜ r ≡ silence ⌝ }
 {
     let nobody = [false; 16];
-    Message {
+    Sending {
         kind: Kind::Nothing,
         to: nobody,
     }
 }
 
 // The report with these messages, and with no mark but these two: who is struck off and whose floor ends is marked afterwards.
-pub fn report_of(first: Message, second: Message, placed: Mark, given: Given) -> Report
+pub fn report_of(first: Sending, second: Sending, placed: Mark, given: Given) -> Report
     ensures { λ r. ⌜ r ≡ reportOf first second placed given ⌝ }
 {
     let nobody = [false; 16];
@@ -151,7 +151,7 @@ fn is_nothing(kind: Kind) -> bool
 pub fn send(step: Step, kind: Kind, to: [bool; 16]) -> Step
     ensures { λ r. ⌜ r ≡ (step sends kind ⇒ to) ⌝ }
 {
-    let message = Message { kind, to };
+    let message = Sending { kind, to };
     let answer = step.answer;
     let core = step.core;
     let old = step.report;
@@ -188,7 +188,7 @@ pub fn send(step: Step, kind: Kind, to: [bool; 16]) -> Step
 pub fn say(core: Core, kind: Kind, to: [bool; 16]) -> Step
     ensures { λ r. ⌜ r ≡ (done core sends kind ⇒ to) ⌝ }
 {
-    let first = Message { kind, to };
+    let first = Sending { kind, to };
     let second = no_message();
     let report = report_of(first, second, Mark::NoSeat, Given::NotGiven);
     Step {

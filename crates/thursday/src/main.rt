@@ -13,9 +13,9 @@ use steps::Given;
 use steps::Kind;
 use steps::Mark;
 use steps::Marks;
-use steps::Message;
 use steps::Phase;
 use steps::Report;
+use steps::Sending;
 use steps::Step;
 use timers::Running;
 use timers::Timer;
@@ -165,7 +165,7 @@ fn show_octets(desk: Desk, k: Kind) {
 }
 
 // A message, who gets it, and its octets.
-fn show_message(desk: Desk, m: Message) {
+fn show_message(desk: Desk, m: Sending) {
     let k = m.kind;
     let to = m.to;
     if let Kind::Nothing = k {

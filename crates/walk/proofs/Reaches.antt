@@ -13,16 +13,16 @@ use Rattle.words.specs.Choice.{if_then_else_, by-test}
 use Rattle.message.specs.Table.{rowIn, rowOf, against, atFault}
 use Rattle.message.proofs.Paddings.{padded-least, padded-holds}
 use Rattle.header.specs.Header.{headerSize}
-use Rattle.field.specs.declared.Found.{Found}
-use Rattle.field.specs.declared.Step.{Step}
-use Rattle.field.specs.declared.Step.the-variants.{Field, End, PastTheEnd, AgainstTheTable}
+use Rattle.field.specs.declared.FieldFound.{FieldFound}
+use Rattle.field.specs.declared.FieldStep.{FieldStep}
+use Rattle.field.specs.declared.FieldStep.the-variants.{Field, End, PastTheEnd, AgainstTheTable}
 use Rattle.field.specs.Fields.{idAt, lengthAt, stepAt, Fields, whole, fault, infront, stepThen, fieldsFrom, fieldsIn}
 use Rattle.field.proofs.Steps.{Sound, step-sound}
 use Rattle.walk.specs.Starts.{startOf}
 use Rattle.walk.specs.Walk.{Notes, Reach}
 
 -- a field that lies in the packet, with a length that the table has
-pub record Lies (s : List ℕ) (f : Found) : Type 0 where
+pub record Lies (s : List ℕ) (f : FieldFound) : Type 0 where
   pub two : f .start + 2 ≤ length s
   pub all : f .start + f .len ≤ length s
   pub least : rowOf (f .id) .least ≤ f .len
@@ -32,7 +32,7 @@ not-short : (i l n : ℕ) → against i l n ≡ false → rowOf i .least ≤ l
 unfolding against
 not-short i l n e = ltb-false l (rowOf i .least) (neither-left _ _ (neither-left _ (atFault i n) e))
 
-sound-lies : (s : List ℕ) (at : ℕ) (f : Found) → Sound s at f → Lies s f
+sound-lies : (s : List ℕ) (at : ℕ) (f : FieldFound) → Sound s at f → Lies s f
 sound-lies s at f k =
     rw (k .is)
     (record {
@@ -43,45 +43,46 @@ sound-lies s at f k =
     })
 
 -- the field whose start counts for an ID, if there is one
-pub data Start (s : List ℕ) (fs : List Found) (i : ℕ) : Type 0 where
+pub data Start (s : List ℕ) (fs : List FieldFound) (i : ℕ) : Type 0 where
   none : startOf fs i ≡ 0 → Start s fs i
-  one : (f : Found) → Lies s f → f .id ≡ i → startOf fs i ≡ f .start → Start s fs i
+  one : (f : FieldFound) → Lies s f → f .id ≡ i → startOf fs i ≡ f .start → Start s fs i
 
 pub differ : _≡_ {A = ℕ} 0 1 → ⊥
 differ z = omega arith
 
-start-more : (s : List ℕ) (f : Found) (fs : List Found) (i : ℕ) → Lies s f → Start s fs i → Start s (f ∷ fs) i
+start-more : (s : List ℕ) (f : FieldFound) (fs : List FieldFound) (i : ℕ) → Lies s f → Start s fs i → Start s (f ∷ fs) i
 unfolding startOf if_then_else_
 start-more s f fs i l r =
     by-test (eqb i (f .id)) (λ e. one f l (sym (eqb-true i (f .id) e)) (rw e))
     (λ e. elim r [ none z ↦ none (rw e z) | one g k q z ↦ one g k q (rw e z) ])
 
-behind : (s : List ℕ) (f : Found) (fs : List Found) (i : ℕ) (rest : Fields) → Lies s f → infront f rest ≡ whole fs
-    → ((gs : List Found) → rest ≡ whole gs → Start s gs i) → Start s fs i
+behind : (s : List ℕ) (f : FieldFound) (fs : List FieldFound) (i : ℕ) (rest : Fields) → Lies s f → infront f rest ≡ whole fs
+    → ((gs : List FieldFound) → rest ≡ whole gs → Start s gs i) → Start s fs i
 behind s f fs i (whole gs) l e next =
     let q : f ∷ gs ≡ fs = cc in
-    subst (λ (hs : List Found). Start s hs i) q (start-more s f gs i l (next gs refl))
+    subst (λ (hs : List FieldFound). Start s hs i) q (start-more s f gs i l (next gs refl))
 behind s f fs i (fault n) l e next = absurd (differ (cc))
 
-by-step : (s : List ℕ) (at : ℕ) (fs : List Found) (i : ℕ) (x : Step) (rest : ℕ → Fields) → stepAt s at ≡ x → stepThen x rest ≡ whole fs
-    → ((next : ℕ) (gs : List Found) → rest next ≡ whole gs → Start s gs i) → Start s fs i
+by-step : (s : List ℕ) (at : ℕ) (fs : List FieldFound) (i : ℕ) (x : FieldStep) (rest : ℕ → Fields) → stepAt s at ≡ x →
+    stepThen x rest ≡ whole fs
+    → ((next : ℕ) (gs : List FieldFound) → rest next ≡ whole gs → Start s gs i) → Start s fs i
 unfolding startOf
 by-step s at fs i (Field f) rest q e next = behind s f fs i (rest (f .next)) (sound-lies s at f (step-sound s at f q)) e (next (f .next))
 by-step s at fs i End rest q e next =
     let z : [] ≡ fs = cc in
-    subst (λ (hs : List Found). Start s hs i) z (none refl)
+    subst (λ (hs : List FieldFound). Start s hs i) z (none refl)
 by-step s at fs i PastTheEnd rest q e next = absurd (differ (cc))
 by-step s at fs i AgainstTheTable rest q e next = absurd (differ (cc))
 
-starts : (steps : ℕ) (s : List ℕ) (at : ℕ) (fs : List Found) → fieldsFrom steps s at ≡ whole fs → (i : ℕ) → Start s fs i
+starts : (steps : ℕ) (s : List ℕ) (at : ℕ) (fs : List FieldFound) → fieldsFrom steps s at ≡ whole fs → (i : ℕ) → Start s fs i
 unfolding fieldsFrom startOf
 starts zero s at fs e i =
     let z : [] ≡ fs = cc in
-    subst (λ (hs : List Found). Start s hs i) z (none refl)
+    subst (λ (hs : List FieldFound). Start s hs i) z (none refl)
 starts (suc steps) s at fs e i =
     by-step s at fs i (stepAt s at) (λ next. fieldsFrom steps s next) refl e (λ next gs q. starts steps s next gs q i)
 
-pub reach : (s : List ℕ) (fs : List Found) → headerSize ≤ length s → fieldsIn s ≡ whole fs → Reach s (startOf fs)
+pub reach : (s : List ℕ) (fs : List FieldFound) → headerSize ≤ length s → fieldsIn s ≡ whole fs → Reach s (startOf fs)
 unfolding fieldsIn rowIn if_then_else_
 reach s fs h e =
     let at : (i : ℕ) → Start s fs i = starts (length s) s headerSize fs e in
@@ -106,7 +107,7 @@ reach s fs h e =
     }
 
 -- the same by the array of starts
-module _ (starts : List ℕ) (fs : List Found) (n : Notes starts fs) where
+module _ (starts : List ℕ) (fs : List FieldFound) (n : Notes starts fs) where
   pub reach-notes : (s : List ℕ) → Reach s (startOf fs) → Reach s (λ i. getD starts i 0)
   reach-notes s r =
       record {

@@ -11,9 +11,9 @@ use lib.Seq.{getD-set-same, getD-set-other}
 use borrow.Author.Tests.{lt-ltb, ne-eqb, eqb-true, eqb-false, leb-true, leb-false}
 use Rattle.words.specs.Choice.{if_then_else_, by-test}
 use Rattle.message.specs.Table.{padded}
-use Rattle.field.specs.declared.Found.{Found}
-use Rattle.field.specs.declared.Step.{Step}
-use Rattle.field.specs.declared.Step.the-variants.{Field, End, PastTheEnd, AgainstTheTable}
+use Rattle.field.specs.declared.FieldFound.{FieldFound}
+use Rattle.field.specs.declared.FieldStep.{FieldStep}
+use Rattle.field.specs.declared.FieldStep.the-variants.{Field, End, PastTheEnd, AgainstTheTable}
 use Rattle.walk.specs.declared.Walk.{Walk}
 use Rattle.walk.specs.declared.Walk.the-variants.{Whole, PastTheEnd as Past, AgainstTheTable as Against}
 use Rattle.field.specs.Fields.{lengthAt, stepAt, Fields, whole, fault, infront, stepThen, fieldsFrom, fieldsIn}
@@ -24,33 +24,33 @@ use Rattle.message.proofs.Paddings.{padded-least}
 use Rattle.field.proofs.Steps.{step-end, Sound, step-sound}
 
 -- fields found before the others
-abbrev allInfront : List Found → Fields → Fields
+abbrev allInfront : List FieldFound → Fields → Fields
 allInfront [] rest = rest
 allInfront (f ∷ fs) rest = infront f (allInfront fs rest)
 
-one-more : (seen : List Found) (f : Found) (rest : Fields) → allInfront (seen ++ (f ∷ [])) rest ≡ allInfront seen (infront f rest)
+one-more : (seen : List FieldFound) (f : FieldFound) (rest : Fields) → allInfront (seen ++ (f ∷ [])) rest ≡ allInfront seen (infront f rest)
 one-more [] f rest = refl
 one-more (g ∷ seen) f rest = ap (infront g) (one-more seen f rest)
 
-to-the-end : (seen : List Found) → allInfront seen (whole []) ≡ whole seen
+to-the-end : (seen : List FieldFound) → allInfront seen (whole []) ≡ whole seen
 to-the-end [] = refl
 to-the-end (g ∷ seen) = ap (infront g) (to-the-end seen)
 
-to-a-fault : (seen : List Found) (n : ℕ) → allInfront seen (fault n) ≡ fault n
+to-a-fault : (seen : List FieldFound) (n : ℕ) → allInfront seen (fault n) ≡ fault n
 to-a-fault [] n = refl
 to-a-fault (g ∷ seen) n = ap (infront g) (to-a-fault seen n)
 
 -- no field's content starts at 0
-abbrev Placed : List Found → Type 0
+abbrev Placed : List FieldFound → Type 0
 Placed [] = Unit {0}
 Placed (f ∷ fs) = (0 < f .start) × Placed fs
 
-placed-more : (seen : List Found) (f : Found) → Placed seen → 0 < f .start → Placed (seen ++ (f ∷ []))
+placed-more : (seen : List FieldFound) (f : FieldFound) → Placed seen → 0 < f .start → Placed (seen ++ (f ∷ []))
 placed-more [] f p h = (h, tt)
 placed-more (g ∷ seen) f p h = (p .0, placed-more seen f (p .1) h)
 
 -- of a repeated ID the first counts
-start-more : (seen : List Found) (f : Found) (i : ℕ) → Placed seen
+start-more : (seen : List FieldFound) (f : FieldFound) (i : ℕ) → Placed seen
     → startOf (seen ++ (f ∷ [])) i ≡ (if eqb (startOf seen i) 0 then (if eqb i (f .id) then f .start else 0) else startOf seen i)
 unfolding startOf if_then_else_
 start-more [] f i p = refl
@@ -82,7 +82,7 @@ noted-at starts j start i l h =
     (λ t. rw t (getD-set-other starts j i start 0 (eqb-false i j e) ∙ or-nothing (getD starts i 0)))
     (λ t. rw t (or-nothing (getD starts i 0)))))
 
-note-more : (starts : List ℕ) (seen : List Found) (f : Found) → Placed seen → Notes starts seen →
+note-more : (starts : List ℕ) (seen : List FieldFound) (f : FieldFound) → Placed seen → Notes starts seen →
     Notes (noted starts (f .id) (f .start)) (seen ++ (f ∷ []))
 note-more starts seen f p n =
     record {
@@ -91,7 +91,7 @@ note-more starts seen f p n =
     }
 
 pub record Walking (s starts : List ℕ) (at : ℕ) : Type 0 where
-  pub seen : List Found
+  pub seen : List FieldFound
   pub steps : ℕ
   pub enough : length s ≤ at + steps
   pub same : fieldsIn s ≡ allInfront seen (fieldsFrom steps s at)
@@ -121,13 +121,13 @@ unfolding fieldsFrom
 ahead s at zero h e = absurd (omega arith)
 ahead s at (suc fewer) h e = record { fewer = fewer; one-less = refl; goes = refl }
 
-pub walking-on : (s starts : List ℕ) (at : ℕ) (f : Found) → stepAt s at ≡ Field f → Walking s starts at
+pub walking-on : (s starts : List ℕ) (at : ℕ) (f : FieldFound) → stepAt s at ≡ Field f → Walking s starts at
     → Walking s (noted starts (f .id) (f .start)) (f .next)
 walking-on s starts at f e w =
     let k : Sound s at f = step-sound s at f e in
     let a : Ahead s at (w .steps) = ahead s at (w .steps) (k .inside) (w .enough) in
-    let n : f .next ≡ at + padded (lengthAt s at) = ap (λ (g : Found). g .next) (k .is) in
-    let b : f .start ≡ at + 2 = ap (λ (g : Found). g .start) (k .is) in
+    let n : f .next ≡ at + padded (lengthAt s at) = ap (λ (g : FieldFound). g .next) (k .is) in
+    let b : f .start ≡ at + 2 = ap (λ (g : FieldFound). g .start) (k .is) in
     record {
       seen = w .seen ++ (f ∷ []);
       steps = a .fewer;
@@ -167,27 +167,28 @@ pub walked-against : (s starts : List ℕ) (at : ℕ) → stepAt s at ≡ Agains
 walked-against s starts at e w = walked-fault s starts at Against (λ q. differ (cc)) (λ q. differ (cc)) (λ rest. rw e) w
 
 -- a turn goes on towards the end
-pub walking-less : (s starts : List ℕ) (at : ℕ) (f : Found) → stepAt s at ≡ Field f → length s - f .next < length s - at
+pub walking-less : (s starts : List ℕ) (at : ℕ) (f : FieldFound) → stepAt s at ≡ Field f → length s - f .next < length s - at
 walking-less s starts at f e =
     let k : Sound s at f = step-sound s at f e in
-    let n : f .next ≡ at + padded (lengthAt s at) = ap (λ (g : Found). g .next) (k .is) in
+    let n : f .next ≡ at + padded (lengthAt s at) = ap (λ (g : FieldFound). g .next) (k .is) in
     omega (arith, padded-least (lengthAt s at), k .inside)
 
 -- the same by what the reader handed out, whatever it was
 module _ (s starts : List ℕ) (at : ℕ) where
-  pub walking-by : (x : Step) → stepAt s at ≡ x → Holds (isField x) → Walking s starts at → Walking s (notedStep starts x) (behind x at)
+  pub walking-by : (x : FieldStep) → stepAt s at ≡ x → Holds (isField x) → Walking s starts at →
+      Walking s (notedStep starts x) (behind x at)
   walking-by (Field f) e h w = walking-on s starts at f e w
   walking-by End e h w = absurd h
   walking-by PastTheEnd e h w = absurd h
   walking-by AgainstTheTable e h w = absurd h
 
-  pub nearer-by : (x : Step) → stepAt s at ≡ x → Holds (isField x) → length s - behind x at < length s - at
+  pub nearer-by : (x : FieldStep) → stepAt s at ≡ x → Holds (isField x) → length s - behind x at < length s - at
   nearer-by (Field f) e h = walking-less s starts at f e
   nearer-by End e h = absurd h
   nearer-by PastTheEnd e h = absurd h
   nearer-by AgainstTheTable e h = absurd h
 
-  pub walked-by : (x : Step) → stepAt s at ≡ x → Holds (not (isField x)) → Walking s starts at →
+  pub walked-by : (x : FieldStep) → stepAt s at ≡ x → Holds (not (isField x)) → Walking s starts at →
       Walked (fieldsIn s) (endedBy x) (notedStep starts x)
   walked-by (Field f) e h w = absurd h
   walked-by End e h w = walked-whole s starts at e w

@@ -3,10 +3,10 @@ use Prim.Native.Nat.{ℕ}
 use mathlib.Core.List.{List, [], _∷_}
 use lib.Dec.{eqb}
 use Rattle.words.specs.Choice.{if_then_else_}
-use Rattle.field.specs.declared.Found.{Found}
+use Rattle.field.specs.declared.FieldFound.{FieldFound}
 
 -- "of a repeated ID the first counts": where the content of the first field with this ID starts; 0 if there is none, since none starts
 -- there
-unfoldable pub startOf : List Found → ℕ → ℕ
+unfoldable pub startOf : List FieldFound → ℕ → ℕ
 startOf [] i = 0
 startOf (f ∷ fs) i = if eqb i (f .id) then f .start else startOf fs i

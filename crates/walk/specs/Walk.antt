@@ -7,11 +7,11 @@ use mathlib.Core.Path.{_≡_}
 use lib.Dec.{ltb, eqb}
 use lib.ListN.{length, getD, set, replicate}
 use Rattle.words.specs.Choice.{if_then_else_}
-use Rattle.message.specs.Answers.{number}
+use Rattle.message.specs.Answers.{refusalNumber}
 use Rattle.message.specs.declared.Refusal.{Refusal}
 use Rattle.header.specs.Header.{headerSize}
-use Rattle.field.specs.declared.Found.{Found}
-use Rattle.field.specs.declared.Step.{Step}
+use Rattle.field.specs.declared.FieldFound.{FieldFound}
+use Rattle.field.specs.declared.FieldStep.{FieldStep}
 use Rattle.field.specs.Fields.{Fields, whole, fault}
 use Rattle.walk.specs.declared.Walk.{Walk}
 use Rattle.walk.specs.declared.Walk.the-variants.{Whole, PastTheEnd, AgainstTheTable}
@@ -22,34 +22,34 @@ unfoldable pub noted : List ℕ → ℕ → ℕ → List ℕ
 noted starts i start = if ltb i 16 && eqb (getD starts i 0) 0 then set starts i start else starts
 
 -- what a step handed out adds to the array, and how it ends a walk
-abbrev pub isField : Step → Bool
-isField (Step.Field f) = true
-isField Step.End = false
-isField Step.PastTheEnd = false
-isField Step.AgainstTheTable = false
+abbrev pub isField : FieldStep → Bool
+isField (FieldStep.Field f) = true
+isField FieldStep.End = false
+isField FieldStep.PastTheEnd = false
+isField FieldStep.AgainstTheTable = false
 
-abbrev pub notedStep : List ℕ → Step → List ℕ
-notedStep starts (Step.Field f) = noted starts (f .id) (f .start)
-notedStep starts Step.End = starts
-notedStep starts Step.PastTheEnd = starts
-notedStep starts Step.AgainstTheTable = starts
+abbrev pub notedStep : List ℕ → FieldStep → List ℕ
+notedStep starts (FieldStep.Field f) = noted starts (f .id) (f .start)
+notedStep starts FieldStep.End = starts
+notedStep starts FieldStep.PastTheEnd = starts
+notedStep starts FieldStep.AgainstTheTable = starts
 
-abbrev pub endedBy : Step → Walk
-endedBy (Step.Field f) = Whole
-endedBy Step.End = Whole
-endedBy Step.PastTheEnd = PastTheEnd
-endedBy Step.AgainstTheTable = AgainstTheTable
+abbrev pub endedBy : FieldStep → Walk
+endedBy (FieldStep.Field f) = Whole
+endedBy FieldStep.End = Whole
+endedBy FieldStep.PastTheEnd = PastTheEnd
+endedBy FieldStep.AgainstTheTable = AgainstTheTable
 
 -- the array has the start of each ID below 16
-pub record Notes (starts : List ℕ) (fs : List Found) : Type 0 where
+pub record Notes (starts : List ℕ) (fs : List FieldFound) : Type 0 where
   pub long : length starts ≡ 16
   pub has : (i : ℕ) → i < 16 → getD starts i 0 ≡ startOf fs i
 
 -- the paper's number for a walk that ended at a fault
 abbrev pub faultNumber : Walk → ℕ
 faultNumber Whole = 0
-faultNumber PastTheEnd = number Refusal.PastTheEnd
-faultNumber AgainstTheTable = number Refusal.AgainstTheTable
+faultNumber PastTheEnd = refusalNumber Refusal.PastTheEnd
+faultNumber AgainstTheTable = refusalNumber Refusal.AgainstTheTable
 
 -- what the walk's end and its array say of the fields
 abbrev pub Walked : Fields → Walk → List ℕ → Type 0

@@ -1,6 +1,6 @@
 // All fields of a packet (document 01, "The packet" and "What is answered to packets", 9 and 10), as the reader that rests on the packet hands
 // them out: where each field's content starts, in an array with a place for each ID below 16.
-use field::Step;
+use field::FieldStep;
 ghost use mathlib.Core.Path.{_≡_};
 ghost use lib.ListN.{replicate};
 ghost use Rattle.field.specs.Fields.{fieldsIn};
@@ -26,29 +26,29 @@ fn note(starts: &mut [usize; 16], id: u8, start: usize)
 }
 
 // Notes what was handed out, where it is a field; whether it is one.
-fn noted_field(starts: &mut [usize; 16], step: Step) -> bool
+fn noted_field(starts: &mut [usize; 16], step: FieldStep) -> bool
     ensures { λ r. ⌜ (r ≡ isField step) × (now (starts .exit) ≡ notedStep (now (starts .entry)) step) ⌝ }
 {
     match step {
-        Step::Field(f) => {
+        FieldStep::Field(f) => {
             note(starts, f.id, f.start);
             true
         }
-        Step::End => false,
-        Step::PastTheEnd => false,
-        Step::AgainstTheTable => false,
+        FieldStep::End => false,
+        FieldStep::PastTheEnd => false,
+        FieldStep::AgainstTheTable => false,
     }
 }
 
 // How a walk ended, by what the reader handed out last.
-fn ended(step: Step) -> Walk
+fn ended(step: FieldStep) -> Walk
     ensures { λ r. ⌜ r ≡ endedBy step ⌝ }
 {
     match step {
-        Step::Field(f) => Walk::Whole,
-        Step::End => Walk::Whole,
-        Step::PastTheEnd => Walk::PastTheEnd,
-        Step::AgainstTheTable => Walk::AgainstTheTable,
+        FieldStep::Field(f) => Walk::Whole,
+        FieldStep::End => Walk::Whole,
+        FieldStep::PastTheEnd => Walk::PastTheEnd,
+        FieldStep::AgainstTheTable => Walk::AgainstTheTable,
     }
 }
 

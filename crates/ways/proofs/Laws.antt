@@ -10,7 +10,7 @@ use Rattle.hall.specs.declared.Found.the-variants.{At, Nowhere}
 use Rattle.hall.specs.Seats.{effective, seatOf}
 use Rattle.steps.specs.declared.Phase.{Phase}
 use Rattle.steps.specs.declared.Core.{Core}
-use Rattle.steps.specs.declared.Message.{Message}
+use Rattle.steps.specs.declared.Sending.{Sending}
 use Rattle.giving.specs.Floor.{holds}
 use Rattle.events.specs.declared.Event.{Event}
 use Rattle.events.specs.declared.Event.the-variants.{Start, Stop, Expiry, Request, Release, Position, Media, Other}
@@ -19,7 +19,7 @@ use Rattle.history.specs.Asking.{Becoming, noEvent, anEvent, becomes, asks, fro
 use Rattle.ways.specs.Ways.{Six, informs, presses, informsAndPresses}
 use Rattle.ways.proofs.Apart.{asks-nobody}
 
-module _ {c : Core} {h : Hall} {t : ℕ} {new : Core} {first second : Message} where
+module _ {c : Core} {h : Hall} {t : ℕ} {new : Core} {first second : Sending} where
   pub six-line : Six c h t new first second → new .line ≡ c .line
   six-line (informs q f s) = ap (λ (x : Core). x .line) q
   six-line (presses e b k q f s) = ap (λ (x : Core). x .line) q

@@ -10,7 +10,7 @@ use Rattle.hall.specs.declared.Answer.{Answer}
 use Rattle.hall.specs.declared.Answer.the-variants.{Done}
 use Rattle.steps.specs.declared.Core.{Core}
 use Rattle.steps.specs.declared.Kind.{Kind}
-use Rattle.steps.specs.declared.Message.{Message}
+use Rattle.steps.specs.declared.Sending.{Sending}
 use Rattle.steps.specs.declared.Marks.{Marks}
 use Rattle.steps.specs.declared.Report.{Report}
 use Rattle.steps.specs.Words.{silence, noMarks}
@@ -30,12 +30,12 @@ unfolding infoOf
 info-none l t = by-if (λ (k : Kind). isDeny k ≡ false) _ (λ _. refl) (λ _. refl)
 
 info-for-none : (l : Line) (t : ℕ) (q : Bool) → isDeny (infoFor l t q .kind) ≡ false
-info-for-none l t q = by-if (λ (m : Message). isDeny (m .kind) ≡ false) q (λ _. info-none l t) (λ _. refl)
+info-for-none l t q = by-if (λ (m : Sending). isDeny (m .kind) ≡ false) q (λ _. info-none l t) (λ _. refl)
 
 abbrev denies : Report → Bool
 denies r = isDeny (r .first .kind) || isDeny (r .second .kind)
 
-six-none : {c : Core} {h : Hall} {t : ℕ} {new : Core} {first second : Message} → Six c h t new first second →
+six-none : {c : Core} {h : Hall} {t : ℕ} {new : Core} {first second : Sending} → Six c h t new first second →
     (isDeny (first .kind) || isDeny (second .kind)) ≡ false
 six-none {c} {h} {t} (informs q f s) = rw (f, s) (neither _ _ (info-for-none (c .line) t _) refl)
 six-none {c} {h} {t} (presses e b k q f s) = rw (f, s)
@@ -43,7 +43,7 @@ six-none {c} {h} {t} (informsAndPresses e b k q f s) = rw (f, s, info-none (c .l
 
 module _ (d : Desk) (x : Doing) (l : Outcome) where
   -- what is done is not refused
-  done : {first second : Message} {m : Marks} {A : Type 0} → Reports l first second m → (l .answer ≡ Done → ⊥) → A
+  done : {first second : Sending} {m : Marks} {A : Type 0} → Reports l first second m → (l .answer ≡ Done → ⊥) → A
   done q n = absurd (n (q .0))
 
   abbrev Same : Type 0

@@ -17,7 +17,7 @@ use Rattle.steps.specs.declared.Phase.{Phase}
 use Rattle.steps.specs.declared.Phase.the-variants.{Stopped, Idle, Taken, Revoking}
 use Rattle.steps.specs.declared.Core.{Core}
 use Rattle.steps.specs.declared.Kind.the-variants as say
-use Rattle.steps.specs.declared.Message.{Message}
+use Rattle.steps.specs.declared.Sending.{Sending}
 use Rattle.steps.specs.declared.Mark.{Mark}
 use Rattle.steps.specs.declared.Mark.the-variants.{NoSeat, Seat}
 use Rattle.steps.specs.declared.Given.{Given}
@@ -39,7 +39,7 @@ use Rattle.history.specs.Asking.{anEvent, becomes, nobody, asks, asking, givesU
 abbrev pub marks : Mark → List Bool → Mark → Given → Marks
 marks p s e g = record { placed = p; struck = s; ended = e; given = g }
 
-abbrev pub Reports : Outcome → Message → Message → Marks → Type 0
+abbrev pub Reports : Outcome → Sending → Sending → Marks → Type 0
 Reports l first second m = (l .answer ≡ Done) × (l .report ≡ record { first = first; second = second; marks = m })
 
 abbrev pub Refuses : Outcome → Answer → Type 0
@@ -67,7 +67,7 @@ pub data Unmoved (c : Core) (h : Hall) (t p : ℕ) : Type 0 where
 
 -- 6. What follows 4 and 5, on the core that they leave: Info, if the asker negotiated queueing; then, if it presses and the phase is Taken,
 -- Revoke #4 to the holder, Revoking.
-pub data Six (c : Core) (h : Hall) (t : ℕ) (new : Core) (first second : Message) : Type 0 where
+pub data Six (c : Core) (h : Hall) (t : ℕ) (new : Core) (first second : Sending) : Type 0 where
   informs : new ≡ c → first ≡ infoFor (c .line) t (queues h t) → second ≡ silence → Six c h t new first second
   presses : (e : Entry) (b : AlsoRuns) → c .phase ≡ Taken e b → new ≡ c inPhase Revoking e mediaBurstPreempted →
       first ≡ say.Revoke mediaBurstPreempted ⇒ only (e .seat) → second ≡ silence → Six c h t new first second
@@ -92,15 +92,15 @@ pub data Way (d : Desk) (x : Doing) (l : Outcome) : Type 0 where
       Reports l (say.Granted p ⇒ only t) (say.Taken t (next (d .core .sequence)) ⇒ others (l .desk .hall) t)
       (marks NoSeat no-one NoSeat (AtOnce t)) → Way d x l
   -- 4: asked again at the same priority
-  asksAgain : (t p : ℕ) (first second : Message) → asking (d .hall) x ≡ asks t p → Sits (d .hall) t → priorityIn (d .core .line) t ≡ p →
+  asksAgain : (t p : ℕ) (first second : Sending) → asking (d .hall) x ≡ asks t p → Sits (d .hall) t → priorityIn (d .core .line) t ≡ p →
       Six (d .core) (d .hall) t (l .desk .core) first second → Reports l first second noMarks → Way d x l
   -- 4: moved
-  moves : (t p : ℕ) (first second : Message) → asking (d .hall) x ≡ asks t p → Sits (d .hall) t → isBusy (d .core .phase) ≡ true →
+  moves : (t p : ℕ) (first second : Sending) → asking (d .hall) x ≡ asks t p → Sits (d .hall) t → isBusy (d .core .phase) ≡ true →
       holds (d .core .phase) t ≡ false → waits (d .core) t ≡ true → (priorityIn (d .core .line) t ≡ p → ⊥) →
       Six (d .core withLine moved (d .core .line) (entryOf t p)) (d .hall) t (l .desk .core) first second → Reports l first second noMarks →
       Way d x l
   -- 5: placed
-  places : (t p : ℕ) (first second : Message) → asking (d .hall) x ≡ asks t p → Sits (d .hall) t → isBusy (d .core .phase) ≡ true →
+  places : (t p : ℕ) (first second : Sending) → asking (d .hall) x ≡ asks t p → Sits (d .hall) t → isBusy (d .core .phase) ≡ true →
       holds (d .core .phase) t ≡ false → receivesOnly (d .hall) t ≡ false → waits (d .core) t ≡ false → full (d .core) (d .hall) ≡ false →
       Six (d .core withLine lineOf (enter (entryOf t p) (waiting (d .core .line)))) (d .hall) t (l .desk .core) first second →
       Reports l first second (marks (Seat t) no-one NoSeat NotGiven) → Way d x l

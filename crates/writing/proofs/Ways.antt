@@ -17,7 +17,7 @@ use Rattle.writing.specs.declared.Writing.{Writing}
 use Rattle.writing.specs.declared.Writing.the-variants.{Written, Refused}
 use Rattle.writing.specs.Wire.{wire}
 use Rattle.readable.specs.Readable.{readable}
-use Rattle.writing.specs.Writing.{writing, written, told}
+use Rattle.writing.specs.Writing.{writing, written, writingAnswer}
 
 module _ (m : Message) (src room : List ℕ) where
   -- 12
@@ -43,7 +43,7 @@ module _ (m : Message) (src room : List ℕ) where
   unfolding written
   overwritten e = rw e
 
-pub told-one : (a b : Writing) → told a ≡ told b → a ≡ b
+pub told-one : (a b : Writing) → writingAnswer a ≡ writingAnswer b → a ≡ b
 told-one (Written n) (Written k) e = ap Written (cc)
 told-one (Written n) (Refused r) e = cc
 told-one (Refused r) (Written k) e = cc

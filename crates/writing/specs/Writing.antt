@@ -8,7 +8,7 @@ use lib.ListN.{length}
 use Rattle.words.specs.Choice.{if_then_else_}
 use Rattle.octets.specs.Octets.{over}
 use Rattle.message.specs.Message.{said}
-use Rattle.message.specs.Answers.{Answer, refused, result, number}
+use Rattle.message.specs.Answers.{Answer, refused, result, refusalNumber}
 use Rattle.message.specs.declared.Message.{Message}
 use Rattle.readable.specs.Readable.{readable}
 use Rattle.writing.specs.Wire.{wire}
@@ -31,13 +31,13 @@ unfoldable pub written : Message → List ℕ → List ℕ → List ℕ
 written m src room = left (writing m src (length room)) (wire (said m src)) room
 
 -- the writer's answer in the paper's numbers
-abbrev pub told : Writing → Answer ℕ
-told (Written n) = result n
-told (Refused r) = refused (number r)
+abbrev pub writingAnswer : Writing → Answer ℕ
+writingAnswer (Written n) = result n
+writingAnswer (Refused r) = refused (refusalNumber r)
 
 -- what every writer promises of its answer and of the room as it leaves it; of two such results `packet_laws` proves that they are one
 abbrev pub Tells : Answer ℕ → List ℕ → Writing → List ℕ → Type 0
-Tells said leaves answer after = (told answer ≡ said) × (after ≡ leaves)
+Tells said leaves answer after = (writingAnswer answer ≡ said) × (after ≡ leaves)
 
 abbrev pub Writes : Message → List ℕ → List ℕ → Writing → List ℕ → Type 0
 Writes m src room answer after = Tells (writing m src (length room)) (written m src room) answer after

@@ -1,8 +1,8 @@
 -- `core_test::holder_is_sound` meets its contract. Assumes nothing.
+use Rattle.octets.specs.Octets.{nthOctet}
 use Rattle.desk_octets.specs.Places.{holderPlace}
 use mathlib.Core.Path.{ap, _∙_}
 use Rattle.words.specs.Below.{allBelow}
-use Rattle.desk_octets.specs.Form.{octetAt}
 use Rattle.core_test.specs.Line.{isAnother}
 use Rattle.core_test.proofs.InOctets.{apart-in}
 use native.Mathlib.Omega.{arith}
@@ -25,8 +25,8 @@ returns c =
     let p = c .before .before .before .before .pre .1 in
     rw (
       c .before .is-present .ensures,
-      c .are-others .ensures ∙ ap (allBelow (isAnother s (octetAt s holderPlace))) (p .0)
-          ∙ apart-in s (omega (arith, p .0, p .1)) (octetAt s holderPlace),
+      c .are-others .ensures ∙ ap (allBelow (isAnother s (nthOctet s holderPlace))) (p .0)
+          ∙ apart-in s (omega (arith, p .0, p .1)) (nthOctet s holderPlace),
     )
 
 pub holder-is-sound-spec : {M : Type 1} → statement M

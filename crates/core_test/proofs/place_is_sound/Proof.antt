@@ -1,8 +1,9 @@
 -- `core_test::place_is_sound` meets its contract. Assumes nothing.
 use Prim.Native.Nat.{_<_, _≤_}
 use mathlib.Core.Path.{ap, sym, _∙_}
+use Rattle.octets.specs.Octets.{nthOctet}
 use Rattle.hall.specs.Seats.{isPresent}
-use Rattle.desk_octets.specs.Form.{octetAt, hallAt}
+use Rattle.desk_octets.specs.Form.{hallAt}
 use Rattle.core_test.specs.Test.{placeSound}
 use Rattle.core_test.proofs.InOctets.{seat-at, first-in}
 use native.Mathlib.Omega.{arith}
@@ -30,8 +31,8 @@ unfolding placeSound
 returns c =
     let a = c .before .before .before .before .before .args in
     let p = c .before .before .before .before .before .pre in
-    let few : octetAt (a .s .now) 14 ≤ 15 = omega (arith, p .1 .0 .0, p .1 .0 .1) in
-    let here : a .i < octetAt (a .s .now) 14 = omega (arith, p .1 .0 .0, p .1 .1) in
+    let few : nthOctet (a .s .now) 14 ≤ 15 = omega (arith, p .1 .0 .0, p .1 .0 .1) in
+    let here : a .i < nthOctet (a .s .now) 14 = omega (arith, p .1 .0 .0, p .1 .1) in
     rw (
       c .before .before .is-in-order .ensures,
       c .before .are-others .ensures ∙ first-in (a .s .now) few (a .i) here,

@@ -1,4 +1,4 @@
--- `core_writing::put_letters` keeps its promise, `now (room .exit) ≡ over (now (room .entry)) 0 letters`. Assumes nothing.
+-- `core_writing::put_letters` keeps its promise, `now (room .exit) ≡ over (now (room .entry)) 0 deskLetters`. Assumes nothing.
 use Rattle.desk_octets.proofs.Turns.{next-piece}
 use lib.ListN.{length}
 use Prim.Native.Nat.{_≤_}

@@ -1,4 +1,4 @@
--- `core_writing::put_priorities` keeps its promise, `now (room .exit) ≡ over (now (room .entry)) prioritiesColumn (column (priorityIn
+-- `core_writing::put_priorities` keeps its promise, `now (room .exit) ≡ over (now (room .entry)) prioritiesColumn (column (entryPriority
 -- entries) 0 15)`. Assumes nothing.
 use Rattle.desk_octets.specs.Places.{prioritiesColumn}
 use Rattle.desk_octets.proofs.Turns.{column-turn}

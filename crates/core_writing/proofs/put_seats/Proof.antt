@@ -1,5 +1,5 @@
--- `core_writing::put_seats` keeps its promise, `now (room .exit) ≡ over (now (room .entry)) waitingColumn (column (seatIn entries) 0 15)`.
--- Assumes nothing.
+-- `core_writing::put_seats` keeps its promise, `now (room .exit) ≡ over (now (room .entry)) waitingColumn (column (entrySeat entries)
+-- 0 15)`. Assumes nothing.
 use Rattle.desk_octets.specs.Places.{waitingColumn}
 use Rattle.desk_octets.proofs.Turns.{column-turn}
 use Rattle.line.specs.Line.{empty}

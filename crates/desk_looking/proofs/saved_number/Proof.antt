@@ -1,4 +1,4 @@
--- `desk_looking::saved_number` keeps its promise, `r ≡ signed (savedAnswer (told saving))`. Assumes nothing.
+-- `desk_looking::saved_number` keeps its promise, `r ≡ signed (savedAnswer (savingAnswer saving))`. Assumes nothing.
 use Rattle.words.specs.Choice.{if_then_else_}
 use Rattle.desk_looking.proofs.Signed.{passed}
 use mathlib.Core.Path.{_∙_}

@@ -1,4 +1,4 @@
--- `desk_looking::written_number` keeps its promise, `r ≡ signed (writes.told answer)`. A packet has at most 440 octets. Assumes nothing.
+-- `desk_looking::written_number` keeps its promise, `r ≡ signed (writingAnswer answer)`. A packet has at most 440 octets. Assumes nothing.
 use lib.IntN.{pos, negℤ}
 use Prim.Native.Nat.{ℕ}
 use Rattle.desk_looking.proofs.Signed.{passed}

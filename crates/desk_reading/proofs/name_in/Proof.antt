@@ -1,10 +1,11 @@
 -- `desk_reading::name_in` keeps its promise, `r ≡ nameIn (now (s .entry)) seat`. Assumes nothing.
+use Rattle.octets.specs.Octets.{nthOctet}
 use Rattle.desk_octets.specs.Places.{identitiesColumn, lengthsColumn}
 use Rattle.desk_octets.specs.Columns.{column}
 use Rattle.desk_octets.proofs.Turns.{fill-turn}
 use Rattle.desk_octets.proofs.Columns.{column-is}
 use Rattle.desk_octets.specs.Form.{nameIn}
-use Rattle.desk_octets.specs.Form.{nameIn, octetAt}
+use Rattle.desk_octets.specs.Form.{nameIn}
 use lib.ListN.{length, getD, length-set}
 use Prim.Native.Nat.{ℕ, _+_, _*_, _-_, _≤_, _<_}
 use mathlib.Core.Path.{_≡_, refl}
@@ -15,7 +16,7 @@ use Rattle.desk_reading.proofs.name_in.Tie as tie
 
 abbrev Inv-loop : tie.InvT-loop
 Inv-loop s seat octets₀ at i₀ octets i =
-    (i ≤ 62) × (length octets ≡ 62) × ((j : ℕ) → j < i → getD octets j 0 ≡ octetAt s (identitiesColumn + 62 * seat + j))
+    (i ≤ 62) × (length octets ≡ 62) × ((j : ℕ) → j < i → getD octets j 0 ≡ nthOctet s (identitiesColumn + 62 * seat + j))
 
 abbrev μ-loop : tie.MeasureT-loop
 μ-loop s seat octets₀ at i₀ octets i = 62 - i
@@ -51,7 +52,7 @@ loop-again c =
     let h : l .i < length (l .octets) = omega (arith, l .inv .1) in (
       omega arith,
       simp length-set (l .inv .1),
-      fill-turn 0 (λ j. octetAt (a .s .now) (identitiesColumn + 62 * a .seat + j)) (l .octets) (l .i) _ h (l .inv .2) refl,
+      fill-turn 0 (λ j. nthOctet (a .s .now) (identitiesColumn + 62 * a .seat + j)) (l .octets) (l .i) _ h (l .inv .2) refl,
     )
 
 add-wide : tie.Need-add-wide Inv-loop μ-loop
@@ -68,9 +69,9 @@ unfolding nameIn
 returns c =
     let a = c .before .before .before .before .before .args in
     let l = c .before .before .before .loop in
-    let e : l .octets ≡ column (octetAt (a .s .now)) (identitiesColumn + 62 * a .seat) 62 =
-    column-is (octetAt (a .s .now)) (l .octets) (identitiesColumn + 62 * a .seat) 62 0 (l .inv .1) (λ i k. l .inv .2 i (omega arith)) in
-    let q : c .wide .result ≡ octetAt (a .s .now) (lengthsColumn + a .seat) = c .wide .ensures in
+    let e : l .octets ≡ column (nthOctet (a .s .now)) (identitiesColumn + 62 * a .seat) 62 =
+    column-is (nthOctet (a .s .now)) (l .octets) (identitiesColumn + 62 * a .seat) 62 0 (l .inv .1) (λ i k. l .inv .2 i (omega arith)) in
+    let q : c .wide .result ≡ nthOctet (a .s .now) (lengthsColumn + a .seat) = c .wide .ensures in
     rw (e, q)
 
 pub name-in-spec : {M : Type 1} → statement M

@@ -1,7 +1,8 @@
 -- `desk_reading::octets_at` keeps its promise, `r ≡ octetsAt (now (s .entry)) at`. Assumes nothing.
+use Rattle.octets.specs.Octets.{nthOctet}
 use Rattle.desk_octets.proofs.Turns.{fill-turn}
 use Rattle.desk_octets.proofs.Columns.{column-is}
-use Rattle.desk_octets.specs.Form.{octetsAt, octetAt}
+use Rattle.desk_octets.specs.Form.{octetsAt}
 use lib.ListN.{length, getD, length-set}
 use Prim.Native.Nat.{ℕ, _+_, _-_, _≤_, _<_}
 use mathlib.Core.Path.{_≡_, refl}
@@ -11,7 +12,7 @@ use Rattle.desk_reading.proofs.octets_at.Statement.{statement}
 use Rattle.desk_reading.proofs.octets_at.Tie as tie
 
 abbrev Inv-loop : tie.InvT-loop
-Inv-loop s at octets₀ i₀ octets i = (i ≤ 16) × (length octets ≡ 16) × ((j : ℕ) → j < i → getD octets j 0 ≡ octetAt s (at + j))
+Inv-loop s at octets₀ i₀ octets i = (i ≤ 16) × (length octets ≡ 16) × ((j : ℕ) → j < i → getD octets j 0 ≡ nthOctet s (at + j))
 
 abbrev μ-loop : tie.MeasureT-loop
 μ-loop s at octets₀ i₀ octets i = 16 - i
@@ -39,14 +40,14 @@ loop-again c =
     let a = c .before .before .before .args in
     let l = c .before .before .loop in
     let h : l .i < length (l .octets) = omega (arith, l .inv .1) in
-    (omega arith, simp length-set (l .inv .1), fill-turn 0 (λ j. octetAt (a .s .now) (a .at + j)) (l .octets) (l .i) _ h (l .inv .2) refl)
+    (omega arith, simp length-set (l .inv .1), fill-turn 0 (λ j. nthOctet (a .s .now) (a .at + j)) (l .octets) (l .i) _ h (l .inv .2) refl)
 
 returns : tie.Need-returns Inv-loop μ-loop
 unfolding octetsAt
 returns c =
     let a = c .before .before .args in
     let l = c .before .loop in
-    column-is (octetAt (a .s .now)) (l .octets) (a .at) 16 0 (l .inv .1) (λ i k. l .inv .2 i (omega arith))
+    column-is (nthOctet (a .s .now)) (l .octets) (a .at) 16 0 (l .inv .1) (λ i k. l .inv .2 i (omega arith))
 
 pub octets-at-spec : {M : Type 1} → statement M
 octets-at-spec =

@@ -4,9 +4,10 @@ use mathlib.Core.Path.{_≡_, refl}
 use lib.ListN.{length, getD, length-set}
 use borrow.Author.Needs.{needs}
 use native.Mathlib.Omega.{arith}
+use Rattle.octets.specs.Octets.{nthOctet}
 use Rattle.hall.specs.Seats.{noFlags}
 use Rattle.seat_octets.specs.Layout.{flagsOf}
-use Rattle.desk_octets.specs.Form.{octetAt, seatFlagsAt}
+use Rattle.desk_octets.specs.Form.{seatFlagsAt}
 use Rattle.desk_octets.proofs.Turns.{fill-turn}
 use Rattle.desk_octets.proofs.Columns.{column-is-from-0}
 use Rattle.desk_reading.proofs.seat_flags_at.Statement.{statement}
@@ -14,7 +15,7 @@ use Rattle.desk_reading.proofs.seat_flags_at.Tie as tie
 
 abbrev Inv-loop : tie.InvT-loop
 Inv-loop s at flags₀ i₀ flags i =
-    (i ≤ 16) × (length flags ≡ 16) × ((j : ℕ) → j < i → getD flags j noFlags ≡ flagsOf (octetAt s (at + j)))
+    (i ≤ 16) × (length flags ≡ 16) × ((j : ℕ) → j < i → getD flags j noFlags ≡ flagsOf (nthOctet s (at + j)))
 
 abbrev μ-loop : tie.MeasureT-loop
 μ-loop s at flags₀ i₀ flags i = 16 - i
@@ -50,7 +51,7 @@ loop-again c =
     let h : l .i < length (l .flags) = omega (arith, l .inv .1) in (
       omega arith,
       simp length-set (l .inv .1),
-      fill-turn noFlags (λ j. flagsOf (octetAt (a .s .now) (a .at + j))) (l .flags) (l .i) _ h (l .inv .2) (c .flags-of .ensures),
+      fill-turn noFlags (λ j. flagsOf (nthOctet (a .s .now) (a .at + j))) (l .flags) (l .i) _ h (l .inv .2) (c .flags-of .ensures),
     )
 
 returns : tie.Need-returns Inv-loop μ-loop
@@ -58,7 +59,7 @@ unfolding seatFlagsAt
 returns c =
     let a = c .before .before .before .args in
     let l = c .before .loop in
-    column-is-from-0 (λ j. flagsOf (octetAt (a .s .now) (a .at + j))) (l .flags) 16 noFlags (l .inv .1) (λ i k. l .inv .2 i (omega arith))
+    column-is-from-0 (λ j. flagsOf (nthOctet (a .s .now) (a .at + j))) (l .flags) 16 noFlags (l .inv .1) (λ i k. l .inv .2 i (omega arith))
 
 pub seat-flags-at-spec : {M : Type 1} → statement M
 seat-flags-at-spec =

@@ -3,7 +3,7 @@
 use Rattle.desk_octets.specs.Places.{phasePlace, takenColumn, lengthsColumn}
 use Rattle.octets.proofs.Over.{run}
 use Rattle.desk_octets.proofs.Lengths.{length-core, length-head}
-use Rattle.desk_octets.specs.Form.{letters, coreOctets, hallOctets, namesOctets, octetsOf}
+use Rattle.desk_octets.specs.Form.{deskLetters, coreOctets, hallOctets, namesOctets, octetsOf}
 use Prim.Native.Nat.{zero-le}
 use mathlib.Core.List.{_++_}
 use mathlib.Core.Path.{refl}
@@ -33,10 +33,10 @@ returns c =
     c .before .before .before .before .before .before .before .before .before .before .before .before .before .before .before .before
     .before .args in
     let r = a .room .now in
-    run r _ _ 0 lengthsColumn (letters ++ coreOctets (a .core) ++ hallOctets (a .hall)) (namesOctets (a .names)) zero-le
+    run r _ _ 0 lengthsColumn (deskLetters ++ coreOctets (a .core) ++ hallOctets (a .hall)) (namesOctets (a .names)) zero-le
     (length-head (a .core) (a .hall))
-    (run r _ _ 0 takenColumn (letters ++ coreOctets (a .core)) (hallOctets (a .hall)) zero-le (rw (length-core (a .core)))
-    (run r _ _ 0 phasePlace letters (coreOctets (a .core)) zero-le refl
+    (run r _ _ 0 takenColumn (deskLetters ++ coreOctets (a .core)) (hallOctets (a .hall)) zero-le (rw (length-core (a .core)))
+    (run r _ _ 0 phasePlace deskLetters (coreOctets (a .core)) zero-le refl
     (c .before .before .before .before .before .before .before .before .before .before .before .before .before .before .put-letters
     .ensures) (c .before .before .before .before .before .before .before .before .before .before .put-core .ensures))
     (c .before .before .before .before .before .before .put-hall .ensures)) (c .before .before .put-names .ensures)

@@ -4,7 +4,7 @@ use Rattle.desk_making.proofs.Making.{octets-hold}
 use Rattle.desk_making.specs.Making.{inOctets, settable, written, makeOn}
 use Rattle.hall.specs.declared.Settings.{Settings}
 use Rattle.hall.specs.declared.Answer.the-variants.{Done, OutsideRange}
-use Rattle.hall.specs.Answers.{number, settingsAnswer}
+use Rattle.hall.specs.Answers.{answerNumber, settingsAnswer}
 use Rattle.hall.specs.Seats.{inRange, emptyHall}
 use Rattle.identities.specs.Identity.{noNames}
 use Rattle.events.specs.Events.{fresh}
@@ -21,22 +21,22 @@ use Rattle.floor.proofs.floor_make.Tie as tie
 
 -- a desk is made by the answer to its settings
 made-by : (room : List ℕ) (s : Settings) (b : Bool)
-    → (if b then written room 0 fresh (emptyHall s) noNames else (number OutsideRange, room))
-    ≡ written room (number (if b then Done else OutsideRange)) fresh (emptyHall s) noNames
+    → (if b then written room 0 fresh (emptyHall s) noNames else (answerNumber OutsideRange, room))
+    ≡ written room (answerNumber (if b then Done else OutsideRange)) fresh (emptyHall s) noNames
 unfolding written if_then_else_
 made-by room s true = refl
 made-by room s false = refl
 
 made-so : (room : List ℕ) (s : Settings) (n : ℕ) → inOctets (s .level) (s .limit) (s .c7) (s .c20) (s .duration) ≡ true
-    → n ≡ number (settingsAnswer s) → written room n fresh (emptyHall s) noNames ≡ makeOn room s
+    → n ≡ answerNumber (settingsAnswer s) → written room n fresh (emptyHall s) noNames ≡ makeOn room s
 unfolding settable settingsAnswer
 made-so room s n q e = rw (e, q) (sym (made-by room s (inRange s)))
 
 made-as : (room : List ℕ) (g s : Settings) (n : ℕ) → g ≡ s → inOctets (s .level) (s .limit) (s .c7) (s .c20) (s .duration) ≡ true
-    → n ≡ number (settingsAnswer g) → written room n fresh (emptyHall g) noNames ≡ makeOn room s
+    → n ≡ answerNumber (settingsAnswer g) → written room n fresh (emptyHall g) noNames ≡ makeOn room s
 made-as room g s n e q a =
     ap (λ (x : Settings). written room n fresh (emptyHall x) noNames) e
-    ∙ made-so room s n q (a ∙ ap (λ (x : Settings). number (settingsAnswer x)) e)
+    ∙ made-so room s n q (a ∙ ap (λ (x : Settings). answerNumber (settingsAnswer x)) e)
 
 in-octets-requires : tie.Need-in-octets-requires
 in-octets-requires c κs = search needs
@@ -91,7 +91,7 @@ returns-2 c =
     ∙ made-as _ _ _ _ (c .before .before .before .before .before .before .settings-of .ensures)
     (sym (c .before .before .before .before .before .before .before .before .in-octets .ensures)
     ∙ not-false _ (c .before .before .before .before .before .before .before .if1 .left))
-    (c .before .before .before .number-of2 .ensures ∙ ap number (c .before .before .before .before .before .check-settings .ensures))
+    (c .before .before .before .number-of2 .ensures ∙ ap answerNumber (c .before .before .before .before .before .check-settings .ensures))
 
 pub floor-make-spec : {M : Type 1} → statement M
 floor-make-spec =

@@ -3,8 +3,9 @@ use Prim.Native.Nat.{_+_, _-_, _≤_}
 use mathlib.Core.Path.{_≡_, refl, ap, _∙_}
 use mathlib.Core.Bool.{_&&_}
 use lib.Dec.{leb}
+use Rattle.octets.specs.Octets.{nthOctet}
 use Rattle.words.specs.Below.{allBelow}
-use Rattle.desk_octets.specs.Form.{octetAt, upTo}
+use Rattle.desk_octets.specs.Form.{upTo}
 use Rattle.desk_octets.proofs.Tests.{more}
 use Rattle.identity_octets.proofs.Parts.{quarters}
 use borrow.Author.Needs.{needs}
@@ -15,8 +16,8 @@ use Rattle.identity_octets.proofs.none_at.Tie as tie
 abbrev Inv-loop : tie.InvT-loop
 Inv-loop s at ok₀ i₀ ok i =
     (i ≤ 32) × (ok ≡ allBelow
-    (λ m. leb (octetAt s (at + m)) 0 && leb (octetAt s (at + (10 + m))) 0 && leb (octetAt s (at + (20 + m))) 0
-    && leb (octetAt s (at + (30 + m))) 0) i)
+    (λ m. leb (nthOctet s (at + m)) 0 && leb (nthOctet s (at + (10 + m))) 0 && leb (nthOctet s (at + (20 + m))) 0
+    && leb (nthOctet s (at + (30 + m))) 0) i)
 
 abbrev μ-loop : tie.MeasureT-loop
 μ-loop s at ok₀ i₀ ok i = 32 - i
@@ -68,8 +69,9 @@ loop-again c =
     let l = c .before .before .before .before .before .loop in
     let a = c .before .before .before .before .before .before .args in (
       omega arith,
-      more (λ m. leb (octetAt (a .s .now) (a .at + m)) 0 && leb (octetAt (a .s .now) (a .at + (10 + m))) 0
-          && leb (octetAt (a .s .now) (a .at + (20 + m))) 0 && leb (octetAt (a .s .now) (a .at + (30 + m))) 0) (l .i) _ _ refl (l .inv .1),
+      more (λ m. leb (nthOctet (a .s .now) (a .at + m)) 0 && leb (nthOctet (a .s .now) (a .at + (10 + m))) 0
+          && leb (nthOctet (a .s .now) (a .at + (20 + m))) 0
+          && leb (nthOctet (a .s .now) (a .at + (30 + m))) 0) (l .i) _ _ refl (l .inv .1),
     )
 
 returns : tie.Need-returns Inv-loop μ-loop
@@ -79,9 +81,9 @@ returns c =
     let a = c .before .before .args in
     let e : l .i ≡ 32 = omega arith in
     l .inv .1 ∙ ap (allBelow
-    (λ m. leb (octetAt (a .s .now) (a .at + m)) 0 && leb (octetAt (a .s .now) (a .at + (10 + m))) 0
-    && leb (octetAt (a .s .now) (a .at + (20 + m))) 0 && leb (octetAt (a .s .now) (a .at + (30 + m))) 0)) e
-    ∙ quarters (λ m. leb (octetAt (a .s .now) (a .at + m)) 0)
+    (λ m. leb (nthOctet (a .s .now) (a .at + m)) 0 && leb (nthOctet (a .s .now) (a .at + (10 + m))) 0
+    && leb (nthOctet (a .s .now) (a .at + (20 + m))) 0 && leb (nthOctet (a .s .now) (a .at + (30 + m))) 0)) e
+    ∙ quarters (λ m. leb (nthOctet (a .s .now) (a .at + m)) 0)
 
 pub none-at-spec : {M : Type 1} → statement M
 none-at-spec =

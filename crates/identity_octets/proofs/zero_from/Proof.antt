@@ -3,8 +3,9 @@ use Prim.Native.Nat.{ℕ, _+_, _-_, _≤_}
 use mathlib.Core.Path.{_≡_, refl, ap, _∙_}
 use mathlib.Core.Bool.{Bool}
 use lib.Dec.{leb}
+use Rattle.octets.specs.Octets.{nthOctet}
 use Rattle.words.specs.Below.{allBelow}
-use Rattle.desk_octets.specs.Form.{octetAt, upTo}
+use Rattle.desk_octets.specs.Form.{upTo}
 use Rattle.desk_octets.proofs.Tests.{more}
 use Rattle.identity_octets.proofs.Parts.{at-four, in-sixteens}
 use borrow.Author.Needs.{needs}
@@ -13,7 +14,7 @@ use Rattle.identity_octets.proofs.zero_from.Statement.{statement}
 use Rattle.identity_octets.proofs.zero_from.Tie as tie
 
 abbrev Inv-loop : tie.InvT-loop
-Inv-loop s at len a b c d ok₀ i₀ ok i = (i ≤ 16) × (ok ≡ allBelow (at-four (λ j. leb (octetAt s j) 0) a b c d) i)
+Inv-loop s at len a b c d ok₀ i₀ ok i = (i ≤ 16) × (ok ≡ allBelow (at-four (λ j. leb (nthOctet s j) 0) a b c d) i)
 
 abbrev μ-loop : tie.MeasureT-loop
 μ-loop s at len a b c d ok₀ i₀ ok i = 16 - i
@@ -79,14 +80,14 @@ loop-again : tie.Need-loop-again Inv-loop μ-loop
 loop-again c =
     let l = c .before .before .before .before .before .loop in
     let a = c .before .before .before .before .before .before .before .before .before .args in
-    (omega arith, more (at-four (λ j. leb (octetAt (a .s .now) j) 0) _ _ _ _) (l .i) _ _ refl (l .inv .1))
+    (omega arith, more (at-four (λ j. leb (nthOctet (a .s .now) j) 0) _ _ _ _) (l .i) _ _ refl (l .inv .1))
 
 returns : tie.Need-returns Inv-loop μ-loop
 unfolding upTo
 returns c =
     let l = c .before .loop in
     let a = c .before .before .before .before .before .args in
-    let f : ℕ → Bool = λ j. leb (octetAt (a .s .now) j) 0 in
+    let f : ℕ → Bool = λ j. leb (nthOctet (a .s .now) j) 0 in
     let b = c .before .before .before .at-most-46 in
     let d = c .before .before .at-most-462 in
     let e : l .i ≡ 16 = omega arith in

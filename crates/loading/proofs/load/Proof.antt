@@ -1,7 +1,7 @@
 -- `loading::load` meets its contract: 41, 42 and 43 first. Assumes nothing.
 use mathlib.Core.Path.{sym, ap, _∙_}
 use borrow.Author.Needs.{needs}
-use Rattle.sheet.specs.Framing.{number}
+use Rattle.sheet.specs.Framing.{verdictNumber}
 use Rattle.sheet.proofs.Frames.{framed}
 use Rattle.loading.proofs.Loads.{loads-framed, loads-refused}
 use Rattle.loading.proofs.load.Statement.{statement}
@@ -15,7 +15,7 @@ verdict-number-requires c κs = search needs
 
 settle-requires : tie.Need-settle-requires
 settle-requires c κs =
-    let v = ap number (sym (c .before .before .judge-trailer .ensures)) ∙ sym (c .before .verdict-number .ensures) in
+    let v = ap verdictNumber (sym (c .before .before .judge-trailer .ensures)) ∙ sym (c .before .verdict-number .ensures) in
     framed (c .before .before .before .before .args .s .now) (v ∙ c .if1 .taken) .long
 
 refuse-requires : tie.Need-refuse-requires
@@ -23,13 +23,13 @@ refuse-requires c κs = search needs
 
 returns : tie.Need-returns
 returns c =
-    let v = ap number (sym (c .before .before .before .judge-trailer .ensures)) ∙ sym (c .before .before .verdict-number .ensures) in
+    let v = ap verdictNumber (sym (c .before .before .before .judge-trailer .ensures)) ∙ sym (c .before .before .verdict-number .ensures) in
     c .settle .ensures ∙ sym (loads-framed (c .before .before .before .before .before .args .s .now) (v ∙ c .before .if1 .taken))
 
 returns-2 : tie.Need-returns-2
 returns-2 c =
     let s = c .before .before .before .before .before .args .s .now in
-    let e = ap number (c .before .before .before .judge-trailer .ensures) in
+    let e = ap verdictNumber (c .before .before .before .judge-trailer .ensures) in
     c .refuse .ensures
     ∙ sym (loads-refused s _ e (λ q. c .before .if1 .left (c .before .before .verdict-number .ensures ∙ q)))
 

@@ -1,4 +1,4 @@
--- `message::has_cause` keeps its promise, `((src : List ℕ) → r ≡ isGiven (ofCause src c))`. Assumes nothing.
+-- `message::has_cause` keeps its promise, `((src : List ℕ) → r ≡ isThere (ofCause src c))`. Assumes nothing.
 use borrow.Author.Needs.{needs}
 use Rattle.message.proofs.has_cause.Statement.{statement}
 use Rattle.message.proofs.has_cause.Tie as tie

@@ -1,4 +1,4 @@
--- `message::has_part` keeps its promise, `((src : List ℕ) → r ≡ isGiven (ofPart src p))`. Assumes nothing.
+-- `message::has_part` keeps its promise, `((src : List ℕ) → r ≡ isThere (ofPart src p))`. Assumes nothing.
 use borrow.Author.Needs.{needs}
 use Rattle.message.proofs.has_part.Statement.{statement}
 use Rattle.message.proofs.has_part.Tie as tie

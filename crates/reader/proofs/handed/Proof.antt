@@ -39,9 +39,9 @@ use denote.Triple.Walked.{says, Stays, stay-none, stay-none-slice, walkOf, goes-
 use denote.Exit.{yes}
 use denote.Triple.Clauses.{ensured, lasts}
 use Rattle.field.specs.Fields.{stepAt}
-use Rattle.field.specs.declared.Step.{Step}
-use Rattle.field.proofs.Step as S
-use Rattle.field.proofs.Step.Laws as S′
+use Rattle.field.specs.declared.FieldStep.{FieldStep}
+use Rattle.field.proofs.FieldStep as S
+use Rattle.field.proofs.FieldStep.Laws as S′
 use Rattle.reader.specs.declared.Reader.{Reader}
 use Rattle.reader.proofs.Resting.{the-row, the-type, the-laws, value, packet-value, owned-at}
 use Rattle.reader.proofs.next as next
@@ -80,7 +80,7 @@ module _ {M : Type 1} (𝓤 : URA M) (H : Heap 𝓤) (A : Atoms 𝓤) (W : Given
   abbrev made : Reader
   made = record { packet = p; at = n }
 
-  abbrev found : Step
+  abbrev found : FieldStep
   found = stepAt (now p) n
 
   -- the call of `next`
@@ -99,10 +99,10 @@ module _ {M : Type 1} (𝓤 : URA M) (H : Heap 𝓤) (A : Atoms 𝓤) (W : Given
       (qed W ((‵ (flft κ q) ⊛ ‵ ftrue) ∷ ‵ (owns (the-row (κ, tt) ∷ []) (made, tt) (value made ∷ [], tt)) ∷ []) ∵ join ! $ frame ! $
       done !) $ frame ! $ done !
 
-  said : (s : Step) → ent 𝓤 (ensured 𝓤 H A next.ended (next.clauses 𝓤 H A mem run) (κ, tt) (made, tt) tt s) (fact 𝓤 (s ≡ found))
+  said : (s : FieldStep) → ent 𝓤 (ensured 𝓤 H A next.ended (next.clauses 𝓤 H A mem run) (κ, tt) (made, tt) tt s) (fact 𝓤 (s ≡ found))
   said s = exE 𝓤 _ (λ ws. snd∗ 𝓤 (sem 𝓤 H A (lasts next.ended (κ, tt) (made, tt) ws)) (fact 𝓤 (s ≡ found)))
 
-  exits : (s : Step) (v : Val) → s ≡ found →
+  exits : (s : FieldStep) (v : Val) → s ≡ found →
       ent 𝓤 (⋆ 𝓤 H A (‵ (S.the-row .own s (v ∷ [])) ∷ (‵ (flft κ q) ⊛ ‵ ftrue) ∷ ‵ Own ∷ [])) (Post v)
   exits s v e =
       qed W (‵ (S.the-row .own s (v ∷ [])) ∷ (‵ (flft κ q) ⊛ ‵ ftrue) ∷ ‵ Own ∷ []) ∵
@@ -125,7 +125,7 @@ module _ {M : Type 1} (𝓤 : URA M) (H : Heap 𝓤) (A : Atoms 𝓤) (W : Given
         (init ! 0 refl (tt, (typed .1, (record { fits = n-fits }, tt)))) $
         move ! (8 ∷ []) $ use1 W (raw (Next 𝓤 H A mem run .pre to) ⊛ ‵ Own) goes $ split ! $
         calls-at ! fm (Next 𝓤 H A mem run) known to (and-then ! (load ! (from ! (stop !)) (look ! 2 refl)) (no-more !)) (λ v.
-        use1 W (later (some (λ (s : Step). ((‵ (flft κ q) ⊛ ‵ ftrue) ⊛ ‵ (S.the-row .own s (v ∷ []))) ⊛ raw
+        use1 W (later (some (λ (s : FieldStep). ((‵ (flft κ q) ⊛ ‵ ftrue) ⊛ ‵ (S.the-row .own s (v ∷ []))) ⊛ raw
         (ensured 𝓤 H A next.ended (next.clauses 𝓤 H A mem run) (κ, tt) (made, tt) tt s)))) (id⊢ 𝓤 _) $ await ! tt $ pick ! (λ s.
         split ! $ move ! (1 ∷ []) $ use1 W (raw (fact 𝓤 (s ≡ found))) (said s) $ heard ! (s ≡ found) (λ e. split ! $ move ! (1 ∷ []) $
         -- [the answer; the token; what the packet owns; the four locals]

@@ -42,9 +42,9 @@ use Rattle.reader.proofs.place_behind as past
 use Rattle.reader.proofs.place_behind.Symbol as past-def
 use Rattle.reader.proofs.place_behind.Symbol.{name as #reader·place-behind}
 use Rattle.reader.proofs.place_behind.Met as past-thm
-use Rattle.field.specs.declared.Step.{Step}
-use Rattle.field.proofs.Step as S
-use Rattle.field.proofs.Step.Laws as S′
+use Rattle.field.specs.declared.FieldStep.{FieldStep}
+use Rattle.field.proofs.FieldStep as S
+use Rattle.field.proofs.FieldStep.Laws as S′
 use Rattle.reader.specs.Reader.{behind}
 use Rattle.reader.specs.declared.Reader.{Reader}
 use Rattle.reader.proofs.Reader.Laws as T′
@@ -62,7 +62,7 @@ abbrev PlaceBehind : {M : Type 1} (𝓤 : URA M) (H : Heap 𝓤) (A : Atoms 𝓤
 PlaceBehind 𝓤 H A mem run = tripleOf 𝓤 H A past.signature (past.spec 𝓤 H A mem run)
 
 module _ {M : Type 1} (𝓤 : URA M) (H : Heap 𝓤) (A : Atoms 𝓤) (W : Given 𝓤 H A) (mem : Memory → SProp 𝓤) (run : Routine → Fun 𝓤) (κ : Lft)
-    (q : Share) (r : Reader) (x : Step) (w : Val) (fine : Is S.the-row x (w ∷ [])) where
+    (q : Share) (r : Reader) (x : FieldStep) (w : Val) (fine : Is S.the-row x (w ∷ [])) where
   abbrev Entry : SProp 𝓤
   Entry = onEntry 𝓤 H A pass.signature (κ, tt) (q, tt) (r, (x, tt)) (value r ∷ [], (w ∷ [], tt))
 

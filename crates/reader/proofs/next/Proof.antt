@@ -42,9 +42,9 @@ use denote.Triple.Walked.{says, Stays, stay-none, walkOf, goes-none, Walks, ends
 use denote.Exit.{yes}
 use denote.Triple.Clauses.{ensured, lasts}
 use Rattle.field.specs.Fields.{stepAt}
-use Rattle.field.specs.declared.Step.{Step}
-use Rattle.field.proofs.Step as S
-use Rattle.field.proofs.Step.Laws as S′
+use Rattle.field.specs.declared.FieldStep.{FieldStep}
+use Rattle.field.proofs.FieldStep as S
+use Rattle.field.proofs.FieldStep.Laws as S′
 use Rattle.field.proofs.field_at as field
 use Rattle.field.proofs.field_at.Symbol as field-def
 use Rattle.field.proofs.field_at.Symbol.{name as #field·field-at}
@@ -75,7 +75,7 @@ module _ {M : Type 1} (𝓤 : URA M) (H : Heap 𝓤) (A : Atoms 𝓤) (W : Given
   abbrev Post : Val → SProp 𝓤
   Post = walkOf 𝓤 H A next.ended stayed (next.clauses 𝓤 H A mem run) .post bound
 
-  abbrev found : Step
+  abbrev found : FieldStep
   found = stepAt (now (r .packet)) (r .at)
 
   -- what the callee is passed
@@ -106,11 +106,11 @@ module _ {M : Type 1} (𝓤 : URA M) (H : Heap 𝓤) (A : Atoms 𝓤) (W : Given
       move ! (2 ∷ 0 ∷ []) $ use2 W (raw (FieldAt 𝓤 H A mem run .pre to)) asked $ frame ! $ done !)
 
   -- of what the callee ensures, the clause alone: it is lent nothing that could change
-  said : (s : Step) → ent 𝓤 (ensured 𝓤 H A field.ended (field.clauses 𝓤 H A mem run) (κ, tt) (r .packet, (r .at, tt)) tt s)
+  said : (s : FieldStep) → ent 𝓤 (ensured 𝓤 H A field.ended (field.clauses 𝓤 H A mem run) (κ, tt) (r .packet, (r .at, tt)) tt s)
       (fact 𝓤 (s ≡ found))
   said s = exE 𝓤 _ (λ ws. snd∗ 𝓤 (sem 𝓤 H A (lasts field.ended (κ, tt) (r .packet, (r .at, tt)) ws)) (fact 𝓤 (s ≡ found)))
 
-  exits : (s : Step) (v : Val) → s ≡ found →
+  exits : (s : FieldStep) (v : Val) → s ≡ found →
       ent 𝓤 (⋆ 𝓤 H A (‵ (S.the-row .own s (v ∷ [])) ∷ (‵ (flft κ q) ⊛ ‵ ftrue) ∷ ‵ (owned-at κ r (value r)) ∷ [])) (Post v)
   exits s v e =
       qed W (‵ (S.the-row .own s (v ∷ [])) ∷ (‵ (flft κ q) ⊛ ‵ ftrue) ∷ ‵ (owned-at κ r (value r)) ∷ []) ∵
@@ -131,7 +131,7 @@ module _ {M : Type 1} (𝓤 : URA M) (H : Heap 𝓤) (A : Atoms 𝓤) (W : Given
         calls-at ! fm (FieldAt 𝓤 H A mem run) known to
         (and-then ! (load ! (from ! (stop !)) (look ! 4 refl)) (and-then ! (load ! (from ! (stop !)) (look ! 2 refl)) (no-more !)))
         (λ v.
-        use1 W (later (some (λ (s : Step). ((‵ (flft κ q) ⊛ ‵ ftrue) ⊛ ‵ (S.the-row .own s (v ∷ []))) ⊛ raw
+        use1 W (later (some (λ (s : FieldStep). ((‵ (flft κ q) ⊛ ‵ ftrue) ⊛ ‵ (S.the-row .own s (v ∷ []))) ⊛ raw
         (ensured 𝓤 H A field.ended (field.clauses 𝓤 H A mem run) (κ, tt) (r .packet, (r .at, tt)) tt s)))) (id⊢ 𝓤 _) $ await ! tt $ pick
         ! (λ s.
         split ! $ move ! (1 ∷ []) $ use1 W (raw (fact 𝓤 (s ≡ found))) (said s) $ heard ! (s ≡ found) (λ e. split ! $ move ! (1 ∷ []) $

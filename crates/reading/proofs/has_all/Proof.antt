@@ -2,7 +2,7 @@
 use mathlib.Core.Path.{refl, _∙_}
 use lib.ListN.{getD}
 use Rattle.words.specs.Choice.{if_then_else_}
-use Rattle.message.specs.Message.{complete, said, has, fieldsOf, isGiven, ofOctet, ofWord, ofPart, ofCause, ofQueue}
+use Rattle.message.specs.Message.{complete, said, has, fieldsOf, isThere, ofOctet, ofWord, ofPart, ofCause, ofQueue}
 use Rattle.message.proofs.Required.{required-by}
 use Rattle.reading.specs.Reading.{messageAt, octetAt, wordAt, partAt, causeAt, queueAt}
 use Rattle.reading.proofs.Judges.{given-at}
@@ -42,13 +42,13 @@ returns c s =
     c .has-required .ensures
     ∙ required-by _ (has (fieldsOf m s))
     (record {
-      duration = given-at (λ w. isGiven (ofWord w)) _ _ (getD (a .starts .now) 1 0) refl refl;
-      cause = given-at (λ x. isGiven (ofCause s x)) _ _ (getD (a .starts .now) 2 0) refl refl;
-      queue = given-at (λ q. isGiven (ofQueue q)) _ _ (getD (a .starts .now) 3 0) refl refl;
-      granted = given-at (λ p. isGiven (ofPart s p)) _ _ (getD (a .starts .now) 4 0) refl refl;
-      sequence = given-at (λ w. isGiven (ofWord w)) _ _ (getD (a .starts .now) 8 0) refl refl;
-      source = given-at (λ w. isGiven (ofWord w)) _ _ (getD (a .starts .now) 10 0) refl refl;
-      «message_type» = given-at (λ o. isGiven (ofOctet o)) _ _ (getD (a .starts .now) 12 0) refl refl;
+      duration = given-at (λ w. isThere (ofWord w)) _ _ (getD (a .starts .now) 1 0) refl refl;
+      cause = given-at (λ x. isThere (ofCause s x)) _ _ (getD (a .starts .now) 2 0) refl refl;
+      queue = given-at (λ q. isThere (ofQueue q)) _ _ (getD (a .starts .now) 3 0) refl refl;
+      granted = given-at (λ p. isThere (ofPart s p)) _ _ (getD (a .starts .now) 4 0) refl refl;
+      sequence = given-at (λ w. isThere (ofWord w)) _ _ (getD (a .starts .now) 8 0) refl refl;
+      source = given-at (λ w. isThere (ofWord w)) _ _ (getD (a .starts .now) 10 0) refl refl;
+      «message_type» = given-at (λ o. isThere (ofOctet o)) _ _ (getD (a .starts .now) 12 0) refl refl;
     })
     (a .kind)
 

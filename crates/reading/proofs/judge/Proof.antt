@@ -1,7 +1,7 @@
 -- `reading::judge` keeps its promise, `Judges r (now (s .entry)) (now (starts .exit))`. Judges a packet, and notes where its fields'
 -- contents start: with its type they are its message, of which a caller makes what it needs. Assumes nothing.
 use mathlib.Core.Path.{sym, ap, _∙_}
-use Rattle.header.specs.Opening.{told}
+use Rattle.header.specs.Opening.{openingAnswer}
 use Rattle.reading.specs.Reading.{reading}
 use borrow.Author.Needs.{needs}
 use Rattle.reading.proofs.judge.Statement.{statement}
@@ -16,7 +16,7 @@ enum-known-kind c = search needs
 judge-fields-requires : tie.Need-judge-fields-requires
 judge-fields-requires c κs = (
   c .before .before .before .before .before .before .pre,
-  sym (c .before .before .before .before .opened .ensures) ∙ ap told (c .before .before .kind .given .1),
+  sym (c .before .before .before .before .opened .ensures) ∙ ap openingAnswer (c .before .before .kind .given .1),
 )
 
 enum-known-r : tie.Need-enum-known-r
@@ -28,7 +28,7 @@ returns c = c .judge-fields .ensures
 returns-2 : tie.Need-returns-2
 unfolding reading
 returns-2 c = (
-  rw (sym (c .before .before .before .opened .ensures) ∙ ap told (c .before .r .given .1)),
+  rw (sym (c .before .before .before .opened .ensures) ∙ ap openingAnswer (c .before .r .given .1)),
   c .before .before .before .before .before .pre,
 )
 

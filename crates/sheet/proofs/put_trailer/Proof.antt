@@ -5,7 +5,7 @@ use lib.ListN.{length}
 use Prim.Native.Nat.{_≤_}
 use mathlib.Core.Path.{refl}
 use Rattle.octets.proofs.Over.{run as over-then}
-use Rattle.sheet.specs.Layout.{trailer, form, letters}
+use Rattle.sheet.specs.Layout.{trailer, form, sheetLetters}
 use native.Mathlib.Omega.{arith}
 use borrow.Author.Needs.{needs}
 use Rattle.sheet.proofs.put_trailer.Statement.{statement}
@@ -57,7 +57,7 @@ returns c =
     let e3 =
     over-then room _ _ at 4 (octets16 (a .offset) ++ octets16 0) (a .count ∷ form ∷ []) h refl e2
     (c .before .before .before .before .before .before .put-pair .ensures) in
-    over-then room _ _ at 6 (octets16 (a .offset) ++ octets16 0 ++ (a .count ∷ form ∷ [])) (octets16 letters) h refl e3
+    over-then room _ _ at 6 (octets16 (a .offset) ++ octets16 0 ++ (a .count ∷ form ∷ [])) (octets16 sheetLetters) h refl e3
     (c .before .before .put163 .ensures)
 
 pub put-trailer-spec : {M : Type 1} → statement M

@@ -50,9 +50,9 @@ use denote.Triple.Walked.{walk-meets}
 use denote.Exit.{yes}
 use denote.Triple.Clauses.{ensured, lasts}
 use Rattle.field.specs.Fields.{stepAt, fieldsIn}
-use Rattle.field.specs.declared.Step.{Step}
-use Rattle.field.proofs.Step as S
-use Rattle.field.proofs.Step.Laws as S′
+use Rattle.field.specs.declared.FieldStep.{FieldStep}
+use Rattle.field.proofs.FieldStep as S
+use Rattle.field.proofs.FieldStep.Laws as S′
 use Rattle.reader.specs.Reader.{behind}
 use Rattle.reader.specs.declared.Reader.{Reader}
 use Rattle.reader.proofs.Reader as T
@@ -220,33 +220,33 @@ module _ {M : Type 1} (𝓤 : URA M) (H : Heap 𝓤) (A : Atoms 𝓤) (W : Given
       qed W (‵ (owned-at κ r (value r)) ∷ (‵ (flft κ q) ⊛ ‵ ftrue) ∷ []) ∵ nothing ! $ move ! (1 ∷ 0 ∷ []) $ fjoin ! $ move ! (1 ∷ 0 ∷ []) $
       join ! $ frame ! $ done !
 
-  next-said : (r : Reader) (x : Step) →
+  next-said : (r : Reader) (x : FieldStep) →
       ent 𝓤 (ensured 𝓤 H A next.ended (next.clauses 𝓤 H A mem run) (κ, tt) (r, tt) tt x) (fact 𝓤 (x ≡ stepAt (now (r .packet)) (r .at)))
   next-said r x = exE 𝓤 _ (λ ws. snd∗ 𝓤 (sem 𝓤 H A (lasts next.ended (κ, tt) (r, tt) ws)) (fact 𝓤 (x ≡ stepAt (now (r .packet)) (r .at))))
 
   -- the call of `moved`, at the reader r and a step x with the machine value u
-  abbrev to-moved : Reader → Step → Val → Moved 𝓤 H A mem run .Ghost
+  abbrev to-moved : Reader → FieldStep → Val → Moved 𝓤 H A mem run .Ghost
   to-moved r x u = (((κ, tt), (q, tt), tt, (r, (x, tt)), (value r ∷ [], (u ∷ [], tt))), tt)
 
-  goes-moved : (r : Reader) (x : Step) (u : Val) → Is S.the-row x (u ∷ []) →
+  goes-moved : (r : Reader) (x : FieldStep) (u : Val) → Is S.the-row x (u ∷ []) →
       ent 𝓤 (⋆ 𝓤 H A (‵ (owned-at κ r (value r)) ∷ (‵ (flft κ q) ⊛ ‵ ftrue) ∷ [])) (Moved 𝓤 H A mem run .pre (to-moved r x u))
   goes-moved r x u fine =
       qed W (‵ (owned-at κ r (value r)) ∷ (‵ (flft κ q) ⊛ ‵ ftrue) ∷ []) ∵ nothing ! $ owned ! S.the-row (Is S.the-row)
       (enum.makes S.the-type S′.the-plain 𝓤 H A) x (u ∷ []) fine $ fjoin ! $
       move ! (1 ∷ 0 ∷ []) $ fjoin ! $ move ! (1 ∷ 0 ∷ []) $ join ! $ frame ! $ done !
 
-  abbrev MovedBy : Reader → Step → Reader → Type 0
+  abbrev MovedBy : Reader → FieldStep → Reader → Type 0
   MovedBy r x r′ = (r′ .packet ≡ r .packet) × (r′ .at ≡ behind x (r .at))
 
-  moved-said : (r : Reader) (x : Step) (r′ : Reader) →
+  moved-said : (r : Reader) (x : FieldStep) (r′ : Reader) →
       ent 𝓤 (ensured 𝓤 H A moved.ended (moved.clauses 𝓤 H A mem run) (κ, tt) (r, (x, tt)) tt r′) (fact 𝓤 (MovedBy r x r′))
   moved-said r x r′ = exE 𝓤 _ (λ ws. snd∗ 𝓤 (sem 𝓤 H A (lasts moved.ended (κ, tt) (r, (x, tt)) ws)) (fact 𝓤 (MovedBy r x r′)))
 
   -- the call of `noted_field`: the array is lent again for the lifetime ν, under the name δ
-  abbrev to-noted : ℕ → GName → List ℕ → Step → Val → NotedField 𝓤 H A mem run .Ghost
+  abbrev to-noted : ℕ → GName → List ℕ → FieldStep → Val → NotedField 𝓤 H A mem run .Ghost
   to-noted ν δ ys x u = (((ν ∷ [], tt), (fullShare, tt), tt, (at-list δ ys, (x, tt)), (vptr b o ∷ [], (u ∷ [], tt))), tt)
 
-  goes-noted : (ν : ℕ) (δ : GName) (ys : List ℕ) (x : Step) (u : Val) → Is S.the-row x (u ∷ [])
+  goes-noted : (ν : ℕ) (δ : GName) (ys : List ℕ) (x : FieldStep) (u : Val) → Is S.the-row x (u ∷ [])
       → ent 𝓤 (sep 𝓤 (A .lft (ν ∷ []) fullShare) (sem 𝓤 H A (MutRef (named 0) (ν ∷ []) Starts .own (at-list δ ys) (vptr b o ∷ []))))
       (NotedField 𝓤 H A mem run .pre (to-noted ν δ ys x u))
   goes-noted ν δ ys x u fine =
@@ -255,19 +255,19 @@ module _ {M : Type 1} (𝓤 : URA M) (H : Heap 𝓤) (A : Atoms 𝓤) (W : Given
       (2 ∷ 0 ∷ []) $ fjoin ! $
       nothing ! $ move ! (2 ∷ 0 ∷ []) $ join ! $ join ! $ frame ! $ done !
 
-  abbrev NotedBy : List ℕ → Step → Bool → List ℕ → Type 0
+  abbrev NotedBy : List ℕ → FieldStep → Bool → List ℕ → Type 0
   NotedBy ys x c zs = (c ≡ isField x) × (zs ≡ notedStep ys x)
 
   -- the call of `ended`
-  abbrev to-ended : Step → Val → EndedBy 𝓤 H A mem run .Ghost
+  abbrev to-ended : FieldStep → Val → EndedBy 𝓤 H A mem run .Ghost
   to-ended x u = ((tt, tt, tt, (x, tt), (u ∷ [], tt)), tt)
 
-  goes-ended : (x : Step) (u : Val) → Is S.the-row x (u ∷ []) → ent 𝓤 (emp 𝓤) (EndedBy 𝓤 H A mem run .pre (to-ended x u))
+  goes-ended : (x : FieldStep) (u : Val) → Is S.the-row x (u ∷ []) → ent 𝓤 (emp 𝓤) (EndedBy 𝓤 H A mem run .pre (to-ended x u))
   goes-ended x u fine =
       qed W [] ∵ nothing ! $ owned ! S.the-row (Is S.the-row) (enum.makes S.the-type S′.the-plain 𝓤 H A) x (u ∷ []) fine $ fjoin ! $ nothing
       ! $ join ! $ frame ! $ done !
 
-  ended-said : (x : Step) (w : Walk) →
+  ended-said : (x : FieldStep) (w : Walk) →
       ent 𝓤 (ensured 𝓤 H A ended.ended (ended.clauses 𝓤 H A mem run) tt (x, tt) tt w) (fact 𝓤 (w ≡ endedBy x))
   ended-said x w = exE 𝓤 _ (λ ws. snd∗ 𝓤 (sem 𝓤 H A (lasts ended.ended tt (x, tt) ws)) (fact 𝓤 (w ≡ endedBy x)))
 
@@ -331,7 +331,7 @@ module _ {M : Type 1} (𝓤 : URA M) (H : Heap 𝓤) (A : Atoms 𝓤) (W : Given
           move ! (0 ∷ 2 ∷ []) $ use2 W (raw (Next 𝓤 H A mem run .pre (to-next (on (i .0))))) (goes-next (on (i .0))) $
           calls-at ! fm (Next 𝓤 H A mem run) known-next (to-next (on (i .0)))
           (and-then ! (load ! (from ! (stop !)) (look ! 10 refl)) (no-more !)) (λ u.
-          use1 W (later (some (λ (x : Step). ((‵ (flft κ q) ⊛ ‵ ftrue) ⊛ ‵ (S.the-row .own x (u ∷ []))) ⊛ raw
+          use1 W (later (some (λ (x : FieldStep). ((‵ (flft κ q) ⊛ ‵ ftrue) ⊛ ‵ (S.the-row .own x (u ∷ []))) ⊛ raw
           (ensured 𝓤 H A next.ended (next.clauses 𝓤 H A mem run) (κ, tt) (on (i .0), tt) tt x)))) (id⊢ 𝓤 _) $ await ! tt $ pick ! (λ x.
           split ! $ move ! (1 ∷ []) $ use1 W (raw (fact 𝓤 (x ≡ stepAt (now p) (i .0)))) (next-said (on (i .0)) x) $ heard !
           (x ≡ stepAt (now p) (i .0)) (λ e. split ! $ move ! (1 ∷ []) $
@@ -417,7 +417,7 @@ module _ {M : Type 1} (𝓤 : URA M) (H : Heap 𝓤) (A : Atoms 𝓤) (W : Given
           told : (r : Reader) (v : Val) → Is (the-row (κ, tt)) r (v ∷ []) → v ≡ value r
           told r v is = ap only (struct.tells (the-type κ) (the-laws κ) r (v ∷ []) is)
 
-          further : (x : Step) → stepAt (now p) (i .0) ≡ x → Holds (isField x) → Upto
+          further : (x : FieldStep) → stepAt (now p) (i .0) ≡ x → Holds (isField x) → Upto
           further x e more = (behind x (i .0), (notedStep (i .1 .0) x, walking-by (now p) (i .1 .0) (i .0) x e more (i .1 .1)))
 
     walk : blank ≡ replicate 16 0 → Is (ShrSlice (named 0) κ u8) p (packet-value p ∷ []) →
