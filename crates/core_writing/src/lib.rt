@@ -148,9 +148,9 @@ fn put_line(room: &mut [u8], line: Line)
     let entries = line.entries;
     octets::put_pair(room, COUNT_PLACE, count, 0);
     put_seats(room, entries);
-    octets::put_zeros(room, WAITING_ZERO, 1);
+    copying::put_zeros(room, WAITING_ZERO, 1);
     put_priorities(room, entries);
-    octets::put_zeros(room, PRIORITIES_ZERO, 1);
+    copying::put_zeros(room, PRIORITIES_ZERO, 1);
 }
 
 pub fn put_core(room: &mut [u8], core: Core)

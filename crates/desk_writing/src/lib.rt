@@ -82,9 +82,9 @@ pub fn put_hall(room: &mut [u8], hall: Hall)
     put_words(room, SSRCS_COLUMN, ssrcs);
     put_octets(room, HIGHEST_COLUMN, highest);
     put_seat_flags(room, FLAGS_COLUMN, flags);
-    octets::put_zeros(room, FLAGS_ZEROS, 16);
+    copying::put_zeros(room, FLAGS_ZEROS, 16);
     seat_octets::put_settings(room, SETTINGS_START, settings);
-    octets::put_zeros(room, SETTINGS_END, 4);
+    copying::put_zeros(room, SETTINGS_END, 4);
 }
 
 fn put_lengths(room: &mut [u8], names: Names)

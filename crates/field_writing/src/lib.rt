@@ -130,8 +130,8 @@ fn put_text(room: &mut [u8], at: usize, src: &[u8], from: usize, count: usize, l
     ensures { λ r. ⌜ Laid (now (room .entry)) at (part (now (src .entry)) from count ++ replicate (padding len) 0) (now (room .exit)) r ⌝ }
 {
     let zeros = message::padding(len);
-    octets::put_part(room, at, src, from, count);
-    octets::put_zeros(room, at + count, zeros);
+    copying::put_part(room, at, src, from, count);
+    copying::put_zeros(room, at + count, zeros);
     at + count + zeros
 }
 

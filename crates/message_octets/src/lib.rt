@@ -242,7 +242,7 @@ fn put_held(room: &mut [u8], s: &[u8], kind: MessageType, starts: &[usize; 16])
     requires { ⌜ Reach (now s) (λ i. getD (now starts) i 0) ⌝ }
     ensures { λ _. ⌜ now (room .exit) ≡ over (now (room .entry)) 0 (heldOctets (reads.messageAt kind (now (s .entry)) (λ i. getD (now (starts .entry)) i 0))) ⌝ }
 {
-    octets::put_zeros(room, 0, SIZE);
+    copying::put_zeros(room, 0, SIZE);
     let has = lay_first(room, s, starts);
     let has = lay_next(room, s, starts, has);
     let has = lay_parts(room, s, starts, has);

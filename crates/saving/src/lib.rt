@@ -79,7 +79,7 @@ fn put_seat(room: &mut [u8], at: usize, who: Newcomer, name: Name) -> usize
     octets::put32(room, at + 2, who.ssrc);
     room[at + 6] = n as u8;
     let identity = name.octets;
-    octets::put_part(room, at + sheet::SEAT_HEAD, &identity, 0, n);
+    copying::put_part(room, at + sheet::SEAT_HEAD, &identity, 0, n);
     at + sheet::SEAT_HEAD + n
 }
 
