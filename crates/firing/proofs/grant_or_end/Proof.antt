@@ -17,11 +17,15 @@ end-at-limit-requires c κs = search needs
 
 returns : tie.Need-returns
 unfolding grantsOrEnds if_then_else_
-returns c = rw (lt-ltb _ _ (c .before .before .before .if1 .taken)) (c .grant-again .ensures)
+returns c =
+    let limit = c .before .before .before .before .before .args .hall .settings .c20 in
+    rw (lt-ltb _ limit (c .before .before .before .if1 .taken)) (c .grant-again .ensures)
 
 returns-2 : tie.Need-returns-2
 unfolding grantsOrEnds if_then_else_
-returns-2 c = rw (le-ltb _ _ (c .before .if1 .left)) (c .end-at-limit .ensures)
+returns-2 c =
+    let limit = c .before .before .before .args .hall .settings .c20 in
+    rw (le-ltb _ limit (c .before .if1 .left)) (c .end-at-limit .ensures)
 
 pub grant-or-end-spec : {M : Type 1} → statement M
 grant-or-end-spec =

@@ -30,7 +30,11 @@ returns c =
     sym (same-lengths (octetsOf (c .before .before .before .args .t1)) (now (c .before .before .before .args .identity)) h)
 
 loop-holds : tie.Need-loop-holds Inv-loop μ-loop
-loop-holds c = (refl, sym (c .if1 .left) ∙ c .before .name-length .ensures .0, omega arith, refl)
+loop-holds c =
+    let h = octetsOf (c .before .before .before .args .t1) in
+    let q : length (now (c .before .before .before .args .identity)) ≡ length h =
+    omega (arith, c .if1 .left, c .before .name-length .ensures .0) in
+    (refl, q, omega arith, refl)
 
 element-copy-out-if2 : tie.Need-element-copy-out-if2 Inv-loop μ-loop
 element-copy-out-if2 c = search needs

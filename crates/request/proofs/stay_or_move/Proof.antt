@@ -11,7 +11,7 @@ priority-in-requires c κs = search needs
 
 returns : tie.Need-returns
 unfolding if_then_else_
-returns c = rw (sym (c .before .priority-in .ensures), eq-eqb _ _ (c .if1 .taken))
+returns c = rw (sym (c .before .priority-in .ensures), eq-eqb _ (c .before .before .args .priority) (c .if1 .taken))
 
 only-seat-requires : tie.Need-only-seat-requires
 only-seat-requires c κs = search needs
@@ -30,7 +30,7 @@ unfolding if_then_else_
 returns-2 c =
     rw (
       sym (c .before .before .before .before .before .priority-in .ensures),
-      ne-eqb _ _ (c .before .before .before .before .if1 .left),
+      ne-eqb _ (c .before .before .before .before .before .before .args .priority) (c .before .before .before .before .if1 .left),
       sym (c .before .before .before .only-seat .ensures),
       sym (c .before .before .struck .ensures .1),
     ) (rw (c .before .entry-of .ensures) at (c .entered .ensures))
