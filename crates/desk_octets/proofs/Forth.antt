@@ -37,7 +37,8 @@ use Rattle.desk_octets.specs.Form.{upTo, phaseFits, lettersFit, coreFits
 use Rattle.desk_octets.proofs.Columns.{column-is, column-same, column-two, rows-same, length-column, getD-column}
 use Rattle.desk_octets.proofs.Pieces.{name-of-seat, part-column}
 use Rattle.words.proofs.Tests.{and-four}
-use Rattle.desk_octets.proofs.Numbers.{forth16, forth32, flag-forth}
+use Rattle.desk_octets.proofs.Flags.{flag-forth}
+use Rattle.octets.proofs.Numbers.{octets16-forth, octets32-forth}
 use Rattle.desk_octets.proofs.Phases.{phase-forth}
 use Rattle.desk_octets.proofs.Tables.{column-all, rows-column}
 use Rattle.desk_octets.proofs.Lengths.{length-core, length-octets}
@@ -69,7 +70,7 @@ four-forth s at o =
     let a : at + 1 ≡ suc at = omega arith in
     let b : at + 2 ≡ suc (suc at) = omega arith in
     let c : at + 3 ≡ suc (suc (suc at)) = omega arith in
-    forth32 s at o ∙ rw (a, b, c)
+    octets32-forth s at o ∙ rw (a, b, c)
 
 words-forth : (s : List ℕ) (at : ℕ) → Octets s → wordOctets (wordsAt s at) ≡ from s at 64
 unfolding wordOctets wordsAt
@@ -147,7 +148,7 @@ phase-octets s o e =
     let f =
     phase-forth (nthOctet s phasePlace) (nthOctet s timersPlace) (entryOf (nthOctet s holderPlace) (nthOctet s heldAtPlace))
     (be16 s causePlace) e in
-    rw (f .kinds, f .timed, f .seats, f .priorities, f .causes, forth16 s causePlace o)
+    rw (f .kinds, f .timed, f .seats, f .priorities, f .causes, octets16-forth s causePlace o)
 
 count-forth : (s : List ℕ) → nthOctet s countPlace ≤ 15 → length (waiting (coreAt s .line)) ≡ nthOctet s countPlace
 unfolding waiting coreAt entriesAt
@@ -165,7 +166,7 @@ core-forth s o e =
     let f = core-facts s e in
     rw (
       phase-octets s o (f .phase),
-      forth16 s sequencePlace o,
+      octets16-forth s sequencePlace o,
       line-forth s (f .few) (f .behind-count) (f .behind-waiting) (f .behind-priorities),
     )
 

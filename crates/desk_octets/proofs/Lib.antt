@@ -4,7 +4,7 @@ pub mod Columns
 pub mod Tests
 pub mod Turns
 pub mod Pieces
-pub mod Numbers
+pub mod Flags
 pub mod Phases
 pub mod Tables
 pub mod Lengths

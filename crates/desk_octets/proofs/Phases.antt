@@ -13,7 +13,7 @@ use Rattle.steps.specs.declared.Phase.{Phase}
 use Rattle.steps.specs.declared.Phase.the-variants.{Stopped, Idle, Taken, Revoking}
 use Rattle.desk_octets.specs.Form.{kindOctet, timersOctet, alsoOctet, holderIn, causeIn, phaseOf, alsoOf, phaseFits}
 use Rattle.words.proofs.Tests.{and-both, and-four}
-use Rattle.desk_octets.proofs.Numbers.{flag-back, flag-fits, flag-forth}
+use Rattle.desk_octets.proofs.Flags.{flag-back, flag-fits, flag-forth}
 
 also-back : (b : AlsoRuns) → alsoOf (alsoOctet b) ≡ b
 unfolding alsoOf if_then_else_

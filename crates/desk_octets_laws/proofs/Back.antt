@@ -34,7 +34,8 @@ use Rattle.desk_octets.specs.Form.{coreAt, boolsAt, octetsAt, wordsAt, seatFlag
 use Rattle.desk_octets.proofs.Columns.{column-same, column-is, column-is-from-0, length-column, getD-column}
 use Rattle.desk_octets.proofs.Pieces.{length-name}
 use Rattle.desk_octets_laws.specs.Forms.{Shaped, StandsFor}
-use Rattle.desk_octets.proofs.Numbers.{back16, back32, flag-back}
+use Rattle.desk_octets.proofs.Flags.{flag-back}
+use Rattle.octets.proofs.Numbers.{back16, back32}
 use Rattle.desk_octets.proofs.Phases.{phase-back}
 use Rattle.desk_octets.proofs.Tables.{column-all, getD-rows}
 

@@ -22,7 +22,8 @@ use Rattle.desk_octets.specs.Form.{hallOctets, octetsOf, upTo, lettersFit, core
 use Rattle.desk_octets.proofs.Tests.{all-below}
 use Rattle.desk_octets.proofs.Lengths.{length-octets}
 use Rattle.desk_octets_laws.specs.Forms.{Shaped, EveryDeskBack}
-use Rattle.desk_octets.proofs.Numbers.{back16, flag-fits}
+use Rattle.desk_octets.proofs.Flags.{flag-fits}
+use Rattle.octets.proofs.Numbers.{back16}
 use Rattle.desk_octets.proofs.Phases.{phase-fits}
 use Rattle.desk_octets_laws.proofs.Back.{line-count, length-there, name-short, stands}
 

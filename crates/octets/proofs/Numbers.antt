@@ -1,4 +1,5 @@
 -- A number and its octets, both ways, and what is read where some octets stand in others.
+--     back16, back32             a number's octets, counted up, are the number
 --     be16-back, be32-back       a number's octets are read as the number, however large it is and whatever stands behind them
 --     octets16-forth, 32-forth   octets are those of the number that they are read as
 --     octets16-of, octets32-of   the same for octets that are written out
@@ -24,17 +25,23 @@ pub length32 : (n : ℕ) → length (octets32 n) ≡ 4
 unfolding octets32 octets16
 length32 n = refl
 
+pub back16 : (n : ℕ) → 256 * (n / 256) + n % 256 ≡ n
+back16 n = div-add-mod n 256
+
+pub back32 : (n : ℕ) → 65536 * (256 * (n / 65536 / 256) + n / 65536 % 256) + (256 * (n % 65536 / 256) + n % 65536 % 256) ≡ n
+back32 n = rw (back16 (n / 65536), back16 (n % 65536)) (div-add-mod n 65536)
+
 pub be16-back : (n : ℕ) (rest : List ℕ) → be16 (octets16 n ++ rest) 0 ≡ n
 unfolding be16 octets16
-be16-back n rest = div-add-mod n 256
+be16-back n rest = back16 n
 
 pub be32-back : (n : ℕ) (rest : List ℕ) → be32 (octets32 n ++ rest) 0 ≡ n
 unfolding be32 be16 octets16 octets32
-be32-back n rest = rw (div-add-mod (n / 65536) 256, div-add-mod (n % 65536) 256) (div-add-mod n 65536)
+be32-back n rest = back32 n
 
 pub be16-of : (n : ℕ) → be16 (octets16 n) 0 ≡ n
 unfolding be16 octets16
-be16-of n = div-add-mod n 256
+be16-of n = back16 n
 
 module _ (a b : ℕ) (hb : b < 256) where
   high : (256 * a + b) / 256 ≡ a

@@ -30,6 +30,7 @@ use Rattle.report_octets_laws.specs.Reported.{seatsIn, setOf, markOf, gi
 use Rattle.report_octets_laws.specs.Reported.{isMessage, isMessageAt, isReport, MarkFits, GivenFits, KindFits, MessageFits, MarksFit}
 use Rattle.report_octets_laws.specs.Reported.{ReportFits, SaysTheReport, WrittenBack, HasOctets, SaysAReport, SameMessages}
 use Rattle.steps.specs.declared.Report.{Report}
+use Rattle.octets.proofs.Numbers.{back16}
 use Rattle.report_octets.proofs.Masks.{mask-fits}
 
 same : (n : ℕ) → eqb n n ≡ true
@@ -78,9 +79,6 @@ mask-small : (set : List Bool) → length set ≡ 16 → maskOf set < 65536
 mask-small set h = mask-fits set 16 (omega arith)
 
 -- FROM A REPORT TO ITS OCTETS AND BACK
-
-back16 : (n : ℕ) → 256 * (n / 256) + n % 256 ≡ n
-back16 n = omega arith
 
 kind-back : (k : Kind) → KindFits k → kindOf (particulars k) ≡ k
 unfolding kindOf particulars if_then_else_
