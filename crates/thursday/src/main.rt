@@ -148,7 +148,9 @@ fn named(k: Kind) -> u8 {
 fn show_packet(hall: Hall, k: Kind, identity: &[u8], room: &mut [u8]) {
     let settings = hall.settings;
     match outgoing::send(settings, k, identity, room) {
-        Writing::Written(n) => printing::octets(printing::part(room, 0, n)),
+        Writing::Written(n) => {
+            printing::octets(printing::part(room, 0, n));
+        }
         Writing::Refused(_) => say(NO_PACKET, 0, 0, 0),
     }
 }

@@ -1,18 +1,26 @@
--- A form is printed piece by piece, each up to the next `%`; the walk ends, for each piece starts behind the last.
-use Prim.Native.Nat.{_≤_, _-_, _+_}
+-- A form is printed piece by piece, each up to the next `%`, and its pieces are counted. The walk ends: each piece begins behind the last.
+use Prim.Native.Nat.{ℕ, _≤_, _<_, _-_, _+_}
+use mathlib.Core.Path.{_≡_, refl}
+use native.Mathlib.Omega.{arith}
 use lib.ListN.{length}
+use borrow.Author.Count.{below-none, below-more}
 use borrow.Author.Needs.{needs}
+use Rattle.printing.specs.Printed.{start, numberMark}
+use Rattle.printing.proofs.Printed.{next-begins}
 use Rattle.printing.proofs.filled.Statement.{statement}
 use Rattle.printing.proofs.filled.Tie as tie
 
 abbrev Inv-loop : tie.InvT-loop
-Inv-loop form numbers from₀ k₀ from k = (from ≤ length form + 1) × (k ≤ from)
+Inv-loop form numbers from₀ k₀ from k =
+    (from ≤ length form + 1) × (k ≤ from) × (from ≡ start numberMark form k)
+    × ((j : ℕ) → j < k → start numberMark form j < length form)
 
 abbrev μ-loop : tie.MeasureT-loop
 μ-loop form numbers from₀ k₀ from k = length form + 1 - from
 
 loop-holds : tie.Need-loop-holds Inv-loop μ-loop
-loop-holds c = search needs
+unfolding start
+loop-holds c = (search needs, search needs, refl, below-none _)
 
 find-requires : tie.Need-find-requires Inv-loop μ-loop
 find-requires c κs = search needs
@@ -42,10 +50,19 @@ loop-less : tie.Need-loop-less Inv-loop μ-loop
 loop-less c = search needs
 
 loop-again : tie.Need-loop-again Inv-loop μ-loop
-loop-again c = search needs
+loop-again c =
+    let s = c .before .before .before .before .before .before .before .args .form .now in
+    let l = c .before .before .before .before .before .loop in
+    let f = c .before .before .before .find in
+    let h : start numberMark s (l .k) < length s = omega (arith, l .inv .2, c .before .before .before .before .loop-test .taken) in (
+      search needs,
+      search needs,
+      next-begins numberMark s (l .k) (l .from) (f .result) (l .inv .2) (f .ensures .0),
+      below-more _ _ (l .inv .3) h,
+    )
 
 returns : tie.Need-returns Inv-loop μ-loop
-returns c = search needs
+returns c = let l = c .before .loop in record { begin = l .inv .3; end = omega (arith, l .inv .2, c .loop-test .left) }
 
 pub filled-spec : {M : Type 1} → statement M
 filled-spec =

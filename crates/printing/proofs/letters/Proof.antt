@@ -1,4 +1,4 @@
--- Octets are printed as letters one after the other.
+-- Octets are printed as letters one after the other, and counted.
 use Prim.Native.Nat.{_≤_, _-_}
 use mathlib.Core.Path.{_≡_}
 use lib.ListN.{length}
