@@ -22,6 +22,10 @@ namePlace = 8
 abbrev pub headerSize : ℕ
 headerSize = 12
 
+-- the longest packet that a message can make: with every field, identities and phrase at their longest (proved in `writing`)
+abbrev pub longestPacket : ℕ
+longestPacket = 440
+
 -- the first octet: version (two bits), P (one bit), the Ack bit, the type (four bits)
 abbrev pub version : List ℕ → ℕ
 version s = getD s 0 0 / 64

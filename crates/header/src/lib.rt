@@ -6,7 +6,7 @@ ghost use mathlib.Core.Path.{_≡_};
 ghost use Prim.Native.Nat.{_≤_};
 ghost use lib.ListN.{length};
 ghost use Rattle.octets.specs.Octets.{over};
-ghost use Rattle.header.specs.Header.{headerSize, ends, firstOctet, headed};
+ghost use Rattle.header.specs.Header.{headerSize, longestPacket, ends, firstOctet, headed};
 ghost use Rattle.header.specs.Opening.{Opens};
 
 // What a packet is judged to be: one of a type, or refused.
@@ -78,7 +78,7 @@ pub fn first_octet(kind: MessageType, ack: bool) -> u8
 
 // Lays the header of a packet that has this first octet and `size` octets in all: its length is told in 32-bit words less one.
 pub fn put_header(room: &mut [u8], first: u8, ssrc: u32, size: usize)
-    requires { ⌜ (headerSize ≤ size) × (size ≤ 440) ⌝ }
+    requires { ⌜ (headerSize ≤ size) × (size ≤ longestPacket) ⌝ }
     requires { ⌜ headerSize ≤ length (now room) ⌝ }
     ensures { λ _. ⌜ now (room .exit) ≡ over (now (room .entry)) 0 (headed first ssrc size) ⌝ }
 {

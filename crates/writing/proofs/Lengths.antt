@@ -14,7 +14,7 @@ use Rattle.words.specs.Choice.{if_then_else_}
 use Rattle.message.specs.Table.{rowIn}
 use Rattle.message.specs.Message.{Said, said, fieldsOf}
 use Rattle.message.specs.declared.Message.{Message}
-use Rattle.header.specs.Header.{headerSize, firstOctet, headed}
+use Rattle.header.specs.Header.{headerSize, longestPacket, firstOctet, headed}
 use Rattle.header.proofs.Headers.{headed-length}
 use Rattle.readable.specs.Readable.{readable}
 use Rattle.readable.specs.Fitting.{Short, Held}
@@ -88,7 +88,7 @@ wire-length m src h = rw (length-append, header-length, body-length m src h)
 pub record Packet (octets : List ℕ) : Type 0 where
   pub words : length octets % 4 ≡ 0
   pub least : headerSize ≤ length octets
-  pub most : length octets ≤ 440
+  pub most : length octets ≤ longestPacket
 
 pub wire-whole : (m : Message) (src : List ℕ) → readable m src ≡ true → Packet (wire (said m src))
 wire-whole m src r =

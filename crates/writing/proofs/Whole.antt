@@ -15,7 +15,7 @@ use Rattle.message.specs.Answers.{refused, result}
 use Rattle.message.specs.declared.Message.{Message}
 use Rattle.writing.specs.Wire.{header, wire}
 use Rattle.field_writing.specs.Wire.{body}
-use Rattle.header.specs.Header.{headerSize, headed, firstOctet}
+use Rattle.header.specs.Header.{headerSize, longestPacket, headed, firstOctet}
 use Rattle.readable.specs.Readable.{readable}
 use Rattle.writing.specs.Writing.{writing, written}
 use Rattle.writing.specs.Puts.{frontFields, restFields, frontSize, restSize}
@@ -39,7 +39,7 @@ module _ (m : Message) (src room : List ℕ) (r : readable m src ≡ true) {size
   size-is : size ≡ length (wire (said m src))
   size-is = s ∙ sym (wire-length m src (held-by m src r))
 
-  pub size-whole : (headerSize ≤ size) × (size ≤ 440)
+  pub size-whole : (headerSize ≤ size) × (size ≤ longestPacket)
   size-whole = let w = wire-whole m src r in let n = size-is in (omega (arith, w .least), omega (arith, w .most))
 
   pub refused-13 : length room < size → (refused 13 ≡ writing m src (length room)) × (room ≡ written m src room)
