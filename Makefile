@@ -1,7 +1,7 @@
 # The C side: the library as an archive for C programs, the programs over it, the header's and the library's installation.
 #
-#   make             build/libfloor.a, build/floorplay, build/thursday, build/floor.pc
-#   make install     header, archive and floor.pc below PREFIX (/usr/local)
+#   make             build/libfloor.a, build/libfloor_text.a, build/floorplay, build/thursday, build/server, build/floor.pc
+#   make install     headers, archives and floor.pc below PREFIX (/usr/local)
 #   make check       what the header promises, tested with cmocka
 #   make bench       instructions a call, beside the same work in plain C; installs what it needs of Debian's packages (tests/set-up)
 #   make clean
@@ -9,11 +9,14 @@
 # The archive is proved and compiled by the Rattle kit (`rt staticlib floor`) and links into x86-64 programs. On an x86-64 machine they
 # are compiled by its own compiler; on any other by Debian's cross compiler, and run under the emulator.
 #
-# LIB=plain makes the same things over bench/plain.c instead, below build/plain/: to try a program or a test where the kit is not there.
+# libfloor.a has the proved functions and nothing else; what prints them for people (floor_text.h) has an archive of its own.
+#
+# LIB=plain makes the same things over bench/plain.c instead, below build/plain/: to try a program or a test where the kit is not there. On
+# another machine than x86-64, make LIB=plain CROSS= RUN= does it with that machine's own compiler.
 
 LIB ?= floor
 PREFIX = /usr/local
-VERSION = 1.0
+VERSION = 2.0
 
 ifeq ($(shell uname -m),x86_64)
 RUN =
@@ -33,13 +36,16 @@ CFLAGS = -std=c99 -O2 -g -Wall -Wextra -Werror -pedantic
 
 ifeq ($(LIB),plain)
 OUT = build/plain
+MACHINE = -DFLOOR_ANY_MACHINE
 else
 OUT = build
 endif
 ARCHIVE = $(OUT)/libfloor.a
-COMPILE = $(CC) $(CFLAGS) -Iinclude
+TEXT = $(OUT)/libfloor_text.a
+HEADERS = include/floor.h include/floor_text.h
+COMPILE = $(CC) $(CFLAGS) $(MACHINE) -Iinclude
 
-all: $(ARCHIVE) $(OUT)/floorplay $(OUT)/thursday $(OUT)/floor.pc
+all: $(ARCHIVE) $(TEXT) $(OUT)/floorplay $(OUT)/thursday $(OUT)/server $(OUT)/floor.pc
 
 # ---- the archive ----
 
@@ -59,9 +65,18 @@ build/plain/libfloor.a: build/plain.o bench/as_plain.h | build/plain
 build/plain.o: bench/plain.c bench/plain.h bench/as_plain.h include/floor.h | build
 	$(COMPILE) -c $< -o $@
 
+# ---- text for people ----
+
+$(TEXT): bench/floor_text.c $(HEADERS) | $(OUT)
+	$(COMPILE) -c $< -o $(OUT)/floor_text.o
+	rm -f $@ && $(AR) rcs $@ $(OUT)/floor_text.o
+
 # ---- programs ----
 
-$(OUT)/floorplay $(OUT)/thursday: $(OUT)/%: bench/%.c include/floor.h $(ARCHIVE) | $(OUT)
+$(OUT)/floorplay $(OUT)/thursday: $(OUT)/%: bench/%.c $(HEADERS) $(TEXT) $(ARCHIVE) | $(OUT)
+	$(COMPILE) $< $(TEXT) $(ARCHIVE) -o $@
+
+$(OUT)/server: examples/server.c include/floor.h $(ARCHIVE) | $(OUT)
 	$(COMPILE) $< $(ARCHIVE) -o $@
 
 # ---- speed ----
@@ -88,13 +103,24 @@ bench: bench-needs $(OUT)/bench
 
 # ---- tests ----
 
-TESTS = $(OUT)/floor_test $(OUT)/damage_test
+TESTS = $(OUT)/floor_test $(OUT)/damage_test $(OUT)/types_test $(OUT)/text_test
+SCENES = tests/c/scene.c tests/c/desks.c tests/c/scene.h tests/c/desks.h
 
-$(TESTS): $(OUT)/%: tests/c/%.c tests/c/scene.c tests/c/desks.c tests/c/scene.h tests/c/desks.h include/floor.h build/plain.o $(ARCHIVE) | $(OUT)
-	$(COMPILE) $< tests/c/scene.c tests/c/desks.c $(ARCHIVE) build/plain.o -lcmocka -o $@
+$(TESTS): $(OUT)/%: tests/c/%.c $(SCENES) $(HEADERS) build/plain.o $(TEXT) $(ARCHIVE) | $(OUT)
+	$(COMPILE) $< tests/c/scene.c tests/c/desks.c $(TEXT) $(ARCHIVE) build/plain.o -lcmocka -o $@
 
 check: $(TESTS)
 	for test in $(TESTS); do $(RUN) $$test || exit 1; done
+
+# The server's clocks in virtual time, and two servers that set them by a simpler rule.
+CLOCKS = $(OUT)/clocks_test $(OUT)/clocks_naive_0 $(OUT)/clocks_naive_1
+$(OUT)/clocks_naive_0: NAIVE = -DNAIVE=0
+$(OUT)/clocks_naive_1: NAIVE = -DNAIVE=1
+
+$(CLOCKS): tests/c/clocks_test.c examples/server.c include/floor.h $(ARCHIVE) | $(OUT)
+	$(COMPILE) $(NAIVE) $< $(ARCHIVE) -o $@
+
+clocks: $(CLOCKS)
 
 # ---- installation ----
 
@@ -102,10 +128,10 @@ check: $(TESTS)
 $(OUT)/floor.pc: bench/floor.pc.in FORCE | $(OUT)
 	sed -e 's|@PREFIX@|$(PREFIX)|' -e 's|@VERSION@|$(VERSION)|' $< > $@
 
-install: $(ARCHIVE) $(OUT)/floor.pc
+install: $(ARCHIVE) $(TEXT) $(OUT)/floor.pc
 	install -d $(DESTDIR)$(PREFIX)/include $(DESTDIR)$(PREFIX)/lib/pkgconfig
-	install -m 644 include/floor.h $(DESTDIR)$(PREFIX)/include/
-	install -m 644 $(ARCHIVE) $(DESTDIR)$(PREFIX)/lib/
+	install -m 644 $(HEADERS) $(DESTDIR)$(PREFIX)/include/
+	install -m 644 $(ARCHIVE) $(TEXT) $(DESTDIR)$(PREFIX)/lib/
 	install -m 644 $(OUT)/floor.pc $(DESTDIR)$(PREFIX)/lib/pkgconfig/
 
 clean:
@@ -119,4 +145,4 @@ $(sort build $(OUT)):
 	mkdir -p $@
 
 FORCE:
-.PHONY: all check bench bench-needs install clean FORCE
+.PHONY: all check clocks bench bench-needs install clean FORCE

@@ -1,5 +1,5 @@
 /* Lets a program that is written for libfloor.a run on plain.c instead: compile it with -include bench/as_plain.h. Where plain.h is included
- * too, the compiler holds its prototypes to those of floor.h. */
+ * too, the compiler holds its prototypes to those of floor.h. A struct or an enum that has the name of a function is renamed along with it. */
 #ifndef AS_PLAIN_H
 #define AS_PLAIN_H
 
@@ -19,6 +19,7 @@
 #define floor_screen plain_screen
 #define floor_phase plain_phase
 #define floor_holder plain_holder
+#define floor_holder_priority plain_holder_priority
 #define floor_running plain_running
 #define floor_sequence plain_sequence
 #define floor_c7 plain_c7
@@ -26,5 +27,10 @@
 #define floor_seats plain_seats
 #define floor_seat_by_ssrc plain_seat_by_ssrc
 #define floor_seat_by_identity plain_seat_by_identity
+#define floor_seat plain_seat
+#define floor_settings plain_settings
+#define floor_starts plain_starts
+#define floor_stops plain_stops
+#define floor_version plain_version
 
 #endif

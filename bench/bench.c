@@ -12,36 +12,36 @@
 #include <stdlib.h>
 #include <string.h>
 
-enum { CALLS = 16, SEATED = 16, DESK_SSRC = 1, FIRST_SSRC = 10, LONGEST = 1024 };
+enum { CALLS = 16, SEATED = 16, DESK_SSRC = 1, FIRST_SSRC = 10, LONGEST = FLOOR_PACKET_IN };
 
 struct library {
     const char *name;
-    uint32_t (*make)(uint8_t *, size_t, uint32_t, uint32_t, uint32_t, uint32_t, uint32_t, uint32_t);
-    uint32_t (*join)(uint8_t *, size_t, const uint8_t *, size_t, uint32_t, uint8_t, uint8_t, uint8_t);
-    uint32_t (*start)(uint8_t *, size_t, uint8_t *, size_t);
-    uint32_t (*packet)(uint8_t *, size_t, const uint8_t *, size_t, uint8_t *, size_t);
-    uint32_t (*timer)(uint8_t *, size_t, uint32_t, uint8_t *, size_t);
-    uint32_t (*read)(const uint8_t *, size_t, uint8_t *, size_t);
+    int32_t (*make)(uint8_t *, size_t, uint32_t, uint32_t, uint32_t, uint32_t, uint32_t, uint32_t);
+    int32_t (*join)(uint8_t *, size_t, const uint8_t *, size_t, uint32_t, uint8_t, uint8_t, uint8_t);
+    int32_t (*start)(uint8_t *, size_t, uint8_t *, size_t);
+    int32_t (*packet)(uint8_t *, size_t, const uint8_t *, size_t, uint8_t *, size_t);
+    int32_t (*timer)(uint8_t *, size_t, uint32_t, uint8_t *, size_t);
+    int32_t (*read)(const uint8_t *, size_t, uint8_t *, size_t);
     int32_t (*write)(const uint8_t *, size_t, const uint8_t *, size_t, uint8_t *, size_t);
     int32_t (*save)(const uint8_t *, size_t, uint8_t *, size_t);
-    uint32_t (*load)(uint8_t *, size_t, const uint8_t *, size_t);
+    int32_t (*load)(uint8_t *, size_t, const uint8_t *, size_t);
 };
 
 /* The same step on a struct that nobody tests. */
-static uint32_t native_packet(uint8_t *desk, size_t desk_len, const uint8_t *packet, size_t packet_len, uint8_t *report, size_t report_len)
+static int32_t native_packet(uint8_t *desk, size_t desk_len, const uint8_t *packet, size_t packet_len, uint8_t *report, size_t report_len)
 {
     (void)desk_len, (void)report_len;
     return plain_native_packet((void *)desk, packet, packet_len, (void *)report);
 }
 
-static uint32_t native_timer(uint8_t *desk, size_t desk_len, uint32_t timer, uint8_t *report, size_t report_len)
+static int32_t native_timer(uint8_t *desk, size_t desk_len, uint32_t timer, uint8_t *report, size_t report_len)
 {
     (void)desk_len, (void)report_len;
     return plain_native_timer((void *)desk, timer, (void *)report);
 }
 
 /* What a call costs that does nothing: the loop and the handing over. */
-static uint32_t nothing(uint8_t *desk, size_t desk_len, uint32_t timer, uint8_t *report, size_t report_len)
+static int32_t nothing(uint8_t *desk, size_t desk_len, uint32_t timer, uint8_t *report, size_t report_len)
 {
     (void)desk, (void)desk_len, (void)timer, (void)report, (void)report_len;
     return 0;
@@ -107,7 +107,7 @@ static void make_packet(size_t length)
 {
     static const uint8_t octets[255] = "sip:student@bench.example, with more to come";
     size_t at = 12;
-    put_header(FLOOR_REQUEST, FIRST_SSRC, length);
+    put_header(FLOOR_TYPE_REQUEST, FIRST_SSRC, length);
     if (length == 36) {
         at = put_field(at, 0, 2, octets);
         at = put_field(at, 6, 14, octets);
@@ -133,7 +133,7 @@ static void make_packet(size_t length)
 static void make_dense_packet(size_t length)
 {
     static const uint8_t one[] = {0, 1};
-    put_header(FLOOR_REQUEST, FIRST_SSRC, length);
+    put_header(FLOOR_TYPE_REQUEST, FIRST_SSRC, length);
     for (size_t at = 12; at < length;)
         at = put_field(at, 13, 2, one);
 }
@@ -141,13 +141,13 @@ static void make_dense_packet(size_t length)
 static void make_request(unsigned seat, unsigned priority)
 {
     const uint8_t content[] = {(uint8_t)priority, 0};
-    put_header(FLOOR_REQUEST, FIRST_SSRC + seat, 16);
+    put_header(FLOOR_TYPE_REQUEST, FIRST_SSRC + seat, 16);
     put_field(12, 0, 2, content);
 }
 
 static void make_release(unsigned seat)
 {
-    put_header(FLOOR_RELEASE, FIRST_SSRC + seat, 12);
+    put_header(FLOOR_TYPE_RELEASE, FIRST_SSRC + seat, 12);
 }
 
 /* ---- Desks ---- */
@@ -176,7 +176,7 @@ static void open_call(const struct library *l, uint8_t *desk, unsigned seats)
     must(l->make(desk, FLOOR_DESK, DESK_SSRC, 200, 15, 2, 255, 30) == 0, "make");
     for (unsigned s = 0; s < seats; s++) {
         int n = sprintf(name, seats == 4 ? "test%u" : "sip:student%02u@bench.example", s);
-        must(l->join(desk, FLOOR_DESK, (const uint8_t *)name, (size_t)n, FIRST_SSRC + s, 255, 1, 0) == 0, "join");
+        must(l->join(desk, FLOOR_DESK, (const uint8_t *)name, (size_t)n, FIRST_SSRC + s, 255, 1, 0) == (int32_t)s, "join");
     }
     must(l->start(desk, FLOOR_DESK, report, sizeof report) == 0, "start");
 }
@@ -214,7 +214,7 @@ static void say(const struct library *l, const char *what, const char *which)
 
 static void count_read(const struct library *l, const char *which)
 {
-    uint32_t refused = 0;
+    int32_t refused = 0;
     mark();
     for (int i = 0; i < CALLS; i++)
         refused |= l->read(packet, packet_len, message, sizeof message);
@@ -238,7 +238,7 @@ static void count_write(const struct library *l, const char *which)
 
 static void count_step(const struct library *l, const char *which)
 {
-    uint32_t refused = 0;
+    int32_t refused = 0;
     mark();
     for (int i = 0; i < CALLS; i++)
         refused |= l->packet(desks[i], FLOOR_DESK, packet, packet_len, report, sizeof report);
@@ -249,7 +249,7 @@ static void count_step(const struct library *l, const char *which)
 
 static void count_timer(const struct library *l, uint32_t timer, const char *which)
 {
-    uint32_t refused = 0;
+    int32_t refused = 0;
     mark();
     for (int i = 0; i < CALLS; i++)
         refused |= l->timer(desks[i], FLOOR_DESK, timer, report, sizeof report);
@@ -261,7 +261,7 @@ static void count_timer(const struct library *l, uint32_t timer, const char *whi
 static void count_sheet(const struct library *l, const uint8_t *desk)
 {
     int32_t n = 0;
-    uint32_t refused = 0;
+    int32_t refused = 0;
     for_each_call(desk);
     mark();
     for (int i = 0; i < CALLS; i++)
@@ -288,7 +288,7 @@ static void count_packets(const struct library *l)
         sprintf(which, "%zu", lengths[i]);
         make_packet(lengths[i]);
         count_read(l, which);
-        if (lengths[i] <= FLOOR_PACKET)
+        if (lengths[i] <= FLOOR_PACKET_OUT)
             count_write(l, which);
         sprintf(which, "dense-%zu", lengths[i]);
         make_dense_packet(lengths[i]);

@@ -3,15 +3,16 @@
  * Exit status 0 if the script was read to its end and every answer was written; else 1, and standard error says why. */
 #define _POSIX_C_SOURCE 200809L /* getline */
 #include <errno.h>
-#include <floor.h>
+#include <floor_text.h>
 #include <inttypes.h>
+#include <stddef.h>
 #include <stdio.h>
 #include <stdlib.h>
 #include <string.h>
 
 #define MOST_WORDS 20
 
-static uint8_t desk[FLOOR_DESK];
+static struct floor_desk desk;
 static int has_desk;
 static uint8_t *octets; /* a HEX word of the line, as octets: as long as the longest line needs */
 static size_t octets_room;
@@ -97,48 +98,34 @@ static long hex(const char *word, size_t from)
     return (long)n;
 }
 
+/* Never more than a sheet's. */
 static void print_hex(const uint8_t *s, size_t n)
 {
-    if (n == 0)
-        putchar('-');
-    for (size_t i = 0; i < n; i++)
-        printf("%02x", s[i]);
-}
-
-static unsigned two(const uint8_t *s)
-{
-    return 256u * s[0] + s[1];
+    char text[2 * FLOOR_SHEET + 1] = "-";
+    if (n > 0)
+        floor_text_octets(text, sizeof text, s, n, "");
+    fputs(text, stdout);
 }
 
 /* ---- a step's line ---- */
 
-static void print_message(const uint8_t *report, unsigned which)
+/* A message of the report: its kind, its particulars, who gets it, its packet. */
+static void print_message(const struct floor_report *report, uint32_t which)
 {
-    const uint8_t *m = report + 8 + 8 * which;
-    uint8_t packet[FLOOR_PACKET];
-    switch (m[0]) {
-    case FLOOR_GRANTED:
-        printf("Granted %u", m[4]);
-        break;
-    case FLOOR_TAKEN:
-        printf("Taken %u,%u", m[1], two(m + 2));
-        break;
-    case FLOOR_DENY:
-        printf("Deny %u", two(m + 2));
-        break;
-    case FLOOR_IDLE:
-        printf("Idle %u", two(m + 2));
-        break;
-    case FLOOR_REVOKE:
-        printf("Revoke %u", two(m + 2));
-        break;
-    case FLOOR_QUEUE_POSITION_INFO:
-        printf("Info %u,%u", two(m + 2), m[4]);
-        break;
-    }
-    printf(" -> %04x ", two(m + 6));
-    int32_t n = floor_message(desk, sizeof desk, report, FLOOR_REPORT, which, packet, sizeof packet);
-    print_hex(packet, n > 0 ? (size_t)n : 0);
+    const struct floor_sent *m = &report->sent[which];
+    unsigned number = (unsigned)floor_two(m->number);
+    struct floor_packet_out packet;
+    bool info = m->type == FLOOR_TYPE_QUEUE_POSITION_INFO;
+    printf("%s ", info ? "Info" : floor_text_type(m->type, FLOOR_WORDS_PAPER));
+    if (info)
+        printf("%u,%u", number, m->priority);
+    else if (m->type == FLOOR_TYPE_TAKEN)
+        printf("%u,%u", m->seat, number);
+    else
+        printf("%u", m->type == FLOOR_TYPE_GRANTED ? m->priority : number);
+    printf(" -> %04x ", (unsigned)floor_two(m->to));
+    int32_t n = floor_desk_message(&desk, report, which, &packet);
+    print_hex(packet.octets, n > 0 ? (size_t)n : 0);
 }
 
 static void print_seat(unsigned seat)
@@ -151,99 +138,93 @@ static void print_seat(unsigned seat)
 
 static void print_line(void)
 {
-    uint8_t entries[2 * FLOOR_SEATS];
-    int32_t n = floor_screen(desk, sizeof desk, entries, sizeof entries);
+    struct floor_line line;
+    int32_t n = floor_desk_screen(&desk, &line);
     if (n <= 0)
         putchar('-');
     for (int32_t i = 0; i < n; i++)
-        printf("%s%u:%u", i ? "," : "", entries[2 * i], entries[2 * i + 1]);
+        printf("%s%u:%u", i ? "," : "", line.entry[i].seat, line.entry[i].priority);
 }
 
 static void print_state(void)
 {
-    static const char *const phases[] = {"Stopped", "Idle", "Taken", "Revoking"};
-    int32_t running = floor_running(desk, sizeof desk), holder = floor_holder(desk, sizeof desk);
-    int first = 1;
-    printf("%s %" PRId32 " ", phases[floor_phase(desk, sizeof desk) & 3], floor_sequence(desk, sizeof desk));
-    for (int t = 1; t <= 20; t++)
-        if (running >> t & 1) {
-            printf("%s%d", first ? "" : ",", t);
-            first = 0;
-        }
-    printf("%s ", first ? "-" : "");
-    if (holder < 0)
+    struct floor_holder holder = floor_desk_holder(&desk);
+    char timers[32] = "-";
+    if (floor_desk_running(&desk) > 0)
+        floor_text_set(timers, sizeof timers, (uint32_t)floor_desk_running(&desk), "", ",");
+    printf("%s %" PRId32 " %s ", floor_text_phase(floor_desk_phase(&desk)), floor_desk_sequence(&desk), timers);
+    if (holder.seat < 0)
         putchar('-');
     else
-        printf("%" PRId32 ":%" PRId32, holder / 256, holder % 256);
+        printf("%" PRId32 ":%" PRId32, holder.seat, holder.priority);
     putchar(' ');
     print_line();
-    printf(" %" PRId32 " %" PRId32 "\n", floor_c7(desk, sizeof desk), floor_c20(desk, sizeof desk));
+    printf(" %" PRId32 " %" PRId32 "\n", floor_desk_c7(&desk), floor_desk_c20(&desk));
 }
 
-static void print_step(uint32_t answer, const uint8_t *report)
+static void print_marks(const struct floor_report *report)
 {
     static const char *const how[] = {"-", "once", "line"};
-    printf("A %" PRIu32 " | ", answer);
-    if (answer != 0 || !report || report[8] == FLOOR_NOTHING) {
+    print_seat(report->placed);
+    printf(" %04x ", (unsigned)floor_two(report->struck));
+    print_seat(report->ended);
+    putchar(' ');
+    print_seat(report->given);
+    printf(" %s", how[report->how % 3]);
+}
+
+/* A refusal's number, 0 for done. The report of a refused step is empty. */
+static void print_step(int32_t answer, const struct floor_report *report)
+{
+    printf("A %" PRId32 " | ", answer < 0 ? -answer : 0);
+    if (report->sent[0].type == FLOOR_TYPE_NOTHING)
         putchar('-');
-    } else {
+    else
         print_message(report, 0);
-        if (report[16] != FLOOR_NOTHING) {
-            printf(" ; ");
-            print_message(report, 1);
-        }
+    if (report->sent[1].type != FLOOR_TYPE_NOTHING) {
+        printf(" ; ");
+        print_message(report, 1);
     }
     printf(" | ");
-    if (answer != 0 || !report) {
-        printf("- 0000 - - -");
-    } else {
-        print_seat(report[3]);
-        printf(" %04x ", two(report));
-        print_seat(report[4]);
-        putchar(' ');
-        print_seat(report[5]);
-        printf(" %s", how[report[6] % 3]);
-    }
+    print_marks(report);
     printf(" | ");
     print_state();
 }
 
 /* ---- read and write ---- */
 
-static void print_read(const uint8_t *m, const uint8_t *packet)
+static void print_part(const struct floor_part *part, const uint8_t *packet)
 {
-    unsigned has = two(m + 2);
-    printf("M %u %u %" PRIu32, m[0], m[1], (uint32_t)two(m + 4) * 65536u + two(m + 6));
-    if (has & 1)
-        printf(" 0=%u", m[8]);
-    if (has >> 1 & 1)
-        printf(" 1=%u", two(m + 10));
-    if (has >> 2 & 1) {
-        printf(" 2=%u,", two(m + 12));
-        print_hex(packet + two(m + 28), two(m + 30));
+    print_hex(packet + floor_two(part->from), floor_two(part->count));
+}
+
+/* The value of one field that the message has. */
+static void print_value(enum floor_field id, const struct floor_message *m, const uint8_t *packet)
+{
+    switch (id) {
+    case FLOOR_FIELD_FLOOR_PRIORITY: printf("%u", m->priority); break;
+    case FLOOR_FIELD_DURATION: printf("%" PRIu32, floor_two(m->duration)); break;
+    case FLOOR_FIELD_REJECT_CAUSE: printf("%" PRIu32 ",", floor_two(m->cause)), print_part(&m->phrase, packet); break;
+    case FLOOR_FIELD_QUEUE_INFO: printf("%u,%u", m->position, m->queue_priority); break;
+    case FLOOR_FIELD_GRANTED_PARTYS_IDENTITY: print_part(&m->party, packet); break;
+    case FLOOR_FIELD_PERMISSION_TO_REQUEST: printf("%" PRIu32, floor_two(m->permission)); break;
+    case FLOOR_FIELD_USER_ID: print_part(&m->user, packet); break;
+    case FLOOR_FIELD_MESSAGE_SEQUENCE_NUMBER: printf("%" PRIu32, floor_two(m->sequence)); break;
+    case FLOOR_FIELD_SOURCE: printf("%" PRIu32, floor_two(m->source)); break;
+    case FLOOR_FIELD_MESSAGE_TYPE: printf("%u", m->message_type); break;
+    case FLOOR_FIELD_FLOOR_INDICATOR: printf("%" PRIu32, floor_two(m->indicator)); break;
+    case FLOOR_FIELD_SSRC: printf("%" PRIu32, floor_four(m->field_ssrc)); break;
     }
-    if (has >> 3 & 1)
-        printf(" 3=%u,%u", m[14], m[15]);
-    if (has >> 4 & 1) {
-        printf(" 4=");
-        print_hex(packet + two(m + 32), two(m + 34));
-    }
-    if (has >> 5 & 1)
-        printf(" 5=%u", two(m + 16));
-    if (has >> 6 & 1) {
-        printf(" 6=");
-        print_hex(packet + two(m + 36), two(m + 38));
-    }
-    if (has >> 8 & 1)
-        printf(" 8=%u", two(m + 18));
-    if (has >> 10 & 1)
-        printf(" 10=%u", two(m + 20));
-    if (has >> 12 & 1)
-        printf(" 12=%u", m[9]);
-    if (has >> 13 & 1)
-        printf(" 13=%u", two(m + 22));
-    if (has >> 14 & 1)
-        printf(" 14=%" PRIu32, (uint32_t)two(m + 24) * 65536u + two(m + 26));
+}
+
+static void print_read(const struct floor_message *m, const uint8_t *packet)
+{
+    printf("M %u %u %" PRIu32, m->type, m->ack, floor_four(m->ssrc));
+    for (uint32_t id = 0; id <= FLOOR_FIELD_SSRC; id++)
+        if (floor_has(floor_two(m->fields), id)) {
+            printf(" %" PRIu32 "=", id);
+            print_value((enum floor_field)id, m, packet);
+        }
     putchar('\n');
 }
 
@@ -259,113 +240,115 @@ static void print_written(int32_t n, const uint8_t *packet)
 
 static void play_read(const char *word, int again)
 {
-    uint8_t message[FLOOR_MESSAGE], packet[FLOOR_PACKET];
+    struct floor_message message;
+    struct floor_packet_out packet;
     long n = hex(word, 0);
     if (n < 0) {
         malformed(not_octets);
         return;
     }
-    uint32_t answer = floor_read(octets, (size_t)n, message, sizeof message);
-    if (answer != 0)
-        printf("R %" PRIu32 "\n", answer);
+    int32_t answer = floor_message_read(&message, octets, (size_t)n);
+    if (answer < 0)
+        printf("R %" PRId32 "\n", -answer);
     else if (!again)
-        print_read(message, octets);
+        print_read(&message, octets);
     else
-        print_written(floor_write(message, sizeof message, octets, (size_t)n, packet, sizeof packet), packet);
+        print_written(floor_message_write(&message, octets, (size_t)n, &packet), packet.octets);
 }
 
-static void put_two(uint8_t *s, uint64_t n)
-{
-    s[0] = (uint8_t)(n >> 8);
-    s[1] = (uint8_t)n;
-}
-
-static void put_four(uint8_t *s, uint64_t n)
-{
-    put_two(s, n >> 16);
-    put_two(s + 2, n & 0xFFFF);
-}
-
-/* Octets behind `used` of the source, as a part of the message at m. A part too long for its two octets is too long for any field. */
-static const char *put_part(const char *value, uint8_t *m, size_t *used)
+/* Octets behind `used` of the source, as a part of the message. A part too long for its two octets is too long for any field. */
+static const char *put_part(const char *value, struct floor_part *part, size_t *used)
 {
     long count = hex(value, *used);
     if (count < 0)
         return not_octets;
-    put_two(m, *used);
-    put_two(m + 2, (uint64_t)(count > 65535 ? 65535 : count));
+    floor_put_two(part->from, (uint32_t)*used);
+    floor_put_two(part->count, (uint32_t)(count > 65535 ? 65535 : count));
     *used += (size_t)count;
     return NULL;
 }
 
 /* Fields of two values: cause,phrase and position,priority. */
-static const char *put_two_values(uint64_t id, char *value, uint8_t *m, size_t *used)
+static const char *put_two_values(uint64_t id, char *value, struct floor_message *m, size_t *used)
 {
     uint64_t first, second;
     char *comma = strchr(value, ',');
     if (!comma)
         return "not two values";
     *comma++ = 0;
-    if (!number(value, id == 2 ? 65535 : 255, &first))
+    if (!number(value, id == FLOOR_FIELD_REJECT_CAUSE ? 65535 : 255, &first))
         return not_a_number;
-    if (id == 2) {
-        put_two(m + 12, first);
-        return put_part(comma, m + 28, used);
+    if (id == FLOOR_FIELD_REJECT_CAUSE) {
+        floor_put_two(m->cause, (uint32_t)first);
+        return put_part(comma, &m->phrase, used);
     }
     if (!number(comma, 255, &second))
         return not_a_number;
-    m[14] = (uint8_t)first;
-    m[15] = (uint8_t)second;
+    m->position = (uint8_t)first;
+    m->queue_priority = (uint8_t)second;
     return NULL;
 }
 
-static const char *put_number(uint64_t id, const char *value, uint8_t *m)
+#define PLACE(member) offsetof(struct floor_message, member)
+
+static const char *put_number(uint64_t id, const char *value, struct floor_message *m)
 {
-    static const uint8_t places[] = {8, 10, 0, 0, 0, 16, 0, 0, 18, 0, 20, 0, 9, 22, 24};
-    uint64_t n, most = id == 0 || id == 12 ? 255 : id == 14 ? 4294967295u : 65535;
+    static const size_t places[] = {
+        [FLOOR_FIELD_FLOOR_PRIORITY] = PLACE(priority),
+        [FLOOR_FIELD_DURATION] = PLACE(duration),
+        [FLOOR_FIELD_PERMISSION_TO_REQUEST] = PLACE(permission),
+        [FLOOR_FIELD_MESSAGE_SEQUENCE_NUMBER] = PLACE(sequence),
+        [FLOOR_FIELD_SOURCE] = PLACE(source),
+        [FLOOR_FIELD_MESSAGE_TYPE] = PLACE(message_type),
+        [FLOOR_FIELD_FLOOR_INDICATOR] = PLACE(indicator),
+        [FLOOR_FIELD_SSRC] = PLACE(field_ssrc),
+    };
+    uint8_t *to = (uint8_t *)m + places[id];
+    uint64_t n, most = id == FLOOR_FIELD_FLOOR_PRIORITY || id == FLOOR_FIELD_MESSAGE_TYPE ? 255 : id == FLOOR_FIELD_SSRC ? UINT32_MAX : 65535;
     if (!number(value, most, &n))
         return not_a_number;
     if (most == 255)
-        m[places[id]] = (uint8_t)n;
+        *to = (uint8_t)n;
     else if (most == 65535)
-        put_two(m + places[id], n);
+        floor_put_two(to, (uint32_t)n);
     else
-        put_four(m + places[id], n);
+        floor_put_four(to, (uint32_t)n);
     return NULL;
 }
 
 /* One field ID=VALUE into the message; its octets go behind `used` of the source. The reason where it is malformed. A repeated one is
  * judged like any other, and then forgotten. */
-static const char *put_field(char *word, uint8_t *m, size_t *used)
+static const char *put_field(char *word, struct floor_message *m, size_t *used)
 {
     char *value = strchr(word, '=');
-    uint8_t scratch[FLOOR_MESSAGE];
+    struct floor_message scratch;
     size_t unused = *used;
     uint64_t id;
     if (!value)
         return "not a field";
     *value++ = 0;
-    if (!number(word, 14, &id) || id == 7 || id == 9 || id == 11)
+    if (!number(word, FLOOR_FIELD_SSRC, &id) || floor_text_field((uint32_t)id, FLOOR_WORDS_PAPER)[0] == '?')
         return "no message has such a field";
-    if (two(m + 2) >> id & 1) {
-        m = scratch;
+    if (floor_has(floor_two(m->fields), (uint32_t)id)) {
+        m = &scratch;
         used = &unused;
-        put_two(m + 2, 0);
+        floor_put_two(m->fields, 0);
     }
-    put_two(m + 2, two(m + 2) | 1u << id);
-    if (id == 2 || id == 3)
+    floor_put_two(m->fields, floor_two(m->fields) | 1u << id);
+    if (id == FLOOR_FIELD_REJECT_CAUSE || id == FLOOR_FIELD_QUEUE_INFO)
         return put_two_values(id, value, m, used);
-    if (id == 4 || id == 6)
-        return put_part(value, m + (id == 4 ? 32 : 36), used);
+    if (id == FLOOR_FIELD_GRANTED_PARTYS_IDENTITY || id == FLOOR_FIELD_USER_ID)
+        return put_part(value, id == FLOOR_FIELD_USER_ID ? &m->user : &m->party, used);
     return put_number(id, value, m);
 }
 
 static void play_write(char **word, int words)
 {
-    uint8_t message[FLOOR_MESSAGE] = {0}, packet[1024];
+    struct floor_message message = {0};
+    struct floor_packet_out packet;
     uint64_t room, type, ack, ssrc;
     size_t used = 0;
-    if (!number(word[1], 4294967295u, &room) || !number(word[2], 255, &type) || !number(word[4], 4294967295u, &ssrc)) {
+    if (!number(word[1], UINT32_MAX, &room) || !number(word[2], 255, &type) || !number(word[4], UINT32_MAX, &ssrc)) {
         malformed(not_a_number);
         return;
     }
@@ -374,30 +357,30 @@ static void play_write(char **word, int words)
         return;
     }
     for (int i = 5; i < words; i++) {
-        const char *why = put_field(word[i], message, &used);
+        const char *why = put_field(word[i], &message, &used);
         if (why) {
             malformed(why);
             return;
         }
     }
-    message[0] = (uint8_t)type;
-    message[1] = (uint8_t)ack;
-    put_four(message + 4, ssrc);
-    if (room > sizeof packet)
-        room = sizeof packet;
-    print_written(floor_write(message, sizeof message, octets, used, packet, (size_t)room), packet);
+    message.type = (uint8_t)type;
+    message.ack = (uint8_t)ack;
+    floor_put_four(message.ssrc, (uint32_t)ssrc);
+    if (room > sizeof packet.octets)
+        room = sizeof packet.octets;
+    print_written(floor_write((const uint8_t *)&message, sizeof message, octets, used, packet.octets, (size_t)room), packet.octets);
 }
 
 /* ---- commands ---- */
 
 /* A desk that was made or loaded takes the place of the one there was; a refusal keeps that one. */
-static void take_desk(uint32_t answer, const uint8_t *made)
+static void take_desk(int32_t answer, const struct floor_desk *made)
 {
-    if (answer != 0) {
-        printf("R %" PRIu32 "\n", answer);
+    if (answer < 0) {
+        printf("R %" PRId32 "\n", -answer);
         return;
     }
-    memcpy(desk, made, sizeof desk);
+    desk = *made;
     has_desk = 1;
     printf("OK\n");
 }
@@ -405,40 +388,37 @@ static void take_desk(uint32_t answer, const uint8_t *made)
 static void play_make(char **word)
 {
     uint64_t n[6];
-    uint8_t made[FLOOR_DESK];
+    struct floor_desk made;
     for (int i = 0; i < 6; i++)
-        if (!number(word[1 + i], 4294967295u, &n[i])) {
+        if (!number(word[1 + i], UINT32_MAX, &n[i])) {
             malformed(not_a_number);
             return;
         }
-    uint32_t answer = floor_make(made, sizeof made, (uint32_t)n[0], (uint32_t)n[1], (uint32_t)n[2], (uint32_t)n[3], (uint32_t)n[4],
-                                 (uint32_t)n[5]);
-    take_desk(answer, made);
+    take_desk(floor_desk_make(&made, &(struct floor_making){.ssrc = (uint32_t)n[0], .level = (uint32_t)n[1], .limit = (uint32_t)n[2],
+                                                            .c7 = (uint32_t)n[3], .c20 = (uint32_t)n[4], .duration = (uint32_t)n[5]}), &made);
 }
 
 static void play_load(const char *word)
 {
-    uint8_t made[FLOOR_DESK];
+    struct floor_desk made;
     long n = hex(word, 0);
-    if (n < 0) {
+    if (n < 0)
         malformed(not_octets);
-        return;
-    }
-    uint32_t answer = floor_load(made, sizeof made, octets, (size_t)n);
-    take_desk(answer, made);
+    else
+        take_desk(floor_desk_load(&made, octets, (size_t)n), &made);
 }
 
 static void play_screen(const char *word)
 {
     uint64_t room;
-    uint8_t entries[2 * FLOOR_SEATS];
-    if (!number(word, 4294967295u, &room)) {
+    struct floor_line line;
+    if (!number(word, UINT32_MAX, &room)) {
         malformed(not_a_number);
         return;
     }
-    if (room > FLOOR_SEATS)
-        room = FLOOR_SEATS;
-    int32_t n = floor_screen(desk, sizeof desk, entries, 2 * (size_t)room);
+    if (room > FLOOR_LINE)
+        room = FLOOR_LINE;
+    int32_t n = floor_screen(desk.octets, sizeof desk.octets, (uint8_t *)&line, (size_t)room * sizeof *line.entry);
     if (n < 0)
         printf("R %" PRId32 "\n", -n);
     else {
@@ -456,7 +436,7 @@ static void play_join(char **word)
         malformed(not_octets);
         return;
     }
-    if (!number(word[2], 4294967295u, &ssrc) || !number(word[3], 255, &highest)) {
+    if (!number(word[2], UINT32_MAX, &ssrc) || !number(word[3], 255, &highest)) {
         malformed(not_a_number);
         return;
     }
@@ -468,17 +448,20 @@ static void play_join(char **word)
         malformed("no desk");
         return;
     }
-    print_step(floor_join(desk, sizeof desk, octets, (size_t)n, (uint32_t)ssrc, (uint8_t)highest, (uint8_t)queueing, (uint8_t)receive_only),
-               NULL);
+    struct floor_newcomer who = {.identity = octets, .identity_len = (size_t)n, .ssrc = (uint32_t)ssrc, .highest = (uint32_t)highest,
+                                 .queueing = queueing, .receive_only = receive_only};
+    struct floor_report nothing;
+    floor_report_clear(&nothing);
+    print_step(floor_desk_join(&desk, &who), &nothing);
 }
 
 /* leave, media, timer: a command with one number */
 static void play_numbered(const char *name, const char *word)
 {
-    uint8_t report[FLOOR_REPORT];
+    struct floor_report report;
     uint64_t n;
-    uint32_t answer;
-    if (!number(word, 4294967295u, &n)) {
+    int32_t answer;
+    if (!number(word, UINT32_MAX, &n)) {
         malformed(not_a_number);
         return;
     }
@@ -487,37 +470,38 @@ static void play_numbered(const char *name, const char *word)
         return;
     }
     if (strcmp(name, "leave") == 0)
-        answer = floor_leave(desk, sizeof desk, (uint32_t)n, report, sizeof report);
+        answer = floor_desk_leave(&desk, (uint32_t)n, &report);
     else if (strcmp(name, "media") == 0)
-        answer = floor_media(desk, sizeof desk, (uint32_t)n, report, sizeof report);
+        answer = floor_desk_media(&desk, (uint32_t)n, &report);
     else
-        answer = floor_timer(desk, sizeof desk, (uint32_t)n, report, sizeof report);
-    print_step(answer, report);
+        answer = floor_desk_timer(&desk, (uint32_t)n, &report);
+    print_step(answer, &report);
 }
 
 static void play_packet(const char *word)
 {
-    uint8_t report[FLOOR_REPORT];
+    struct floor_report report;
     long n = hex(word, 0);
     if (n < 0)
         malformed(not_octets);
     else if (!has_desk)
         malformed("no desk");
     else
-        print_step(floor_packet(desk, sizeof desk, octets, (size_t)n, report, sizeof report), report);
+        print_step(floor_desk_packet(&desk, octets, (size_t)n, &report), &report);
 }
 
 static void play_bare(const char *name)
 {
-    uint8_t report[FLOOR_REPORT], sheet[FLOOR_SHEET];
+    struct floor_report report;
+    struct floor_sheet sheet;
     if (!has_desk)
         malformed("no desk");
     else if (strcmp(name, "save") == 0)
-        print_written(floor_save(desk, sizeof desk, sheet, sizeof sheet), sheet);
+        print_written(floor_desk_save(&desk, &sheet), sheet.octets);
     else if (strcmp(name, "start") == 0)
-        print_step(floor_start(desk, sizeof desk, report, sizeof report), report);
+        print_step(floor_desk_start(&desk, &report), &report);
     else
-        print_step(floor_stop(desk, sizeof desk, report, sizeof report), report);
+        print_step(floor_desk_stop(&desk, &report), &report);
 }
 
 static int is(char **word, int words, const char *name, int wanted)
@@ -535,7 +519,7 @@ static void play(char **word, int words)
         play_bare(word[0]);
     else if (is(word, words, "screen", 2)) {
         uint64_t room;
-        if (!has_desk && number(word[1], 4294967295u, &room))
+        if (!has_desk && number(word[1], UINT32_MAX, &room))
             malformed("no desk");
         else
             play_screen(word[1]);

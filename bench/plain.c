@@ -5,10 +5,8 @@
 #include "plain.h"
 #include <string.h>
 
-enum { QUEUEING = 1, RECEIVE_ONLY = 2 };                                                               /* a seat's flags */
-enum { NO_MORE = 0, T2_TOO = 1, T20_TOO = 2 };                                                         /* what runs beside T1 in Taken */
-enum { ONLY_RECEIVES = 5, ALONE = 3, OTHER_HAS_THE_FLOOR = 1, LINE_FULL = 7, TALKED_TOO_LONG = 2, PRE_EMPTED = 4 }; /* causes */
-enum { LARGEST_PACKET = 1024, HEADER = 12, SETTINGS = 12, TRAILER = 8, SEAT_HEAD = 7, SHORTEST_SHEET = SETTINGS + TRAILER };
+enum { NO_MORE = 0, T2_TOO = 1, T20_TOO = 2 }; /* what runs beside T1 in Taken */
+enum { HEADER = 12, TRAILER = 8, SEAT_HEAD = 7, SHORTEST_SHEET = FLOOR_SETTINGS + TRAILER };
 
 /* The desk's form is this struct, octet for octet. */
 typedef char desk_has_its_size[sizeof(struct plain_desk) == FLOOR_DESK ? 1 : -1];
@@ -76,7 +74,8 @@ static int phase_fits(const struct plain_desk *d)
     case FLOOR_PHASE_TAKEN:
         return d->timers <= 2 && d->holder < FLOOR_SEATS && d->taken[d->holder] && cause == 0;
     case FLOOR_PHASE_REVOKING:
-        return d->timers == 0 && d->holder < FLOOR_SEATS && d->taken[d->holder] && (cause == TALKED_TOO_LONG || cause == PRE_EMPTED);
+        return d->timers == 0 && d->holder < FLOOR_SEATS && d->taken[d->holder]
+            && (cause == FLOOR_REVOKE_MEDIA_BURST_TOO_LONG || cause == FLOOR_REVOKE_MEDIA_BURST_PREEMPTED);
     }
     return 0;
 }
@@ -104,7 +103,7 @@ static int flags_fit(const struct plain_desk *d)
         taken |= d->taken[s];
         flags |= d->flags[s];
     }
-    return taken <= 1 && flags <= (QUEUEING | RECEIVE_ONLY);
+    return taken <= 1 && flags <= (FLOOR_FLAG_QUEUEING | FLOOR_FLAG_RECEIVE_ONLY);
 }
 
 static int seat_fits(const struct plain_desk *d, int s)
@@ -153,32 +152,33 @@ static const uint8_t greatest[16] = {2, 2, 255, 2, 62, 2, 62, 0, 2, 0, 2, 0, 2, 
 #define IN_THE_TABLE 0x757Fu   /* bit i for ID i */
 #define OF_FOUR_OCTETS 0x352Bu /* the same, of fields that have four octets with ID and L */
 #define LISTED 0x077Fu         /* bit i for type i */
-static const uint16_t required[16] = {[FLOOR_GRANTED] = 1 << 1, [FLOOR_TAKEN] = 1 << 4, [FLOOR_DENY] = 1 << 2, [FLOOR_IDLE] = 1 << 8,
-                                      [FLOOR_REVOKE] = 1 << 2, [FLOOR_QUEUE_POSITION_INFO] = 1 << 3, [FLOOR_ACK] = 1 << 10 | 1 << 12};
+static const uint16_t required[16] = {[FLOOR_TYPE_GRANTED] = 1 << 1, [FLOOR_TYPE_TAKEN] = 1 << 4, [FLOOR_TYPE_DENY] = 1 << 2,
+                                      [FLOOR_TYPE_IDLE] = 1 << 8,    [FLOOR_TYPE_REVOKE] = 1 << 2, [FLOOR_TYPE_QUEUE_POSITION_INFO] = 1 << 3,
+                                      [FLOOR_TYPE_ACK] = 1 << 10 | 1 << 12};
 
 static size_t padded(size_t n)
 {
     return (n + 3) & ~(size_t)3;
 }
 
-static uint32_t judge_header(const uint8_t *p, size_t n)
+static int32_t judge_header(const uint8_t *p, size_t n)
 {
     if (n < HEADER)
-        return FLOOR_TOO_SHORT;
-    if (n > LARGEST_PACKET)
-        return FLOOR_TOO_LONG;
+        return FLOOR_REFUSAL_TOO_SHORT;
+    if (n > FLOOR_PACKET_IN)
+        return FLOOR_REFUSAL_TOO_LONG;
     if (p[0] >> 6 != 2)
-        return FLOOR_NOT_VERSION_2;
+        return FLOOR_REFUSAL_NOT_VERSION_2;
     if (p[0] & 0x20)
-        return FLOOR_PADDED;
+        return FLOOR_REFUSAL_PADDED;
     if (p[1] != 204)
-        return FLOOR_NOT_APPLICATION;
+        return FLOOR_REFUSAL_NOT_APPLICATION;
     if (4 * (size_t)(two(p + 2) + 1) != n)
-        return FLOOR_WRONG_LENGTH;
+        return FLOOR_REFUSAL_WRONG_LENGTH;
     if (memcmp(p + 8, "MCPT", 4) != 0)
-        return FLOOR_NOT_NAMED;
+        return FLOOR_REFUSAL_NOT_NAMED;
     if (!(LISTED >> (p[0] & 15) & 1))
-        return FLOOR_UNLISTED_TYPE;
+        return FLOOR_REFUSAL_UNLISTED_TYPE;
     return 0;
 }
 
@@ -197,27 +197,27 @@ struct found {
     uint16_t content[16];
 };
 
-static uint32_t judge(const uint8_t *p, size_t n, struct found *f)
+static int32_t judge(const uint8_t *p, size_t n, struct found *f)
 {
-    uint32_t refusal = judge_header(p, n);
+    int32_t refusal = judge_header(p, n);
     f->has = 0;
     for (size_t at = HEADER, next; refusal == 0 && at < n; at = next) {
         unsigned id = p[at];
         next = at + padded(2 + (size_t)p[at + 1]);
         if (id >= 192)
-            return FLOOR_AGAINST_THE_TABLE;
+            return FLOOR_REFUSAL_AGAINST_THE_TABLE;
         if (next > n)
-            return FLOOR_PAST_THE_END;
+            return FLOOR_REFUSAL_PAST_THE_END;
         if (id >= 16 || least[id] == 0)
             continue;
         if (against_the_table(p, at))
-            return FLOOR_AGAINST_THE_TABLE;
+            return FLOOR_REFUSAL_AGAINST_THE_TABLE;
         if (!(f->has >> id & 1))
             f->content[id] = (uint16_t)(at + 2);
         f->has |= 1u << id;
     }
     if (refusal == 0 && (required[p[0] & 15] & ~f->has))
-        return FLOOR_MISSING;
+        return FLOOR_REFUSAL_MISSING;
     return refusal;
 }
 
@@ -237,14 +237,14 @@ static void note_part(uint8_t *to, const uint8_t *p, const struct found *f, unsi
     }
 }
 
-uint32_t plain_read(const uint8_t *packet, size_t packet_len, uint8_t *message, size_t message_len)
+int32_t plain_read(const uint8_t *packet, size_t packet_len, uint8_t *message, size_t message_len)
 {
     struct found f;
-    uint32_t refusal = judge(packet, packet_len, &f);
+    int32_t refusal = judge(packet, packet_len, &f);
     if (refusal)
         return refusal;
     if (message_len < FLOOR_MESSAGE)
-        return FLOOR_NO_ROOM;
+        return FLOOR_REFUSAL_NO_ROOM;
     memset(message, 0, FLOOR_MESSAGE);
     message[0] = packet[0] & 15;
     message[1] = packet[0] >> 4 & 1;
@@ -353,10 +353,10 @@ int32_t plain_write(const uint8_t *message, size_t message_len, const uint8_t *s
 {
     const uint8_t *m = message;
     if (!readable(m, message_len, source_len))
-        return -FLOOR_UNREADABLE;
+        return FLOOR_REFUSAL_UNREADABLE;
     size_t length = written_length(m);
     if (room_len < length)
-        return -FLOOR_NO_ROOM;
+        return FLOOR_REFUSAL_NO_ROOM;
     unsigned has = two(m + 2);
     uint8_t *to = room + HEADER;
     put_header(room, m[0], m[1], m + 4, length);
@@ -441,15 +441,16 @@ static int place(struct plain_desk *d, unsigned seat, unsigned priority)
 
 static void report_nothing(struct plain_report *r)
 {
-    static const struct plain_report nothing = {{0, 0}, 0, FLOOR_NO_SEAT, FLOOR_NO_SEAT, FLOOR_NO_SEAT, FLOOR_NOT_GIVEN, 0,
-                                                {{FLOOR_NOTHING, 0, {0, 0}, 0, 0, {0, 0}}, {FLOOR_NOTHING, 0, {0, 0}, 0, 0, {0, 0}}}};
+    static const struct plain_report nothing = {{0, 0}, 0, FLOOR_NO_SEAT, FLOOR_NO_SEAT, FLOOR_NO_SEAT, FLOOR_GIVEN_NOT, 0,
+                                                {{FLOOR_TYPE_NOTHING, 0, {0, 0}, 0, 0, {0, 0}},
+                                                 {FLOOR_TYPE_NOTHING, 0, {0, 0}, 0, 0, {0, 0}}}};
     memcpy(r, &nothing, sizeof nothing);
 }
 
 /* The next message of the step. */
 static void sends(struct plain_report *r, unsigned kind, unsigned seat, unsigned number, unsigned priority, unsigned to)
 {
-    struct plain_sent *m = &r->sent[r->sent[0].kind != FLOOR_NOTHING];
+    struct plain_sent *m = &r->sent[r->sent[0].kind != FLOOR_TYPE_NOTHING];
     m->kind = (uint8_t)kind;
     m->seat = (uint8_t)seat;
     put_two(m->number, number);
@@ -478,8 +479,8 @@ static void give(struct plain_desk *d, struct plain_report *r, unsigned seat, un
         d->timers = T20_TOO;
         d->c20 = 1;
     }
-    sends(r, FLOOR_GRANTED, 0, 0, priority, 1u << seat);
-    sends(r, FLOOR_TAKEN, seat, next_number(d), 0, in_call & ~(1u << seat));
+    sends(r, FLOOR_TYPE_GRANTED, 0, 0, priority, 1u << seat);
+    sends(r, FLOOR_TYPE_TAKEN, seat, next_number(d), 0, in_call & ~(1u << seat));
     r->given = (uint8_t)seat;
     r->how = (uint8_t)how;
 }
@@ -498,7 +499,7 @@ static void idle(struct plain_desk *d, struct plain_report *r, unsigned in_call)
     leave_the_floor(d, FLOOR_PHASE_IDLE);
     d->timers = 1;
     d->c7 = 1;
-    sends(r, FLOOR_IDLE, 0, next_number(d), 0, in_call);
+    sends(r, FLOOR_TYPE_IDLE, 0, next_number(d), 0, in_call);
 }
 
 static void end_floor(struct plain_desk *d, struct plain_report *r, unsigned in_call)
@@ -518,12 +519,12 @@ static void revoke(struct plain_desk *d, struct plain_report *r, unsigned cause)
     d->phase = FLOOR_PHASE_REVOKING;
     d->timers = 0;
     put_two(d->cause, cause);
-    sends(r, FLOOR_REVOKE, 0, cause, 0, 1u << d->holder);
+    sends(r, FLOOR_TYPE_REVOKE, 0, cause, 0, 1u << d->holder);
 }
 
 static void grant_again(const struct plain_desk *d, struct plain_report *r)
 {
-    sends(r, FLOOR_GRANTED, 0, 0, d->given_at, 1u << d->holder);
+    sends(r, FLOOR_TYPE_GRANTED, 0, 0, d->given_at, 1u << d->holder);
 }
 
 static void halt(struct plain_desk *d, struct plain_report *r)
@@ -559,12 +560,12 @@ static void queue(struct plain_desk *d, struct plain_report *r, unsigned seat, u
 {
     int press = presses(d, seat, priority), at = place_of(d, seat);
     if (at < 0) {
-        if (!press && !(d->flags[seat] & QUEUEING)) {
-            sends(r, FLOOR_DENY, 0, OTHER_HAS_THE_FLOOR, 0, 1u << seat);
+        if (!press && !(d->flags[seat] & FLOOR_FLAG_QUEUEING)) {
+            sends(r, FLOOR_TYPE_DENY, 0, FLOOR_DENY_ANOTHER_HAS_PERMISSION, 0, 1u << seat);
             return;
         }
         if (d->waiting >= d->limit) {
-            sends(r, FLOOR_DENY, 0, LINE_FULL, 0, 1u << seat);
+            sends(r, FLOOR_TYPE_DENY, 0, FLOOR_DENY_QUEUE_FULL, 0, 1u << seat);
             return;
         }
         at = place(d, seat, priority);
@@ -573,10 +574,10 @@ static void queue(struct plain_desk *d, struct plain_report *r, unsigned seat, u
         strike(d, at);
         at = place(d, seat, priority);
     }
-    if (d->flags[seat] & QUEUEING)
-        sends(r, FLOOR_QUEUE_POSITION_INFO, 0, (unsigned)at + 1, priority, 1u << seat);
+    if (d->flags[seat] & FLOOR_FLAG_QUEUEING)
+        sends(r, FLOOR_TYPE_QUEUE_POSITION_INFO, 0, (unsigned)at + 1, priority, 1u << seat);
     if (press && d->phase == FLOOR_PHASE_TAKEN)
-        revoke(d, r, PRE_EMPTED);
+        revoke(d, r, FLOOR_REVOKE_MEDIA_BURST_PREEMPTED);
 }
 
 static void request(struct plain_desk *d, struct plain_report *r, unsigned seat, unsigned asked)
@@ -584,12 +585,12 @@ static void request(struct plain_desk *d, struct plain_report *r, unsigned seat,
     unsigned priority = asked < d->highest[seat] ? asked : d->highest[seat];
     if (holds(d, seat)) {
         grant_again(d, r);
-    } else if (d->flags[seat] & RECEIVE_ONLY) {
-        sends(r, FLOOR_DENY, 0, ONLY_RECEIVES, 0, 1u << seat);
+    } else if (d->flags[seat] & FLOOR_FLAG_RECEIVE_ONLY) {
+        sends(r, FLOOR_TYPE_DENY, 0, FLOOR_DENY_RECEIVE_ONLY, 0, 1u << seat);
     } else if (d->phase == FLOOR_PHASE_IDLE) {
         unsigned in_call = all_seats(d);
         if (in_call == 1u << seat)
-            sends(r, FLOOR_DENY, 0, ALONE, 0, 1u << seat);
+            sends(r, FLOOR_TYPE_DENY, 0, FLOOR_DENY_ONLY_ONE_PARTICIPANT, 0, 1u << seat);
         else
             give(d, r, seat, priority, FLOOR_GIVEN_AT_ONCE, in_call);
     } else {
@@ -611,9 +612,9 @@ static void tell_place(const struct plain_desk *d, struct plain_report *r, unsig
 {
     int at = place_of(d, seat);
     if (at < 0)
-        sends(r, FLOOR_QUEUE_POSITION_INFO, 0, 255, 0, 1u << seat);
+        sends(r, FLOOR_TYPE_QUEUE_POSITION_INFO, 0, 255, 0, 1u << seat);
     else
-        sends(r, FLOOR_QUEUE_POSITION_INFO, 0, (unsigned)at + 1, d->priorities[at], 1u << seat);
+        sends(r, FLOOR_TYPE_QUEUE_POSITION_INFO, 0, (unsigned)at + 1, d->priorities[at], 1u << seat);
 }
 
 /* ---- Steps ---- */
@@ -622,50 +623,50 @@ static void tell_place(const struct plain_desk *d, struct plain_report *r, unsig
 static int expected(const struct plain_desk *d, unsigned type, unsigned seat)
 {
     switch (type) {
-    case FLOOR_REQUEST:
+    case FLOOR_TYPE_REQUEST:
         return !(d->phase == FLOOR_PHASE_REVOKING && d->holder == seat);
-    case FLOOR_RELEASE:
+    case FLOOR_TYPE_RELEASE:
         return holds(d, seat) || place_of(d, seat) >= 0;
-    case FLOOR_QUEUE_POSITION_REQUEST:
+    case FLOOR_TYPE_QUEUE_POSITION_REQUEST:
         return 1;
     }
     return 0;
 }
 
-static uint32_t packet_step(struct plain_desk *d, const uint8_t *packet, size_t packet_len, struct plain_report *r, size_t report_len)
+static int32_t packet_step(struct plain_desk *d, const uint8_t *packet, size_t packet_len, struct plain_report *r, size_t report_len)
 {
     struct found f;
-    uint32_t refusal = judge(packet, packet_len, &f);
+    int32_t refusal = judge(packet, packet_len, &f);
     if (refusal)
         return refusal;
     if (d->phase == FLOOR_PHASE_STOPPED)
-        return FLOOR_CALL_STOPPED;
+        return FLOOR_REFUSAL_CALL_STOPPED;
     int seat = seat_of(d, packet + 4);
     if (seat < 0)
-        return FLOOR_NO_SUCH_SEAT;
+        return FLOOR_REFUSAL_NO_SUCH_SEAT;
     unsigned type = packet[0] & 15;
     if (!expected(d, type, (unsigned)seat))
-        return FLOOR_NOT_EXPECTED;
+        return FLOOR_REFUSAL_NOT_EXPECTED;
     if (report_len < FLOOR_REPORT)
-        return FLOOR_NO_ROOM;
+        return FLOOR_REFUSAL_NO_ROOM;
     report_nothing(r);
-    if (type == FLOOR_REQUEST)
+    if (type == FLOOR_TYPE_REQUEST)
         request(d, r, (unsigned)seat, f.has & 1 ? packet[f.content[0]] : 0);
-    else if (type == FLOOR_RELEASE)
+    else if (type == FLOOR_TYPE_RELEASE)
         release(d, r, (unsigned)seat);
     else
         tell_place(d, r, (unsigned)seat);
     return 0;
 }
 
-uint32_t plain_packet(uint8_t *desk, size_t desk_len, const uint8_t *packet, size_t packet_len, uint8_t *report, size_t report_len)
+int32_t plain_packet(uint8_t *desk, size_t desk_len, const uint8_t *packet, size_t packet_len, uint8_t *report, size_t report_len)
 {
     if (!is_desk(desk, desk_len))
-        return FLOOR_NOT_A_DESK;
+        return FLOOR_REFUSAL_NOT_A_DESK;
     return packet_step((void *)desk, packet, packet_len, (void *)report, report_len);
 }
 
-uint32_t plain_native_packet(struct plain_desk *desk, const uint8_t *packet, size_t packet_len, struct plain_report *report)
+int32_t plain_native_packet(struct plain_desk *desk, const uint8_t *packet, size_t packet_len, struct plain_report *report)
 {
     return packet_step(desk, packet, packet_len, report, sizeof *report);
 }
@@ -687,7 +688,7 @@ static void fire_t7(struct plain_desk *d, struct plain_report *r)
 {
     if (d->c7 < d->c7_limit) {
         d->c7++;
-        sends(r, FLOOR_IDLE, 0, next_number(d), 0, all_seats(d));
+        sends(r, FLOOR_TYPE_IDLE, 0, next_number(d), 0, all_seats(d));
     } else {
         d->timers = 0;
     }
@@ -703,14 +704,14 @@ static void fire_t20(struct plain_desk *d, struct plain_report *r)
     }
 }
 
-static uint32_t timer_step(struct plain_desk *d, uint32_t timer, struct plain_report *r, size_t report_len)
+static int32_t timer_step(struct plain_desk *d, uint32_t timer, struct plain_report *r, size_t report_len)
 {
     if (d->phase == FLOOR_PHASE_STOPPED)
-        return FLOOR_CALL_STOPPED;
+        return FLOOR_REFUSAL_CALL_STOPPED;
     if (timer > 20 || !(timers_running(d) >> timer & 1))
-        return FLOOR_NOT_EXPECTED;
+        return FLOOR_REFUSAL_NOT_EXPECTED;
     if (report_len < FLOOR_REPORT)
-        return FLOOR_NO_ROOM;
+        return FLOOR_REFUSAL_NO_ROOM;
     report_nothing(r);
     switch (timer) {
     case 1:
@@ -718,7 +719,7 @@ static uint32_t timer_step(struct plain_desk *d, uint32_t timer, struct plain_re
         end_floor(d, r, all_seats(d));
         break;
     case 2:
-        revoke(d, r, TALKED_TOO_LONG);
+        revoke(d, r, FLOOR_REVOKE_MEDIA_BURST_TOO_LONG);
         break;
     case 4:
         halt(d, r);
@@ -727,7 +728,7 @@ static uint32_t timer_step(struct plain_desk *d, uint32_t timer, struct plain_re
         fire_t7(d, r);
         break;
     case 8:
-        sends(r, FLOOR_REVOKE, 0, two(d->cause), 0, 1u << d->holder);
+        sends(r, FLOOR_TYPE_REVOKE, 0, two(d->cause), 0, 1u << d->holder);
         break;
     case 20:
         fire_t20(d, r);
@@ -736,64 +737,64 @@ static uint32_t timer_step(struct plain_desk *d, uint32_t timer, struct plain_re
     return 0;
 }
 
-uint32_t plain_timer(uint8_t *desk, size_t desk_len, uint32_t timer, uint8_t *report, size_t report_len)
+int32_t plain_timer(uint8_t *desk, size_t desk_len, uint32_t timer, uint8_t *report, size_t report_len)
 {
     if (!is_desk(desk, desk_len))
-        return FLOOR_NOT_A_DESK;
+        return FLOOR_REFUSAL_NOT_A_DESK;
     return timer_step((void *)desk, timer, (void *)report, report_len);
 }
 
-uint32_t plain_native_timer(struct plain_desk *desk, uint32_t timer, struct plain_report *report)
+int32_t plain_native_timer(struct plain_desk *desk, uint32_t timer, struct plain_report *report)
 {
     return timer_step(desk, timer, report, sizeof *report);
 }
 
-uint32_t plain_start(uint8_t *desk, size_t desk_len, uint8_t *report, size_t report_len)
+int32_t plain_start(uint8_t *desk, size_t desk_len, uint8_t *report, size_t report_len)
 {
     struct plain_desk *d = (void *)desk;
     struct plain_report *r = (void *)report;
     if (!is_desk(desk, desk_len))
-        return FLOOR_NOT_A_DESK;
+        return FLOOR_REFUSAL_NOT_A_DESK;
     if (d->phase != FLOOR_PHASE_STOPPED)
-        return FLOOR_NOT_EXPECTED;
+        return FLOOR_REFUSAL_NOT_EXPECTED;
     if (report_len < FLOOR_REPORT)
-        return FLOOR_NO_ROOM;
+        return FLOOR_REFUSAL_NO_ROOM;
     report_nothing(r);
     idle(d, r, all_seats(d));
     return 0;
 }
 
-uint32_t plain_stop(uint8_t *desk, size_t desk_len, uint8_t *report, size_t report_len)
+int32_t plain_stop(uint8_t *desk, size_t desk_len, uint8_t *report, size_t report_len)
 {
     struct plain_desk *d = (void *)desk;
     struct plain_report *r = (void *)report;
     if (!is_desk(desk, desk_len))
-        return FLOOR_NOT_A_DESK;
+        return FLOOR_REFUSAL_NOT_A_DESK;
     if (d->phase == FLOOR_PHASE_STOPPED)
-        return FLOOR_CALL_STOPPED;
+        return FLOOR_REFUSAL_CALL_STOPPED;
     if (report_len < FLOOR_REPORT)
-        return FLOOR_NO_ROOM;
+        return FLOOR_REFUSAL_NO_ROOM;
     report_nothing(r);
     halt(d, r);
     return 0;
 }
 
-uint32_t plain_media(uint8_t *desk, size_t desk_len, uint32_t ssrc, uint8_t *report, size_t report_len)
+int32_t plain_media(uint8_t *desk, size_t desk_len, uint32_t ssrc, uint8_t *report, size_t report_len)
 {
     struct plain_desk *d = (void *)desk;
     uint8_t wanted[4];
     if (!is_desk(desk, desk_len))
-        return FLOOR_NOT_A_DESK;
+        return FLOOR_REFUSAL_NOT_A_DESK;
     if (d->phase == FLOOR_PHASE_STOPPED)
-        return FLOOR_CALL_STOPPED;
+        return FLOOR_REFUSAL_CALL_STOPPED;
     put_four(wanted, ssrc);
     int seat = seat_of(d, wanted);
     if (seat < 0)
-        return FLOOR_NO_SUCH_SEAT;
+        return FLOOR_REFUSAL_NO_SUCH_SEAT;
     if (!holds(d, (unsigned)seat))
-        return FLOOR_NOT_EXPECTED;
+        return FLOOR_REFUSAL_NOT_EXPECTED;
     if (report_len < FLOOR_REPORT)
-        return FLOOR_NO_ROOM;
+        return FLOOR_REFUSAL_NO_ROOM;
     report_nothing((void *)report);
     if (d->phase == FLOOR_PHASE_TAKEN)
         d->timers = T2_TOO;
@@ -831,38 +832,39 @@ static int seat_named(const struct plain_desk *d, const uint8_t *identity, size_
     return -1;
 }
 
-uint32_t plain_join(uint8_t *desk, size_t desk_len, const uint8_t *identity, size_t identity_len, uint32_t ssrc, uint8_t highest,
-                    uint8_t queueing, uint8_t receive_only)
+int32_t plain_join(uint8_t *desk, size_t desk_len, const uint8_t *identity, size_t identity_len, uint32_t ssrc, uint8_t highest,
+                   uint8_t queueing, uint8_t receive_only)
 {
     struct plain_desk *d = (void *)desk;
     uint8_t own[4];
     if (!is_desk(desk, desk_len))
-        return FLOOR_NOT_A_DESK;
+        return FLOOR_REFUSAL_NOT_A_DESK;
     if (identity_len < 1 || identity_len > FLOOR_IDENTITY)
-        return FLOOR_IDENTITY_LENGTH;
+        return FLOOR_REFUSAL_IDENTITY_LENGTH;
     if (seat_named(d, identity, identity_len) >= 0)
-        return FLOOR_IDENTITY_PRESENT;
+        return FLOOR_REFUSAL_IDENTITY_PRESENT;
     put_four(own, ssrc);
     if (memcmp(own, d->own_ssrc, 4) == 0 || seat_of(d, own) >= 0)
-        return FLOOR_SSRC_PRESENT;
+        return FLOOR_REFUSAL_SSRC_PRESENT;
     const uint8_t *free_seat = memchr(d->taken, 0, FLOOR_SEATS);
     if (!free_seat)
-        return FLOOR_ALL_SEATS_TAKEN;
+        return FLOOR_REFUSAL_ALL_SEATS_TAKEN;
     int s = (int)(free_seat - d->taken);
-    put_seat(d, s, own, highest, (queueing ? QUEUEING : 0u) | (receive_only ? RECEIVE_ONLY : 0u), identity, identity_len);
-    return 0;
+    put_seat(d, s, own, highest, (queueing ? FLOOR_FLAG_QUEUEING : 0u) | (receive_only ? FLOOR_FLAG_RECEIVE_ONLY : 0u), identity,
+             identity_len);
+    return s;
 }
 
-uint32_t plain_leave(uint8_t *desk, size_t desk_len, uint32_t seat, uint8_t *report, size_t report_len)
+int32_t plain_leave(uint8_t *desk, size_t desk_len, uint32_t seat, uint8_t *report, size_t report_len)
 {
     struct plain_desk *d = (void *)desk;
     struct plain_report *r = (void *)report;
     if (!is_desk(desk, desk_len))
-        return FLOOR_NOT_A_DESK;
+        return FLOOR_REFUSAL_NOT_A_DESK;
     if (seat >= FLOOR_SEATS || !d->taken[seat])
-        return FLOOR_NO_SUCH_SEAT;
+        return FLOOR_REFUSAL_NO_SUCH_SEAT;
     if (report_len < FLOOR_REPORT)
-        return FLOOR_NO_ROOM;
+        return FLOOR_REFUSAL_NO_ROOM;
     report_nothing(r);
     int at = place_of(d, seat);
     if (holds(d, seat)) {
@@ -883,14 +885,14 @@ static void fresh(struct plain_desk *d)
     d->form = 1;
 }
 
-uint32_t plain_make(uint8_t *desk, size_t desk_len, uint32_t ssrc, uint32_t level, uint32_t limit, uint32_t c7, uint32_t c20,
-                    uint32_t duration)
+int32_t plain_make(uint8_t *desk, size_t desk_len, uint32_t ssrc, uint32_t level, uint32_t limit, uint32_t c7, uint32_t c20,
+                   uint32_t duration)
 {
     struct plain_desk *d = (void *)desk;
     if (!settings_in_range(level, limit, c7, c20, duration))
-        return FLOOR_OUTSIDE_RANGE;
+        return FLOOR_REFUSAL_OUTSIDE_RANGE;
     if (desk_len < FLOOR_DESK)
-        return FLOOR_NO_ROOM;
+        return FLOOR_REFUSAL_NO_ROOM;
     fresh(d);
     put_four(d->own_ssrc, ssrc);
     d->level = (uint8_t)level;
@@ -907,20 +909,20 @@ uint32_t plain_make(uint8_t *desk, size_t desk_len, uint32_t ssrc, uint32_t leve
 static int is_sent(const struct plain_desk *d, const struct plain_sent *m)
 {
     unsigned number = two(m->number);
-    if (m->zero != 0 || (m->kind != FLOOR_TAKEN && m->seat != 0))
+    if (m->zero != 0 || (m->kind != FLOOR_TYPE_TAKEN && m->seat != 0))
         return 0;
     switch (m->kind) {
-    case FLOOR_GRANTED:
+    case FLOOR_TYPE_GRANTED:
         return number == 0;
-    case FLOOR_TAKEN:
+    case FLOOR_TYPE_TAKEN:
         return m->priority == 0 && m->seat < FLOOR_SEATS && d->taken[m->seat];
-    case FLOOR_DENY:
-    case FLOOR_IDLE:
-    case FLOOR_REVOKE:
+    case FLOOR_TYPE_DENY:
+    case FLOOR_TYPE_IDLE:
+    case FLOOR_TYPE_REVOKE:
         return m->priority == 0;
-    case FLOOR_QUEUE_POSITION_INFO:
+    case FLOOR_TYPE_QUEUE_POSITION_INFO:
         return number <= 255;
-    case FLOOR_NOTHING:
+    case FLOOR_TYPE_NOTHING:
         return m->priority == 0 && number == 0;
     }
     return 0;
@@ -928,9 +930,9 @@ static int is_sent(const struct plain_desk *d, const struct plain_sent *m)
 
 static size_t sent_length(const struct plain_desk *d, const struct plain_sent *m)
 {
-    if (m->kind == FLOOR_GRANTED)
+    if (m->kind == FLOOR_TYPE_GRANTED)
         return HEADER + 8;
-    if (m->kind == FLOOR_TAKEN)
+    if (m->kind == FLOOR_TYPE_TAKEN)
         return HEADER + padded(2 + (size_t)d->length[m->seat]) + 8;
     return HEADER + 4;
 }
@@ -938,17 +940,17 @@ static size_t sent_length(const struct plain_desk *d, const struct plain_sent *m
 static void put_sent(const struct plain_desk *d, const struct plain_sent *m, uint8_t *to)
 {
     switch (m->kind) {
-    case FLOOR_GRANTED:
+    case FLOOR_TYPE_GRANTED:
         put_pair(put_pair(to, 0, m->priority, 0), 1, d->duration[0], d->duration[1]);
         break;
-    case FLOOR_TAKEN:
+    case FLOOR_TYPE_TAKEN:
         to = put_octets(to, 4, d->identity[m->seat], d->length[m->seat]);
         put_pair(put_pair(to, 5, 0, 1), 8, m->number[0], m->number[1]);
         break;
-    case FLOOR_IDLE:
+    case FLOOR_TYPE_IDLE:
         put_pair(to, 8, m->number[0], m->number[1]);
         break;
-    case FLOOR_QUEUE_POSITION_INFO:
+    case FLOOR_TYPE_QUEUE_POSITION_INFO:
         put_pair(to, 3, m->number[1], m->priority);
         break;
     default:
@@ -963,19 +965,19 @@ int32_t plain_message(const uint8_t *desk, size_t desk_len, const uint8_t *repor
     const struct plain_desk *d = (const void *)desk;
     const struct plain_report *r = (const void *)report;
     if (!is_desk(desk, desk_len))
-        return -FLOOR_NOT_A_DESK;
+        return FLOOR_REFUSAL_NOT_A_DESK;
     if (report_len != FLOOR_REPORT)
-        return -FLOOR_UNREADABLE;
+        return FLOOR_REFUSAL_UNREADABLE;
     if (which > 1)
         return 0;
     const struct plain_sent *m = &r->sent[which];
     if (!is_sent(d, m))
-        return -FLOOR_UNREADABLE;
-    if (m->kind == FLOOR_NOTHING)
+        return FLOOR_REFUSAL_UNREADABLE;
+    if (m->kind == FLOOR_TYPE_NOTHING)
         return 0;
     size_t length = sent_length(d, m);
     if (room_len < length)
-        return -FLOOR_NO_ROOM;
+        return FLOOR_REFUSAL_NO_ROOM;
     put_header(room, m->kind, 0, d->own_ssrc, length);
     put_sent(d, m, room + HEADER);
     return (int32_t)length;
@@ -983,32 +985,42 @@ int32_t plain_message(const uint8_t *desk, size_t desk_len, const uint8_t *repor
 
 /* ---- The sheet ---- */
 
+/* A taken seat and the settings as the sheet lays them out; each answers how many octets it has. */
+static size_t seat_octets(const struct plain_desk *d, unsigned s, uint8_t *to)
+{
+    to[0] = d->flags[s];
+    to[1] = d->highest[s];
+    memcpy(to + 2, d->ssrc[s], 4);
+    to[6] = d->length[s];
+    memcpy(to + SEAT_HEAD, d->identity[s], d->length[s]);
+    return SEAT_HEAD + (size_t)d->length[s];
+}
+
+static size_t settings_octets(const struct plain_desk *d, uint8_t *to)
+{
+    memcpy(to, d->own_ssrc, 4);
+    memcpy(to + 4, (const uint8_t[]){d->level, d->limit, d->c7_limit, d->c20_limit, d->duration[0], d->duration[1], 0, 0}, 8);
+    return FLOOR_SETTINGS;
+}
+
 int32_t plain_save(const uint8_t *desk, size_t desk_len, uint8_t *room, size_t room_len)
 {
     const struct plain_desk *d = (const void *)desk;
     size_t length = SHORTEST_SHEET, count = 0;
     if (!is_desk(desk, desk_len))
-        return -FLOOR_NOT_A_DESK;
+        return FLOOR_REFUSAL_NOT_A_DESK;
     for (int s = 0; s < FLOOR_SEATS; s++) {
         count += d->taken[s];
         length += d->taken[s] ? SEAT_HEAD + (size_t)d->length[s] : 0;
     }
     if (room_len < length)
-        return -FLOOR_NO_ROOM;
+        return FLOOR_REFUSAL_NO_ROOM;
     uint8_t *to = room;
-    for (int s = 0; s < FLOOR_SEATS; s++) {
-        if (!d->taken[s])
-            continue;
-        to[0] = d->flags[s];
-        to[1] = d->highest[s];
-        memcpy(to + 2, d->ssrc[s], 4);
-        to[6] = d->length[s];
-        memcpy(to + SEAT_HEAD, d->identity[s], d->length[s]);
-        to += SEAT_HEAD + d->length[s];
-    }
-    memcpy(to, d->own_ssrc, 4);
-    memcpy(to + 4, (const uint8_t[]){d->level, d->limit, d->c7_limit, d->c20_limit, d->duration[0], d->duration[1], 0, 0}, 8);
-    put_two(to + 12, (unsigned)(to - room));
+    for (unsigned s = 0; s < FLOOR_SEATS; s++)
+        if (d->taken[s])
+            to += seat_octets(d, s, to);
+    settings_octets(d, to);
+    put_two(to + FLOOR_SETTINGS, (unsigned)(to - room));
     memcpy(to + 14, (const uint8_t[]){0, 0, (uint8_t)count, 1, 'F', 'S'}, 6);
     return (int32_t)length;
 }
@@ -1042,31 +1054,31 @@ static int sheet_seats_fit(const uint8_t *s, size_t settings, unsigned count, ui
     return at == settings;
 }
 
-static uint32_t judge_sheet(const uint8_t *s, size_t n, uint16_t *seats)
+static int32_t judge_sheet(const uint8_t *s, size_t n, uint16_t *seats)
 {
     if (n < SHORTEST_SHEET || s[n - 2] != 'F' || s[n - 1] != 'S')
-        return FLOOR_NO_TRAILER;
-    const uint8_t *trailer = s + n - TRAILER, *settings = trailer - SETTINGS;
+        return FLOOR_REFUSAL_NO_TRAILER;
+    const uint8_t *trailer = s + n - TRAILER, *settings = trailer - FLOOR_SETTINGS;
     if (trailer[5] != 1)
-        return FLOOR_SHEET_FORM;
+        return FLOOR_REFUSAL_SHEET_FORM;
     if (trailer[4] > FLOOR_SEATS || two(trailer) != n - SHORTEST_SHEET || two(trailer + 2) != 0)
-        return FLOOR_SHEET_OFFSETS;
+        return FLOOR_REFUSAL_SHEET_OFFSETS;
     if (!settings_in_range(settings[4], settings[5], settings[6], settings[7], two(settings + 8)) || two(settings + 10) != 0)
-        return FLOOR_SHEET_SETTINGS;
+        return FLOOR_REFUSAL_SHEET_SETTINGS;
     if (!sheet_seats_fit(s, n - SHORTEST_SHEET, trailer[4], seats))
-        return FLOOR_SHEET_SEATS;
+        return FLOOR_REFUSAL_SHEET_SEATS;
     return 0;
 }
 
-uint32_t plain_load(uint8_t *desk, size_t desk_len, const uint8_t *sheet, size_t sheet_len)
+int32_t plain_load(uint8_t *desk, size_t desk_len, const uint8_t *sheet, size_t sheet_len)
 {
     struct plain_desk *d = (void *)desk;
     uint16_t seats[FLOOR_SEATS];
-    uint32_t refusal = judge_sheet(sheet, sheet_len, seats);
+    int32_t refusal = judge_sheet(sheet, sheet_len, seats);
     if (refusal)
         return refusal;
     if (desk_len < FLOOR_DESK)
-        return FLOOR_NO_ROOM;
+        return FLOOR_REFUSAL_NO_ROOM;
     const uint8_t *settings = sheet + sheet_len - SHORTEST_SHEET;
     fresh(d);
     memcpy(d->own_ssrc, settings, 4 + 4 + 2);
@@ -1083,9 +1095,9 @@ int32_t plain_screen(const uint8_t *desk, size_t desk_len, uint8_t *room, size_t
 {
     const struct plain_desk *d = (const void *)desk;
     if (!is_desk(desk, desk_len))
-        return -FLOOR_NOT_A_DESK;
+        return FLOOR_REFUSAL_NOT_A_DESK;
     if (room_len < 2 * (size_t)d->waiting)
-        return -FLOOR_NO_ROOM;
+        return FLOOR_REFUSAL_NO_ROOM;
     for (int i = 0; i < d->waiting; i++) {
         room[2 * i] = d->line[i];
         room[2 * i + 1] = d->priorities[i];
@@ -1095,56 +1107,110 @@ int32_t plain_screen(const uint8_t *desk, size_t desk_len, uint8_t *room, size_t
 
 int32_t plain_phase(const uint8_t *desk, size_t desk_len)
 {
-    return is_desk(desk, desk_len) ? ((const struct plain_desk *)(const void *)desk)->phase : -FLOOR_NOT_A_DESK;
+    return is_desk(desk, desk_len) ? ((const struct plain_desk *)(const void *)desk)->phase : FLOOR_REFUSAL_NOT_A_DESK;
 }
 
 int32_t plain_holder(const uint8_t *desk, size_t desk_len)
 {
     const struct plain_desk *d = (const void *)desk;
     if (!is_desk(desk, desk_len))
-        return -FLOOR_NOT_A_DESK;
-    return d->phase >= FLOOR_PHASE_TAKEN ? 256 * d->holder + d->given_at : -FLOOR_NO_SUCH_SEAT;
+        return FLOOR_REFUSAL_NOT_A_DESK;
+    return d->phase >= FLOOR_PHASE_TAKEN ? d->holder : FLOOR_REFUSAL_NO_SUCH_SEAT;
+}
+
+int32_t plain_holder_priority(const uint8_t *desk, size_t desk_len)
+{
+    const struct plain_desk *d = (const void *)desk;
+    if (!is_desk(desk, desk_len))
+        return FLOOR_REFUSAL_NOT_A_DESK;
+    return d->phase >= FLOOR_PHASE_TAKEN ? d->given_at : FLOOR_REFUSAL_NO_SUCH_SEAT;
 }
 
 int32_t plain_running(const uint8_t *desk, size_t desk_len)
 {
-    return is_desk(desk, desk_len) ? (int32_t)timers_running((const void *)desk) : -FLOOR_NOT_A_DESK;
+    return is_desk(desk, desk_len) ? (int32_t)timers_running((const void *)desk) : FLOOR_REFUSAL_NOT_A_DESK;
 }
 
 int32_t plain_sequence(const uint8_t *desk, size_t desk_len)
 {
-    return is_desk(desk, desk_len) ? (int32_t)two(((const struct plain_desk *)(const void *)desk)->sequence) : -FLOOR_NOT_A_DESK;
+    return is_desk(desk, desk_len) ? (int32_t)two(((const struct plain_desk *)(const void *)desk)->sequence) : FLOOR_REFUSAL_NOT_A_DESK;
 }
 
 int32_t plain_c7(const uint8_t *desk, size_t desk_len)
 {
-    return is_desk(desk, desk_len) ? ((const struct plain_desk *)(const void *)desk)->c7 : -FLOOR_NOT_A_DESK;
+    return is_desk(desk, desk_len) ? ((const struct plain_desk *)(const void *)desk)->c7 : FLOOR_REFUSAL_NOT_A_DESK;
 }
 
 int32_t plain_c20(const uint8_t *desk, size_t desk_len)
 {
-    return is_desk(desk, desk_len) ? ((const struct plain_desk *)(const void *)desk)->c20 : -FLOOR_NOT_A_DESK;
+    return is_desk(desk, desk_len) ? ((const struct plain_desk *)(const void *)desk)->c20 : FLOOR_REFUSAL_NOT_A_DESK;
 }
 
 int32_t plain_seats(const uint8_t *desk, size_t desk_len)
 {
-    return is_desk(desk, desk_len) ? (int32_t)all_seats((const void *)desk) : -FLOOR_NOT_A_DESK;
+    return is_desk(desk, desk_len) ? (int32_t)all_seats((const void *)desk) : FLOOR_REFUSAL_NOT_A_DESK;
 }
 
 int32_t plain_seat_by_ssrc(const uint8_t *desk, size_t desk_len, uint32_t ssrc)
 {
     uint8_t wanted[4];
     if (!is_desk(desk, desk_len))
-        return -FLOOR_NOT_A_DESK;
+        return FLOOR_REFUSAL_NOT_A_DESK;
     put_four(wanted, ssrc);
     int seat = seat_of((const void *)desk, wanted);
-    return seat < 0 ? -FLOOR_NO_SUCH_SEAT : seat;
+    return seat < 0 ? FLOOR_REFUSAL_NO_SUCH_SEAT : seat;
 }
 
 int32_t plain_seat_by_identity(const uint8_t *desk, size_t desk_len, const uint8_t *identity, size_t identity_len)
 {
     if (!is_desk(desk, desk_len))
-        return -FLOOR_NOT_A_DESK;
+        return FLOOR_REFUSAL_NOT_A_DESK;
     int seat = identity_len == 0 ? -1 : seat_named((const void *)desk, identity, identity_len);
-    return seat < 0 ? -FLOOR_NO_SUCH_SEAT : seat;
+    return seat < 0 ? FLOOR_REFUSAL_NO_SUCH_SEAT : seat;
+}
+
+int32_t plain_seat(const uint8_t *desk, size_t desk_len, uint32_t seat, uint8_t *room, size_t room_len)
+{
+    const struct plain_desk *d = (const void *)desk;
+    if (!is_desk(desk, desk_len))
+        return FLOOR_REFUSAL_NOT_A_DESK;
+    if (seat >= FLOOR_SEATS || !d->taken[seat])
+        return FLOOR_REFUSAL_NO_SUCH_SEAT;
+    if (room_len < SEAT_HEAD + (size_t)d->length[seat])
+        return FLOOR_REFUSAL_NO_ROOM;
+    return (int32_t)seat_octets(d, seat, room);
+}
+
+int32_t plain_settings(const uint8_t *desk, size_t desk_len, uint8_t *room, size_t room_len)
+{
+    if (!is_desk(desk, desk_len))
+        return FLOOR_REFUSAL_NOT_A_DESK;
+    if (room_len < FLOOR_SETTINGS)
+        return FLOOR_REFUSAL_NO_ROOM;
+    return (int32_t)settings_octets((const void *)desk, room);
+}
+
+/* ---- Clocks ---- */
+
+#define ALL_TIMERS (1u << 1 | 1u << 2 | 1u << 3 | 1u << 4 | 1u << 7 | 1u << 8 | 1u << 20)
+
+int32_t plain_starts(uint32_t before, uint32_t after, uint32_t fired, const uint8_t *report, size_t report_len)
+{
+    const struct plain_report *r = (const void *)report;
+    uint32_t anew = ~before | (fired < 32 ? 1u << fired : 0);
+    if (report_len != FLOOR_REPORT || r->how > FLOOR_GIVEN_OUT_OF_THE_LINE)
+        return FLOOR_REFUSAL_UNREADABLE;
+    if (r->how != FLOOR_GIVEN_NOT)
+        anew |= 1u << 1 | 1u << 20;
+    return (int32_t)(after & anew & ALL_TIMERS);
+}
+
+int32_t plain_stops(uint32_t before, uint32_t after)
+{
+    return (int32_t)(before & ~after & ALL_TIMERS);
+}
+
+int32_t plain_version(void)
+{
+    return FLOOR_VERSION;
 }

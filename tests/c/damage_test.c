@@ -153,7 +153,7 @@ static void test_named_damages(void **state)
     (void)state;
     for (size_t i = 0; i < COUNT(damages); i++) {
         damage(desk, &damages[i]);
-        if (floor_phase(desk, sizeof desk) != -FLOOR_NOT_A_DESK)
+        if (floor_phase(desk, sizeof desk) != FLOOR_REFUSAL_NOT_A_DESK)
             fail_msg("taken for a desk: %s", damages[i].why);
     }
 }
@@ -178,12 +178,12 @@ static void assert_all_refuse(const uint8_t *desk)
     uint8_t room[FLOOR_SHEET];
     struct call c = {{at[0], at[1], room}, {FLOOR_DESK, 16, sizeof room}, {0}};
     memset(room, 0x5A, sizeof room);
-    packet_of(at[1], FLOOR_REQUEST, FIRST_SSRC, 5);
+    packet_of(at[1], FLOOR_TYPE_REQUEST, FIRST_SSRC, 5);
     for (size_t i = 0; i < face_count; i++) {
         if (!takes_desk(&faces[i]))
             continue;
         memcpy(at[0], desk, FLOOR_DESK);
-        assert_int_equal(faces[i].call(&c), -FLOOR_NOT_A_DESK);
+        assert_int_equal(faces[i].call(&c), FLOOR_REFUSAL_NOT_A_DESK);
         assert_memory_equal(at[0], desk, FLOOR_DESK);
     }
     for (size_t i = 0; i < sizeof room; i++)
@@ -200,20 +200,20 @@ struct step {
 
 /* What takes a step: the library, or plain C. */
 struct library {
-    uint32_t (*packet)(uint8_t *, size_t, const uint8_t *, size_t, uint8_t *, size_t);
-    uint32_t (*media)(uint8_t *, size_t, uint32_t, uint8_t *, size_t);
-    uint32_t (*timer)(uint8_t *, size_t, uint32_t, uint8_t *, size_t);
-    uint32_t (*leave)(uint8_t *, size_t, uint32_t, uint8_t *, size_t);
-    uint32_t (*start)(uint8_t *, size_t, uint8_t *, size_t);
-    uint32_t (*stop)(uint8_t *, size_t, uint8_t *, size_t);
-    uint32_t (*join)(uint8_t *, size_t, const uint8_t *, size_t, uint32_t, uint8_t, uint8_t, uint8_t);
+    int32_t (*packet)(uint8_t *, size_t, const uint8_t *, size_t, uint8_t *, size_t);
+    int32_t (*media)(uint8_t *, size_t, uint32_t, uint8_t *, size_t);
+    int32_t (*timer)(uint8_t *, size_t, uint32_t, uint8_t *, size_t);
+    int32_t (*leave)(uint8_t *, size_t, uint32_t, uint8_t *, size_t);
+    int32_t (*start)(uint8_t *, size_t, uint8_t *, size_t);
+    int32_t (*stop)(uint8_t *, size_t, uint8_t *, size_t);
+    int32_t (*join)(uint8_t *, size_t, const uint8_t *, size_t, uint32_t, uint8_t, uint8_t, uint8_t);
 };
 
 static const struct library
     proved = {floor_packet, floor_media, floor_timer, floor_leave, floor_start, floor_stop, floor_join},
     plain = {plain_packet, plain_media, plain_timer, plain_leave, plain_start, plain_stop, plain_join};
 
-static uint32_t step_by(const struct library *l, uint8_t *desk, const struct step *s, uint8_t *report)
+static int32_t step_by(const struct library *l, uint8_t *desk, const struct step *s, uint8_t *report)
 {
     switch (s->kind) {
     case A_PACKET:
@@ -239,12 +239,12 @@ static void assert_step(const uint8_t *damaged, const struct step *s)
     uint8_t desk[FLOOR_DESK], other[FLOOR_DESK], report[FLOOR_REPORT] = {0}, second[FLOOR_REPORT] = {0};
     memcpy(desk, damaged, sizeof desk);
     memcpy(other, damaged, sizeof other);
-    uint32_t answer = step_by(&proved, desk, s, report);
+    int32_t answer = step_by(&proved, desk, s, report);
     assert_int_equal(answer, step_by(&plain, other, s, second));
-    assert_int_not_equal(answer, FLOOR_NOT_A_DESK);
+    assert_int_not_equal(answer, FLOOR_REFUSAL_NOT_A_DESK);
     assert_memory_equal(report, second, sizeof report);
     assert_memory_equal(desk, other, sizeof desk);
-    if (answer == 0)
+    if (answer >= 0)
         assert_true(floor_phase(desk, sizeof desk) >= 0);
     else
         assert_memory_equal(desk, damaged, sizeof desk);
@@ -261,11 +261,11 @@ static void assert_seat_steps(const uint8_t *desk, uint32_t seat)
 {
     const uint8_t *s = desk + SSRCS + 4 * seat;
     uint32_t ssrc = (uint32_t)s[0] << 24 | (uint32_t)s[1] << 16 | (uint32_t)s[2] << 8 | s[3];
-    assert_packet(desk, FLOOR_REQUEST, ssrc, -1);
-    assert_packet(desk, FLOOR_REQUEST, ssrc, 7);
-    assert_packet(desk, FLOOR_REQUEST, ssrc, 255);
-    assert_packet(desk, FLOOR_RELEASE, ssrc, -1);
-    assert_packet(desk, FLOOR_QUEUE_POSITION_REQUEST, ssrc, -1);
+    assert_packet(desk, FLOOR_TYPE_REQUEST, ssrc, -1);
+    assert_packet(desk, FLOOR_TYPE_REQUEST, ssrc, 7);
+    assert_packet(desk, FLOOR_TYPE_REQUEST, ssrc, 255);
+    assert_packet(desk, FLOOR_TYPE_RELEASE, ssrc, -1);
+    assert_packet(desk, FLOOR_TYPE_QUEUE_POSITION_REQUEST, ssrc, -1);
     assert_step(desk, &(struct step){MEDIA, ssrc, {0}, 0});
     assert_step(desk, &(struct step){LEAVING, seat, {0}, 0});
 }
@@ -283,6 +283,20 @@ static void assert_steps_soundly(const uint8_t *desk)
             assert_seat_steps(desk, seat);
 }
 
+/* Each seat, and the settings, octet for octet; the room behind them too. */
+static void assert_seats(const uint8_t *desk)
+{
+    for (uint32_t seat = 0; seat <= FLOOR_SEATS; seat++) {
+        uint8_t one[FLOOR_SEAT] = {0}, other[FLOOR_SEAT] = {0};
+        assert_int_equal(floor_seat(desk, FLOOR_DESK, seat, one, sizeof one), plain_seat(desk, FLOOR_DESK, seat, other, sizeof other));
+        assert_memory_equal(one, other, sizeof one);
+    }
+    uint8_t made[FLOOR_SETTINGS], second[FLOOR_SETTINGS];
+    assert_int_equal(floor_settings(desk, FLOOR_DESK, made, sizeof made), FLOOR_SETTINGS);
+    assert_int_equal(plain_settings(desk, FLOOR_DESK, second, sizeof second), FLOOR_SETTINGS);
+    assert_memory_equal(made, second, sizeof made);
+}
+
 /* The looks and the sheet of a desk that is in the form. */
 static void assert_looks(const uint8_t *desk)
 {
@@ -295,11 +309,13 @@ static void assert_looks(const uint8_t *desk)
     assert_memory_equal(line, second, 2 * (size_t)waiting);
     assert_int_equal(floor_phase(desk, FLOOR_DESK), plain_phase(desk, FLOOR_DESK));
     assert_int_equal(floor_holder(desk, FLOOR_DESK), plain_holder(desk, FLOOR_DESK));
+    assert_int_equal(floor_holder_priority(desk, FLOOR_DESK), plain_holder_priority(desk, FLOOR_DESK));
     assert_int_equal(floor_running(desk, FLOOR_DESK), plain_running(desk, FLOOR_DESK));
     assert_int_equal(floor_sequence(desk, FLOOR_DESK), plain_sequence(desk, FLOOR_DESK));
     assert_int_equal(floor_c7(desk, FLOOR_DESK), plain_c7(desk, FLOOR_DESK));
     assert_int_equal(floor_c20(desk, FLOOR_DESK), plain_c20(desk, FLOOR_DESK));
     assert_int_equal(floor_seats(desk, FLOOR_DESK), plain_seats(desk, FLOOR_DESK));
+    assert_seats(desk);
 }
 
 static void damage_every_bit(const uint8_t *whole)

@@ -15,17 +15,17 @@ uint8_t packet_of(uint8_t *packet, uint8_t type, uint32_t ssrc, int priority)
     return priority < 0 ? 12 : 16;
 }
 
-uint32_t happen(uint8_t *desk, const struct event *e, uint8_t *report)
+int32_t happen(uint8_t *desk, const struct event *e, uint8_t *report)
 {
     uint8_t packet[16], n;
     switch (e->kind) {
     case START:
         return floor_start(desk, FLOOR_DESK, report, FLOOR_REPORT);
     case ASK:
-        n = packet_of(packet, FLOOR_REQUEST, FIRST_SSRC + e->who, e->priority);
+        n = packet_of(packet, FLOOR_TYPE_REQUEST, FIRST_SSRC + e->who, e->priority);
         return floor_packet(desk, FLOOR_DESK, packet, n, report, FLOOR_REPORT);
     case RELEASE:
-        n = packet_of(packet, FLOOR_RELEASE, FIRST_SSRC + e->who, -1);
+        n = packet_of(packet, FLOOR_TYPE_RELEASE, FIRST_SSRC + e->who, -1);
         return floor_packet(desk, FLOOR_DESK, packet, n, report, FLOOR_REPORT);
     case TIMER:
         return floor_timer(desk, FLOOR_DESK, e->who, report, FLOOR_REPORT);
@@ -42,7 +42,8 @@ const uint8_t *thursday_desk(int n)
     uint8_t *desk = desks[n], report[FLOOR_REPORT];
     assert_int_equal(floor_make(desk, FLOOR_DESK, DESK_SSRC, 200, 2, 2, 2, 30), 0);
     for (uint32_t seat = 0; seat < 4; seat++)
-        assert_int_equal(floor_join(desk, FLOOR_DESK, (const uint8_t *)names[seat], strlen(names[seat]), FIRST_SSRC + seat, 255, seat != 3, 0), 0);
+        assert_int_equal(floor_join(desk, FLOOR_DESK, (const uint8_t *)names[seat], strlen(names[seat]), FIRST_SSRC + seat, 255, seat != 3, 0),
+                         seat);
     for (int i = 0; i < n; i++)
         assert_int_equal(happen(desk, &thursday[i], report), 0);
     return desk;
@@ -57,7 +58,7 @@ const uint8_t *full_desk(void)
     for (uint32_t seat = 0; seat < FLOOR_SEATS; seat++) {
         size_t length = seat < 8 ? FLOOR_IDENTITY - seat % 3 : seat - 7; /* 62 to 60, and 1 to 8 */
         name[0] = (uint8_t)('a' + seat);
-        assert_int_equal(floor_join(desk, FLOOR_DESK, name, length, FIRST_SSRC + seat, (uint8_t)(10 * seat), 1, 0), 0);
+        assert_int_equal(floor_join(desk, FLOOR_DESK, name, length, FIRST_SSRC + seat, (uint8_t)(10 * seat), 1, 0), seat);
     }
     assert_int_equal(floor_start(desk, FLOOR_DESK, report, FLOOR_REPORT), 0);
     for (uint32_t seat = 0; seat < FLOOR_SEATS; seat++) {

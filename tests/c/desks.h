@@ -20,7 +20,7 @@ enum { STOPPED = 0, IDLE = 1, TAKEN = 2, TWO_WAIT = 4, REVOKING = 9, OUT_OF_THE_
 const uint8_t *thursday_desk(int n);
 
 /* One event on a desk, through the library; a report of 24 octets. Answers what the step answers. */
-uint32_t happen(uint8_t *desk, const struct event *e, uint8_t *report);
+int32_t happen(uint8_t *desk, const struct event *e, uint8_t *report);
 
 /* Sixteen seats, identities of 1 to 62 octets; seat 0 holds the floor, the others wait. */
 const uint8_t *full_desk(void);

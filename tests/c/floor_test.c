@@ -28,11 +28,11 @@ static void assert_refused_first(int refusal, const struct face *f, const struct
 
 static void test_example(void **state)
 {
-    uint8_t desk[FLOOR_DESK], report[FLOOR_REPORT], packet[FLOOR_PACKET];
+    uint8_t desk[FLOOR_DESK], report[FLOOR_REPORT], packet[FLOOR_PACKET_OUT];
     (void)state;
     assert_int_equal(floor_make(desk, sizeof desk, 1, 200, 2, 2, 2, 30), 0);
     assert_int_equal(floor_join(desk, sizeof desk, (const uint8_t *)"test1", 5, 10, 255, 1, 0), 0);
-    assert_int_equal(floor_join(desk, sizeof desk, (const uint8_t *)"test2", 5, 11, 255, 1, 0), 0);
+    assert_int_equal(floor_join(desk, sizeof desk, (const uint8_t *)"test2", 5, 11, 255, 1, 0), 1);
     assert_int_equal(floor_start(desk, sizeof desk, report, sizeof report), 0);
     assert_int_equal(floor_message(desk, sizeof desk, report, sizeof report, 0, packet, sizeof packet), 16);
     assert_octets("85 cc 00 03 00 00 00 01 4d 43 50 54 08 02 00 01", packet, 16);
@@ -86,7 +86,7 @@ static void test_thursday(void **state)
 /* The packet of row g's Deny, and the same with the Ack bit. */
 static void test_deny_7(void **state)
 {
-    uint8_t desk[FLOOR_DESK], report[FLOOR_REPORT], packet[FLOOR_PACKET], message[FLOOR_MESSAGE], asking[FLOOR_PACKET];
+    uint8_t desk[FLOOR_DESK], report[FLOOR_REPORT], packet[FLOOR_PACKET_OUT], message[FLOOR_MESSAGE], asking[FLOOR_PACKET_OUT];
     (void)state;
     memcpy(desk, thursday_desk(6), sizeof desk);
     assert_int_equal(happen(desk, &thursday[6], report), 0);
@@ -186,6 +186,12 @@ static const struct {
     {22, "media", TAKEN, "", 0},
     {22, "holder", IDLE, "", 0},
     {22, "holder", STOPPED, "", 0},
+    {22, "holder_priority", IDLE, "", 0},
+    {22, "holder_priority", STOPPED, "", 0},
+    {22, "seat", STOPPED, "", 4},
+    {22, "seat", REVOKING, "", 16},
+    {22, "seat", REVOKING, "", 256},
+    {22, "seat", REVOKING, "", UINT32_MAX},
     {22, "seat_by_ssrc", TAKEN, "", DESK_SSRC},
     {22, "seat_by_ssrc", TAKEN, "", 0},
     {22, "seat_by_identity", TAKEN, "", 0},
@@ -532,6 +538,12 @@ static void test_room_for_sheet_and_screen(void **state)
     (void)state;
     set_scene(&s, face("save"), thursday_desk(STOPPED), "");
     assert_room(face("save"), &s, 2, 20 + 4 * 7 + 5 + 6 + 5 + 5);
+    set_scene(&s, face("settings"), full_desk(), "");
+    assert_room(face("settings"), &s, 2, FLOOR_SETTINGS);
+    set_scene(&s, face("seat"), full_desk(), "");
+    assert_room(face("seat"), &s, 2, FLOOR_SEAT);
+    s.number[0] = 8;
+    assert_room(face("seat"), &s, 2, 8);
     set_scene(&s, face("screen"), thursday_desk(REVOKING), "");
     assert_room(face("screen"), &s, 2, 4);
     set_scene(&s, face("screen"), full_desk(), "");
@@ -549,7 +561,7 @@ static const struct {
 } nulls[] = {
     {"make", STOPPED, "", {-13, 0, 0}},
     {"load", STOPPED, SETTINGS "0000 0000 00 01 4653", {-13, -41, 0}},
-    {"join", STOPPED, "41", {-20, -25, 0}},
+    {"join", STOPPED, "41", {-20, -25, 4}},
     {"leave", STOPPED, "", {-20, 0, -13}},
     {"start", STOPPED, "", {-20, 0, -13}},
     {"stop", IDLE, "", {-20, 0, -13}},
@@ -562,6 +574,7 @@ static const struct {
     {"screen", STOPPED, "", {-20, 0, 0}},
     {"phase", IDLE, "", {-20, 1, 1}},
     {"holder", IDLE, "", {-20, -22, -22}},
+    {"holder_priority", IDLE, "", {-20, -22, -22}},
     {"running", IDLE, "", {-20, 0x90, 0x90}},
     {"sequence", IDLE, "", {-20, 1, 1}},
     {"c7", IDLE, "", {-20, 1, 1}},
@@ -569,6 +582,9 @@ static const struct {
     {"seats", IDLE, "", {-20, 15, 15}},
     {"seat_by_ssrc", IDLE, "", {-20, -22, -22}},
     {"seat_by_identity", IDLE, "7465737431", {-20, -22, 0}},
+    {"seat", IDLE, "", {-20, 12, -13}},
+    {"settings", IDLE, "", {-20, 12, -13}},
+    {"starts", IDLE, FIRST("ff 00 0000 00 00 0000"), {136, -12, 136}},
 };
 
 static void test_null(void **state)
@@ -612,13 +628,102 @@ static void test_yes_and_no(void **state)
     (void)state;
     memcpy(desk, thursday_desk(IDLE), sizeof desk);
     memcpy(other, desk, sizeof other);
-    assert_int_equal(floor_join(desk, sizeof desk, (const uint8_t *)"x", 1, 99, 7, 255, 2), 0);
-    assert_int_equal(floor_join(other, sizeof other, (const uint8_t *)"x", 1, 99, 7, 1, 1), 0);
+    assert_int_equal(floor_join(desk, sizeof desk, (const uint8_t *)"x", 1, 99, 7, 255, 2), 4);
+    assert_int_equal(floor_join(other, sizeof other, (const uint8_t *)"x", 1, 99, 7, 1, 1), 4);
     assert_memory_equal(desk, other, sizeof desk);
     assert_int_equal(floor_seat_by_ssrc(desk, sizeof desk, 99), 4);
     assert_int_equal(floor_seat_by_identity(desk, sizeof desk, (const uint8_t *)"x", 1), 4);
     assert_int_equal(floor_seat_by_identity(desk, sizeof desk, (const uint8_t *)"test10", 6), 1);
     assert_int_equal(floor_seat_by_identity(desk, sizeof desk, (const uint8_t *)"test1", 5), 0);
+}
+
+/* Who holds the floor, a seat and the settings, as the sheet has them: what floor_save lays down, piece by piece. */
+static void test_holder_seat_settings(void **state)
+{
+    struct scene s, sheet;
+    (void)state;
+    set_scene(&s, face("seat"), thursday_desk(REVOKING), "");
+    assert_int_equal(play(face("holder"), &s), 0);
+    assert_int_equal(play(face("holder_priority"), &s), 5);
+    sheet = s;
+    lend_room(&sheet.lent[2], FLOOR_SHEET);
+    int32_t length = play(face("save"), &sheet), at = 0;
+    for (s.number[0] = 0; s.number[0] < 4; s.number[0]++) {
+        lend_room(&s.lent[2], FLOOR_SEAT);
+        int32_t n = play(face("seat"), &s);
+        assert_int_equal(n, s.number[0] == 1 ? 13 : 12);
+        assert_memory_equal(s.lent[2].octets, sheet.lent[2].octets + at, (size_t)n);
+        at += n;
+    }
+    lend_room(&s.lent[2], FLOOR_SETTINGS);
+    assert_int_equal(play(face("settings"), &s), FLOOR_SETTINGS);
+    assert_memory_equal(s.lent[2].octets, sheet.lent[2].octets + at, FLOOR_SETTINGS);
+    assert_int_equal(at + FLOOR_SETTINGS + 8, length);
+    set_scene(&s, face("holder"), thursday_desk(OUT_OF_THE_LINE), "");
+    assert_int_equal(play(face("holder"), &s), 3);
+    assert_int_equal(play(face("holder_priority"), &s), 200);
+}
+
+/* Which clocks to start anew: before, after, what fired, how the floor was given, and the set. */
+enum { T1 = 1 << 1, T2 = 1 << 2, T3 = 1 << 3, T4 = 1 << 4, T7 = 1 << 7, T8 = 1 << 8, T20 = 1 << 20 };
+static const struct {
+    uint32_t before, after, fired;
+    int how;
+    int32_t starts, stops;
+} clocks[] = {
+    {0, T4 | T7, 0, 0, T4 | T7, 0},                                     /* the call starts */
+    {T4 | T7, T4 | T7, 7, 0, T7, 0},                                    /* T7 sends Idle again and runs on */
+    {T4 | T7, T4, 7, 0, 0, T7},                                         /* at its limit it stops */
+    {T4 | T7, T1, 0, 1, T1, T4 | T7},                                   /* given at once */
+    {T1, T1, 0, 0, 0, 0},                                               /* nothing of the clocks' */
+    {T1, T1 | T2, 0, 0, T2, 0},                                         /* media */
+    {T1 | T2, T1 | T2, 0, 0, 0, 0},                                     /* media again */
+    {T1 | T2, T1 | T3 | T8, 2, 0, T3 | T8, T2},                         /* revoked: T1 runs on */
+    {T1 | T3 | T8, T1 | T3 | T8, 8, 0, T8, 0},                          /* Revoke again */
+    {T1 | T3 | T8, T1 | T20, 3, 2, T1 | T20, T3 | T8},                  /* given to the next: T1 ran before, and starts anew */
+    {T1 | T20, T1 | T20, 20, 0, T20, 0},                                /* Granted again: T1 goes on */
+    {T1 | T20, T1 | T20, 20, 2, T1 | T20, 0},                           /* at its limit: given to the next */
+    {T1 | T20, T1 | T20, 0, 2, T1 | T20, 0},                            /* a release: given to the next */
+    {T1 | T20, T1 | T2, 0, 0, T2, T20},                                 /* media */
+    {T1 | T3 | T8, T4 | T7, 0, 0, T4 | T7, T1 | T3 | T8},               /* the floor ends, nobody waits */
+    {T4, 0, 4, 0, 0, T4},                                               /* inactivity */
+    {T1, T1, 2, 0, 0, 0},                                               /* one that does not run after it has nothing to start */
+    {T1 | T2, T1 | T2, 33, 0, 0, 0},                                    /* no timer, also after a turn of 32 bits */
+    {T1 | T2, T1 | T2, UINT32_MAX, 0, 0, 0},
+    {T1 | T2, T1 | T2, 1, 0, T1, 0},
+    {0, UINT32_MAX, 0, 0, T1 | T2 | T3 | T4 | T7 | T8 | T20, 0},        /* other bits count for nothing */
+    {UINT32_MAX, 0, 5, 2, 0, T1 | T2 | T3 | T4 | T7 | T8 | T20},
+    {UINT32_MAX, UINT32_MAX, 5, 0, 0, 0},
+    {UINT32_MAX, UINT32_MAX, 31, 0, 0, 0},
+    {UINT32_MAX, UINT32_MAX, 0, 1, T1 | T20, 0},
+    {0, T1, 0, 3, -12, 0},                                              /* given in no such way */
+    {0, T1, 0, 255, -12, 0},
+};
+
+static void test_clocks(void **state)
+{
+    struct scene s;
+    (void)state;
+    for (size_t i = 0; i < COUNT(clocks); i++) {
+        set_scene(&s, face("starts"), NULL, FIRST("05 00 0001 00 00 0001"));
+        memcpy(s.number, (const uint32_t[]){clocks[i].before, clocks[i].after, clocks[i].fired}, 3 * sizeof *s.number);
+        s.lent[1].octets[6] = (uint8_t)clocks[i].how;
+        int32_t starts = play(face("starts"), &s), stops = play(face("stops"), &s);
+        if (starts != clocks[i].starts || stops != clocks[i].stops)
+            fail_msg("row %d: starts %x, stops %x", (int)i, (unsigned)starts, (unsigned)stops);
+        s.lent[1].n--;
+        assert_refused(12, face("starts"), &s);
+        s.lent[1].n += 2;
+        assert_refused(12, face("starts"), &s);
+    }
+}
+
+static void test_version(void **state)
+{
+    struct scene s;
+    (void)state;
+    set_scene(&s, face("version"), NULL, "");
+    assert_int_equal(play(face("version"), &s), FLOOR_VERSION);
 }
 
 /* A message with every field of the table: its packet, padding and spare octets zero; and the message read back, with its parts now in the
@@ -674,9 +779,9 @@ static void test_lengths(void **state)
     (void)state;
     memcpy(desk, thursday_desk(STOPPED), sizeof desk);
     memset(name, 'n', sizeof name);
-    assert_int_equal(floor_join(desk, sizeof desk, name, 61, 61, 0, 0, 0), 0);
-    assert_int_equal(floor_join(desk, sizeof desk, name, 62, 62, 0, 0, 0), 0);
-    assert_int_equal(floor_join(desk, sizeof desk, name, 63, 63, 0, 0, 0), FLOOR_IDENTITY_LENGTH);
+    assert_int_equal(floor_join(desk, sizeof desk, name, 61, 61, 0, 0, 0), 4);
+    assert_int_equal(floor_join(desk, sizeof desk, name, 62, 62, 0, 0, 0), 5);
+    assert_int_equal(floor_join(desk, sizeof desk, name, 63, 63, 0, 0, 0), FLOOR_REFUSAL_IDENTITY_LENGTH);
     for (size_t at = 12; at < sizeof packet; at += 4)
         packet[at] = 7; /* a skipped field with nothing in it */
     assert_int_equal(floor_read(packet, sizeof packet, message, sizeof message), 0);
@@ -745,6 +850,9 @@ int main(void)
         cmocka_unit_test(test_null),
         cmocka_unit_test(test_null_source),
         cmocka_unit_test(test_yes_and_no),
+        cmocka_unit_test(test_holder_seat_settings),
+        cmocka_unit_test(test_clocks),
+        cmocka_unit_test(test_version),
         cmocka_unit_test(test_every_field),
         cmocka_unit_test(test_what_a_reader_passes_over),
         cmocka_unit_test(test_asking_again),

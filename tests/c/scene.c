@@ -19,24 +19,24 @@ unsigned char reached[64];
     { \
         return answer; \
     }
-#define STEP(name, answer) FACE(name, -(int32_t)(answer))
 
-STEP(make, floor_make(DESK, c->number[0], c->number[1], c->number[2], c->number[3], c->number[4], c->number[5]))
-STEP(join, floor_join(DESK, IN, c->number[0], (uint8_t)c->number[1], (uint8_t)c->number[2], (uint8_t)c->number[3]))
-STEP(leave, floor_leave(DESK, c->number[0], OUT))
-STEP(start, floor_start(DESK, OUT))
-STEP(stop, floor_stop(DESK, OUT))
-STEP(packet, floor_packet(DESK, IN, OUT))
-STEP(media, floor_media(DESK, c->number[0], OUT))
-STEP(timer, floor_timer(DESK, c->number[0], OUT))
-STEP(read, floor_read(IN, OUT))
-STEP(load, floor_load(DESK, IN))
+FACE(make, floor_make(DESK, c->number[0], c->number[1], c->number[2], c->number[3], c->number[4], c->number[5]))
+FACE(join, floor_join(DESK, IN, c->number[0], (uint8_t)c->number[1], (uint8_t)c->number[2], (uint8_t)c->number[3]))
+FACE(leave, floor_leave(DESK, c->number[0], OUT))
+FACE(start, floor_start(DESK, OUT))
+FACE(stop, floor_stop(DESK, OUT))
+FACE(packet, floor_packet(DESK, IN, OUT))
+FACE(media, floor_media(DESK, c->number[0], OUT))
+FACE(timer, floor_timer(DESK, c->number[0], OUT))
+FACE(read, floor_read(IN, OUT))
+FACE(load, floor_load(DESK, IN))
 FACE(message, floor_message(DESK, IN, c->number[0], OUT))
 FACE(write, floor_write(DESK, IN, OUT)) /* the message stands in the desk's place */
 FACE(save, floor_save(DESK, OUT))
 FACE(screen, floor_screen(DESK, OUT))
 FACE(phase, floor_phase(DESK))
 FACE(holder, floor_holder(DESK))
+FACE(holder_priority, floor_holder_priority(DESK))
 FACE(running, floor_running(DESK))
 FACE(sequence, floor_sequence(DESK))
 FACE(c7, floor_c7(DESK))
@@ -44,6 +44,11 @@ FACE(c20, floor_c20(DESK))
 FACE(seats, floor_seats(DESK))
 FACE(seat_by_ssrc, floor_seat_by_ssrc(DESK, c->number[0]))
 FACE(seat_by_identity, floor_seat_by_identity(DESK, IN))
+FACE(seat, floor_seat(DESK, c->number[0], OUT))
+FACE(settings, floor_settings(DESK, OUT))
+FACE(starts, floor_starts(c->number[0], c->number[1], c->number[2], IN))
+FACE(stops, floor_stops(c->number[0], c->number[1]))
+FACE(version, ((void)c, floor_version()))
 
 const struct face faces[] = {
     {"make", face_make, 1, 0, 0},
@@ -56,12 +61,13 @@ const struct face faces[] = {
     {"media", face_media, 1, FLOOR_REPORT, 0},
     {"timer", face_timer, 1, FLOOR_REPORT, 0},
     {"read", face_read, 0, FLOOR_MESSAGE, 0},
-    {"write", face_write, 0, FLOOR_PACKET, 1},
-    {"message", face_message, 0, FLOOR_PACKET, 1},
+    {"write", face_write, 0, FLOOR_PACKET_OUT, 1},
+    {"message", face_message, 0, FLOOR_PACKET_OUT, 1},
     {"save", face_save, 0, FLOOR_SHEET, 1},
     {"screen", face_screen, 0, 2 * FLOOR_SEATS, 2},
     {"phase", face_phase, 0, 0, 0},
     {"holder", face_holder, 0, 0, 0},
+    {"holder_priority", face_holder_priority, 0, 0, 0},
     {"running", face_running, 0, 0, 0},
     {"sequence", face_sequence, 0, 0, 0},
     {"c7", face_c7, 0, 0, 0},
@@ -69,6 +75,11 @@ const struct face faces[] = {
     {"seats", face_seats, 0, 0, 0},
     {"seat_by_ssrc", face_seat_by_ssrc, 0, 0, 0},
     {"seat_by_identity", face_seat_by_identity, 0, 0, 0},
+    {"seat", face_seat, 0, FLOOR_SEAT, 1},
+    {"settings", face_settings, 0, FLOOR_SETTINGS, 1},
+    {"starts", face_starts, 0, 0, 0},
+    {"stops", face_stops, 0, 0, 0},
+    {"version", face_version, 0, 0, 0},
 };
 const size_t face_count = sizeof faces / sizeof *faces;
 
@@ -83,7 +94,11 @@ const struct face *face(const char *name)
 
 int takes_desk(const struct face *f)
 {
-    return strcmp(f->name, "make") != 0 && strcmp(f->name, "load") != 0 && strcmp(f->name, "read") != 0 && strcmp(f->name, "write") != 0;
+    static const char *const without[] = {"make", "load", "read", "write", "starts", "stops", "version"};
+    for (size_t i = 0; i < sizeof without / sizeof *without; i++)
+        if (strcmp(f->name, without[i]) == 0)
+            return 0;
+    return 1;
 }
 
 /* ---- Scenes ---- */

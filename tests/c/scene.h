@@ -36,7 +36,7 @@ struct call {
 
 struct face {
     const char *name;
-    int32_t (*call)(const struct call *); /* a refusal is minus its number, whatever the function's own way */
+    int32_t (*call)(const struct call *);
     int changes_desk;                     /* a result may change lent[0] */
     size_t room;                          /* octets that lent[2] needs at most */
     size_t per_answer;                    /* the result has this many octets for each 1 of the answer; 0: always `room` */

@@ -7,7 +7,8 @@ use mathlib.Core.List.{List}
 use lib.IntN.{pos, negℤ}
 use Rattle.message.specs.Answers.{Answer}
 use Rattle.desk_test.specs.Lent.{formed}
-use Rattle.desk_looking.specs.Looking.{signed, looks}
+use Rattle.signed.specs.Signed.{signed}
+use Rattle.desk_looking.specs.Looking.{looks}
 
 -- what a look answers
 pub looks-so : (d : List ℕ) (a : Answer ℕ) → formed d ≡ true → looks d a ≡ signed a

@@ -4,6 +4,7 @@ use mathlib.Core.List.{List}
 use native.Mathlib.Omega.{arith}
 use lib.Dec.{ltb}
 use lib.ListN.{length}
+use Rattle.header.specs.Header.{longestPacket}
 use Rattle.words.specs.Choice.{if_then_else_, by-test}
 use Rattle.message.specs.Message.{said}
 use Rattle.message.specs.declared.Message.{Message}
@@ -17,7 +18,7 @@ use Rattle.outgoing.specs.Outgoing.{sending}
 use Rattle.message_octets.specs.Held.{Held, Is, Nothing, writingOf}
 use Rattle.desk_looking.specs.Looking.{sizeIn}
 
-writing-short : (m : Message) (src : List ℕ) (room : ℕ) → sizeIn (writing m src room) ≤ 440
+writing-short : (m : Message) (src : List ℕ) (room : ℕ) → sizeIn (writing m src room) ≤ longestPacket
 unfolding writing if_then_else_
 writing-short m src room =
     by-test (readable m src)
@@ -25,10 +26,10 @@ writing-short m src room =
     (λ t. rw (r, t) (omega (arith, wire-whole m src r .most))))
     (λ r. rw r (omega arith))
 
-pub sending-short : (o : Outgoing) (src : List ℕ) (room : ℕ) → sizeIn (sending o src room) ≤ 440
+pub sending-short : (o : Outgoing) (src : List ℕ) (room : ℕ) → sizeIn (sending o src room) ≤ longestPacket
 sending-short Silence src room = omega arith
 sending-short (Packet m) src room = writing-short m src room
 
-pub held-short : (h : Held) (src : List ℕ) (room : ℕ) → sizeIn (writingOf h src room) ≤ 440
+pub held-short : (h : Held) (src : List ℕ) (room : ℕ) → sizeIn (writingOf h src room) ≤ longestPacket
 held-short Nothing src room = omega arith
 held-short (Is m) src room = writing-short m src room

@@ -1,15 +1,15 @@
 -- Looking at a desk in lent octets, and what is written out of one: the line for the wall screen, its sheet, a report's message as its
 -- packet; and packets by themselves (document 01, "The desk"). The order of the tests: 20, where a desk is lent; then the paper's refusals;
 -- then 13. A refusal leaves all as it was. Assumes nothing.
-use Prim.Native.Nat.{ℕ, _+_, _*_}
-use mathlib.Core.Bool.{Bool}
+use Prim.Native.Nat.{ℕ, _*_}
 use mathlib.Core.List.{List, [], _∷_}
-use lib.Dec.{eqb, leb}
+use lib.Dec.{leb}
 use lib.ListN.{length, getD}
-use lib.IntN.{ℤ, pos, negℤ}
+use lib.IntN.{ℤ}
 use Rattle.words.specs.Choice.{if_then_else_}
 use Rattle.octets.specs.Octets.{over}
 use Rattle.message.specs.Answers.{Answer, refused, result}
+use Rattle.signed.specs.Signed.{toldAs, signed, byNumber, answers}
 use Rattle.line.specs.declared.Entry.{Entry}
 use Rattle.line.specs.Line.{waiting, empty}
 use Rattle.hall.specs.declared.Found.{Found}
@@ -18,7 +18,6 @@ use Rattle.identities.specs.Identity.{nameAt}
 use Rattle.identities.specs.Identity as identity
 use Rattle.steps.specs.declared.Phase.{Phase}
 use Rattle.steps.specs.declared.Phase.the-variants.{Stopped, Idle, Taken, Revoking}
-use Rattle.timers.specs.declared.Running.{Running}
 use Rattle.saving.specs.Saving.{Save, saving, roomAfter}
 use Rattle.steps.specs.declared.Kind.{Kind}
 use Rattle.outgoing.specs.declared.Outgoing.{Outgoing}
@@ -31,37 +30,29 @@ use Rattle.report_octets.specs.declared.Told.{Told}
 use Rattle.report_octets.specs.declared.Told.the-variants.{Says, NoMessage}
 use Rattle.desk_test.specs.Lent.{formed}
 
--- LOOKING AT A DESK: a number of 0 or more, or minus a refusal
-
-abbrev pub signed : Answer ℕ → ℤ
-signed (result n) = pos n
-signed (refused n) = negℤ (pos n)
+-- LOOKING AT A DESK
 
 unfoldable pub looks : List ℕ → Answer ℕ → ℤ
 looks d a = if formed d then signed a else signed (refused 20)
 
--- 256 times the holder's seat and its priority; 22 where nobody holds the floor
-abbrev pub holderAnswer : Phase → Answer ℕ
-holderAnswer Stopped = refused 22
-holderAnswer (Idle t7) = refused 22
-holderAnswer (Taken e b) = result (256 * e .seat + e .priority)
-holderAnswer (Revoking e n) = result (256 * e .seat + e .priority)
+-- what is asked of the holder: its seat, and the priority at which it was given the floor; 22 where nobody holds it
+abbrev pub ofHolder : (Entry → ℕ) → Phase → Answer ℕ
+ofHolder asked Stopped = refused 22
+ofHolder asked (Idle t7) = refused 22
+ofHolder asked (Taken e b) = result (asked e)
+ofHolder asked (Revoking e n) = result (asked e)
 
--- bit 1 for T1, .., bit 20 for T20
-abbrev pub bit : Bool → ℕ → ℕ
-bit b n = if b then n else 0
+abbrev pub holderSeat : Phase → Answer ℕ
+holderSeat p = ofHolder (λ e. e .seat) p
 
-unfoldable pub timerSet : Running → ℕ
-timerSet t = bit (t .t1) 2 + bit (t .t2) 4 + bit (t .t3) 8 + bit (t .t4) 16 + bit (t .t7) 128 + bit (t .t8) 256 + bit (t .t20) 1048576
+abbrev pub holderPriority : Phase → Answer ℕ
+holderPriority p = ofHolder (λ e. e .priority) p
 
 abbrev pub seatAnswer : Found → Answer ℕ
 seatAnswer (At s) = result s
 seatAnswer Nowhere = refused 22
 
 -- WRITERS: the answer, and what is left in the lent room
-
-abbrev pub answers : Answer ℕ → List ℕ → ℤ × List ℕ
-answers a room = (signed a, room)
 
 -- how much an answer says was written
 abbrev pub sizeIn : Answer ℕ → ℕ
@@ -84,7 +75,7 @@ screenOn d room = if formed d then screened (waiting (coreAt d .line)) room else
 
 -- a sheet
 abbrev pub savedAnswer : Save → Answer ℕ
-savedAnswer s = if eqb (s .number) 0 then result (s .written) else refused (s .number)
+savedAnswer s = byNumber (s .number) (s .written)
 
 abbrev pub saveOn : List ℕ → List ℕ → ℤ × List ℕ
 saveOn d room =
@@ -106,8 +97,8 @@ abbrev pub messageOn : List ℕ → List ℕ → ℕ → List ℕ → ℤ × Lis
 messageOn d r which room = if formed d then tells d room (messageIn r which) else answers (refused 20) room
 
 -- a packet by itself: read into a message's 40 octets, and written out of them
-abbrev pub readOn : List ℕ → List ℕ → ℕ × List ℕ
-readOn packet room = (readHeld packet (length room), keptIn packet room)
+abbrev pub readOn : List ℕ → List ℕ → ℤ × List ℕ
+readOn packet room = (toldAs (readHeld packet (length room)), keptIn packet room)
 
 abbrev pub writeOn : List ℕ → List ℕ → List ℕ → ℤ × List ℕ
 writeOn m source room = answers (writingOf (heldAt m) source (length room)) (writtenOf (heldAt m) source room)

@@ -3,59 +3,47 @@
 use hall::Found;
 use line::Line;
 use saving::Saving;
+use signed::found;
+use signed::refusal;
 use steps::Kind;
 use steps::Phase;
-use timers::Running;
 use writing::Writing;
 ghost use mathlib.Core.Path.{_≡_};
 ghost use Prim.Native.Nat.{_*_, _<_, _≤_};
 ghost use lib.ListN.{length};
-ghost use lib.IntN.{pos, negℤ};
 ghost use Rattle.octets.specs.Octets.{over};
-ghost use Rattle.desk_looking.specs.Looking.{signed, holderAnswer, bit, timerSet, seatAnswer, sizeIn, pairs, screened, savedAnswer, tells};
+ghost use Rattle.signed.specs.Signed.{signed};
+ghost use Rattle.desk_looking.specs.Looking.{holderSeat, holderPriority, seatAnswer, sizeIn, pairs, screened, savedAnswer, tells};
 ghost use Rattle.line.specs.Line.{waiting};
 ghost use Rattle.report_octets.specs.declared.Told.the-variants.{Says};
 ghost use Rattle.saving.specs.Saving.{savingAnswer};
+ghost use Rattle.header.specs.Header.{longestPacket};
+ghost use Rattle.sheet.specs.Layout.{longestSheet};
 ghost use Rattle.writing.specs.Writing.{writingAnswer};
 ghost use Rattle.desk_octets.specs.Places.{deskSize};
 
-pub fn found(n: u32) -> i32
-    requires { ⌜ n < 2147483648 ⌝ }
-    ensures { λ r. ⌜ r ≡ pos n ⌝ }
-{
-    n as i32
-}
+// What is asked of the holder.
 
-pub fn refusal(n: u8) -> i32
-    ensures { λ r. ⌜ r ≡ negℤ (pos n) ⌝ }
-{
-    0 - (n as i32)
-}
-
-pub fn holder_number(phase: Phase) -> i32
-    ensures { λ r. ⌜ r ≡ signed (holderAnswer phase) ⌝ }
+pub fn holder_seat(phase: Phase) -> i32
+    ensures { λ r. ⌜ r ≡ signed (holderSeat phase) ⌝ }
 {
     match phase {
         Phase::Stopped => refusal(22),
         Phase::Idle(_) => refusal(22),
-        Phase::Taken(e, _) => found(256 * e.seat as u32 + e.priority as u32),
-        Phase::Revoking(e, _) => found(256 * e.seat as u32 + e.priority as u32),
+        Phase::Taken(e, _) => found(e.seat as u32),
+        Phase::Revoking(e, _) => found(e.seat as u32),
     }
 }
 
-fn bit_of(b: bool, n: u32) -> u32
-    ensures { λ r. ⌜ r ≡ bit b n ⌝ }
-    ensures { λ r. ⌜ r ≤ n ⌝ }
+pub fn holder_priority(phase: Phase) -> i32
+    ensures { λ r. ⌜ r ≡ signed (holderPriority phase) ⌝ }
 {
-    if b { n } else { 0 }
-}
-
-pub fn timer_set(t: Running) -> u32
-    ensures { λ r. ⌜ r ≡ timerSet t ⌝ }
-    ensures { λ r. ⌜ r < 2147483648 ⌝ }
-{
-    let first = bit_of(t.t1, 2) + bit_of(t.t2, 4) + bit_of(t.t3, 8) + bit_of(t.t4, 16);
-    first + bit_of(t.t7, 128) + bit_of(t.t8, 256) + bit_of(t.t20, 1048576)
+    match phase {
+        Phase::Stopped => refusal(22),
+        Phase::Idle(_) => refusal(22),
+        Phase::Taken(e, _) => found(e.priority as u32),
+        Phase::Revoking(e, _) => found(e.priority as u32),
+    }
 }
 
 pub fn seat_number(seat: Found) -> i32
@@ -95,7 +83,7 @@ pub fn show(line: Line, room: &mut [u8]) -> i32
 }
 
 pub fn saved_number(saving: Saving) -> i32
-    requires { ⌜ savingAnswer saving .written ≤ 1124 ⌝ }
+    requires { ⌜ savingAnswer saving .written ≤ longestSheet ⌝ }
     ensures { λ r. ⌜ r ≡ signed (savedAnswer (savingAnswer saving)) ⌝ }
 {
     match saving {
@@ -106,7 +94,7 @@ pub fn saved_number(saving: Saving) -> i32
 
 // A packet has at most 440 octets.
 pub fn written_number(answer: Writing) -> i32
-    requires { ⌜ sizeIn (writingAnswer answer) ≤ 440 ⌝ }
+    requires { ⌜ sizeIn (writingAnswer answer) ≤ longestPacket ⌝ }
     ensures { λ r. ⌜ r ≡ signed (writingAnswer answer) ⌝ }
 {
     match answer {

@@ -2,37 +2,78 @@
 use Rattle.words.specs.Choice.{if_then_else_}
 use Rattle.desk_octets.specs.Places.{deskSize}
 use Prim.Native.Nat.{ℕ, _<_}
-use mathlib.Core.Path.{_≡_}
-use mathlib.Core.Bool.{true, false}
+use mathlib.Core.Path.{_≡_, refl, sym}
+use mathlib.Core.Bool.{Bool, true, false}
 use mathlib.Core.List.{List}
 use lib.Dec.{eqb, leb, ltb}
 use lib.ListN.{length}
-use borrow.Author.Tests.{ltb-true}
+use borrow.Author.Tests.{ltb-true, lt-ltb}
 use Rattle.octets.specs.Octets.{over}
+use Rattle.message.specs.Answers.{refused, result}
+use Rattle.signed.specs.Signed.{answers}
 use Rattle.steps.specs.declared.Core.{Core}
+use Rattle.hall.specs.declared.Answer.the-variants.{Done, OutsideRange}
 use Rattle.hall.specs.declared.Hall.{Hall}
+use Rattle.hall.specs.declared.Settings.{Settings}
+use Rattle.hall.specs.Answers.{answerNumber, settingsAnswer}
+use Rattle.hall.specs.Seats.{inRange, emptyHall}
 use Rattle.identities.specs.declared.Names.{Names}
+use Rattle.identities.specs.Identity.{noNames}
+use Rattle.events.specs.Events.{fresh}
+use Rattle.seat_octets.specs.Layout.{SettingsFit}
 use Rattle.desk_octets.specs.Form.{octetsOf}
-use Rattle.words.proofs.Tests.{and-five}
-use Rattle.desk_making.specs.Making.{written, inOctets}
+use Rattle.words.proofs.Tests.{and-five, five}
+use Rattle.desk_making.specs.Making.{written, inOctets, settable, makeOn}
 
-module _ (room : List ℕ) (n : ℕ) (c : Core) (h : Hall) (ns : Names) where
-  pub unwritten : eqb n 0 ≡ false → written room n c h ns ≡ (n, room)
+module _ (room : List ℕ) (n k : ℕ) (c : Core) (h : Hall) (ns : Names) where
+  pub unwritten : eqb n 0 ≡ false → written room n k c h ns ≡ answers (refused n) room
   unfolding written if_then_else_
   unwritten e = rw e
 
-  pub too-short : eqb n 0 ≡ true → leb deskSize (length room) ≡ false → written room n c h ns ≡ (13, room)
+  pub too-short : eqb n 0 ≡ true → leb deskSize (length room) ≡ false → written room n k c h ns ≡ answers (refused 13) room
   unfolding written if_then_else_
   too-short e l = rw (e, l)
 
-  pub written-so : eqb n 0 ≡ true → leb deskSize (length room) ≡ true → written room n c h ns ≡ (0, over room 0 (octetsOf c h ns))
+  pub written-so : eqb n 0 ≡ true → leb deskSize (length room) ≡ true →
+      written room n k c h ns ≡ answers (result k) (over room 0 (octetsOf c h ns))
   unfolding written if_then_else_
   written-so e l = rw (e, l)
 
--- settings that octets hold
-pub octets-hold : (level limit c7 c20 duration : ℕ) → inOctets level limit c7 c20 duration ≡ true
-    → (level < 256) × (limit < 256) × (c7 < 256) × (c20 < 256) × (duration < 65536)
-unfolding inOctets
-octets-hold level limit c7 c20 duration q =
-    let a = and-five (ltb level 256) (ltb limit 256) (ltb c7 256) (ltb c20 256) (ltb duration 65536) q in
-    (ltb-true level 256 (a .0), ltb-true limit 256 (a .1), ltb-true c7 256 (a .2), ltb-true c20 256 (a .3), ltb-true duration 65536 (a .4))
+-- settings that octets hold, as a test and as facts
+module _ (s : Settings) where
+  pub octets-hold : inOctets s ≡ true → s .ssrc < 4294967296 → SettingsFit s
+  unfolding inOctets
+  octets-hold q x =
+      let a = and-five (ltb (s .level) 256) (ltb (s .limit) 256) (ltb (s .c7) 256) (ltb (s .c20) 256) (ltb (s .duration) 65536) q in
+      record {
+        ssrc = x;
+        level = ltb-true (s .level) 256 (a .0);
+        limit = ltb-true (s .limit) 256 (a .1);
+        c7 = ltb-true (s .c7) 256 (a .2);
+        c20 = ltb-true (s .c20) 256 (a .3);
+        duration = ltb-true (s .duration) 65536 (a .4);
+      }
+
+  pub held-in-octets : SettingsFit s → inOctets s ≡ true
+  unfolding inOctets
+  held-in-octets f =
+      five (ltb (s .level) 256) (ltb (s .limit) 256) (ltb (s .c7) 256) (ltb (s .c20) 256) (ltb (s .duration) 65536)
+      (lt-ltb (s .level) 256 (f .level)) (lt-ltb (s .limit) 256 (f .limit)) (lt-ltb (s .c7) 256 (f .c7)) (lt-ltb (s .c20) 256 (f .c20))
+      (lt-ltb (s .duration) 65536 (f .duration))
+
+-- a desk is made by the answer to its settings
+module _ (room : List ℕ) (s : Settings) where
+  made-by : (b : Bool)
+      → (if b then written room 0 0 fresh (emptyHall s) noNames else answers (refused (answerNumber OutsideRange)) room)
+      ≡ written room (answerNumber (if b then Done else OutsideRange)) 0 fresh (emptyHall s) noNames
+  unfolding written if_then_else_
+  made-by true = refl
+  made-by false = refl
+
+  pub made-so : inOctets s ≡ true → written room (answerNumber (settingsAnswer s)) 0 fresh (emptyHall s) noNames ≡ makeOn room s
+  unfolding settable settingsAnswer
+  made-so q = rw q (sym (made-by (inRange s)))
+
+  pub not-made : inOctets s ≡ false → makeOn room s ≡ answers (refused (answerNumber OutsideRange)) room
+  unfolding settable if_then_else_
+  not-made q = rw q

@@ -5,26 +5,31 @@ use mathlib.Core.Path.{_≡_}
 use mathlib.Core.Bool.{true, false}
 use mathlib.Core.List.{List}
 use lib.Dec.{eqb, leb}
+use lib.IntN.{ℤ}
 use lib.ListN.{length}
 use Rattle.octets.specs.Octets.{over}
 use Rattle.desk_test.specs.Lent.{formed}
-use Rattle.desk_steps.specs.Steps.{leaves, settles}
+use Rattle.desk_steps.specs.Steps.{leaves, refusal, finished, settles}
 use Rattle.report_octets.specs.Places.{reportSize}
+
+-- an answer is handed on
+pub same-leaves : {a b : ℤ} {d r : List ℕ} → a ≡ b → leaves a d r ≡ leaves b d r
+same-leaves {d = d} {r = r} p = λ i. leaves (p i) d r
 
 module _ (d : List ℕ) (q : formed d ≡ true) where
   module _ (r : List ℕ) (n : ℕ) (desk report : List ℕ) where
-    pub refused-so : eqb n 0 ≡ false → settles d r n desk report ≡ leaves n d r
+    pub refused-so : eqb n 0 ≡ false → settles d r n desk report ≡ refusal n d r
     unfolding settles if_then_else_
     refused-so e = rw (q, e)
 
-    pub no-room-so : eqb n 0 ≡ true → leb reportSize (length r) ≡ false → settles d r n desk report ≡ leaves 13 d r
+    pub no-room-so : eqb n 0 ≡ true → leb reportSize (length r) ≡ false → settles d r n desk report ≡ refusal 13 d r
     unfolding settles if_then_else_
     no-room-so e l = rw (q, e, l)
 
-    pub done-so : eqb n 0 ≡ true → leb reportSize (length r) ≡ true → settles d r n desk report ≡ leaves 0 desk (over r 0 report)
+    pub done-so : eqb n 0 ≡ true → leb reportSize (length r) ≡ true → settles d r n desk report ≡ finished desk (over r 0 report)
     unfolding settles if_then_else_
     done-so e l = rw (q, e, l)
 
-pub no-desk-so : (d r : List ℕ) (n : ℕ) (desk report : List ℕ) → formed d ≡ false → settles d r n desk report ≡ leaves 20 d r
+pub no-desk-so : (d r : List ℕ) (n : ℕ) (desk report : List ℕ) → formed d ≡ false → settles d r n desk report ≡ refusal 20 d r
 unfolding settles if_then_else_
 no-desk-so d r n desk report q = rw q

@@ -4,9 +4,12 @@
 use Prim.Native.Nat.{ℕ}
 use mathlib.Core.List.{List}
 use lib.Dec.{eqb, leb, ltb}
+use lib.IntN.{ℤ}
 use lib.ListN.{length}
 use Rattle.words.specs.Choice.{if_then_else_}
 use Rattle.octets.specs.Octets.{over}
+use Rattle.message.specs.Answers.{refused, result}
+use Rattle.signed.specs.Signed.{signed}
 use Rattle.hall.specs.Answers.{answerNumber}
 use Rattle.steps.specs.declared.Step.{Step}
 use Rattle.timers.specs.declared.Timer.{Timer}
@@ -22,19 +25,25 @@ use Rattle.report_octets.specs.Places.{reportSize}
 
 -- what a step leaves: its answer, the desk's octets, the report's
 pub record Leaves : Type 0 where
-  pub answer : ℕ
+  pub answer : ℤ
   pub desk : List ℕ
   pub report : List ℕ
 
-abbrev pub leaves : ℕ → List ℕ → List ℕ → Leaves
+abbrev pub leaves : ℤ → List ℕ → List ℕ → Leaves
 leaves n d r = record { answer = n; desk = d; report = r }
 
--- a step that answers n, with the desk and the report it would write
+abbrev pub refusal : ℕ → List ℕ → List ℕ → Leaves
+refusal n d r = leaves (signed (refused n)) d r
+
+abbrev pub finished : List ℕ → List ℕ → Leaves
+finished d r = leaves (signed (result 0)) d r
+
+-- a step to which the rules answer n, with the desk and the report it would write
 unfoldable pub settles : List ℕ → List ℕ → ℕ → List ℕ → List ℕ → Leaves
 settles d r n desk report =
     if formed d
-    then (if eqb n 0 then (if leb reportSize (length r) then leaves 0 desk (over r 0 report) else leaves 13 d r) else leaves n d r)
-    else leaves 20 d r
+    then (if eqb n 0 then (if leb reportSize (length r) then finished desk (over r 0 report) else refusal 13 d r) else refusal n d r)
+    else refusal 20 d r
 
 -- what happens comes to an outcome: the whole desk afterwards, and the report
 unfoldable pub outcomeOn : List ℕ → List ℕ → Outcome → Leaves

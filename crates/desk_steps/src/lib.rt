@@ -9,17 +9,17 @@ ghost use Rattle.desk_test.specs.Lent.{formed};
 ghost use Rattle.desk_steps.specs.Steps.{leaves, outcomeOn, stepOn, eventOn, seatNumbered};
 
 // Writes what a step brought about, unless it was refused or there is no room for its report.
-pub fn settle(desk: &mut [u8], report: &mut [u8], step: Step) -> u32
+pub fn settle(desk: &mut [u8], report: &mut [u8], step: Step) -> i32
     requires { ⌜ formed (now desk) ≡ true ⌝ }
     ensures { λ r. ⌜ leaves r (now (desk .exit)) (now (report .exit)) ≡ stepOn (now (desk .entry)) (now (report .entry)) step ⌝ }
 {
     let answer = step.answer;
     let n = hall::number_of(answer);
     if n != 0 {
-        return n as u32;
+        return signed::refusal(n);
     }
     if report.len() < report_octets::REPORT_SIZE {
-        return 13;
+        return signed::refusal(13);
     }
     let core = step.core;
     let said = step.report;
@@ -29,17 +29,17 @@ pub fn settle(desk: &mut [u8], report: &mut [u8], step: Step) -> u32
 }
 
 // As settle, for a step that changed the seats too.
-pub fn settle_outcome(desk: &mut [u8], report: &mut [u8], outcome: Outcome) -> u32
+pub fn settle_outcome(desk: &mut [u8], report: &mut [u8], outcome: Outcome) -> i32
     requires { ⌜ formed (now desk) ≡ true ⌝ }
     ensures { λ r. ⌜ leaves r (now (desk .exit)) (now (report .exit)) ≡ outcomeOn (now (desk .entry)) (now (report .entry)) outcome ⌝ }
 {
     let answer = outcome.answer;
     let n = hall::number_of(answer);
     if n != 0 {
-        return n as u32;
+        return signed::refusal(n);
     }
     if report.len() < report_octets::REPORT_SIZE {
-        return 13;
+        return signed::refusal(13);
     }
     let after = outcome.desk;
     let said = outcome.report;
@@ -51,7 +51,7 @@ pub fn settle_outcome(desk: &mut [u8], report: &mut [u8], outcome: Outcome) -> u
     0
 }
 
-pub fn event_on(desk: &mut [u8], report: &mut [u8], event: Event) -> u32
+pub fn event_on(desk: &mut [u8], report: &mut [u8], event: Event) -> i32
     ensures { λ r. ⌜ leaves r (now (desk .exit)) (now (report .exit)) ≡ eventOn (now (desk .entry)) (now (report .entry)) event ⌝ }
 {
     if desk_test::is_desk(desk) {
@@ -60,7 +60,7 @@ pub fn event_on(desk: &mut [u8], report: &mut [u8], event: Event) -> u32
         let step = events::make_step(core, hall, event);
         settle(desk, report, step)
     } else {
-        20
+        signed::refusal(20)
     }
 }
 

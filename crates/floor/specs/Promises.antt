@@ -1,11 +1,12 @@
 -- What each exported function promises, one definition for each, in the order of include/floor.h: what it is lent, its answer, and what it
 -- leaves in every buffer that it may write. The function's `ensures` cites it (src/lib.rt), and laws on what C programs see stand on these
--- definitions and on nothing else of the functions (crates floor_laws and library). What they cite is in specs/Floor. Assumes nothing.
+-- definitions and on nothing else of the functions (crates floor_laws and library). Assumes nothing.
 use Prim.Native.Nat.{ℕ}
 use mathlib.Core.List.{List}
 use mathlib.Core.Path.{_≡_}
 use lib.IntN.{ℤ}
 use Rattle.message.specs.Answers.{result}
+use Rattle.signed.specs.Signed.{signed}
 use Rattle.hall.specs.Seats.{settingsOf, seatOf}
 use Rattle.identities.specs.Identity.{seatNamed}
 use Rattle.events.specs.declared.Event.the-variants.{Start, Stop, Media}
@@ -14,35 +15,48 @@ use Rattle.desk_octets.specs.Form.{kindOctet, coreAt, hallAt, namesAt}
 use Rattle.report_octets.specs.Report.{maskOf}
 use Rattle.desk_steps.specs.Steps.{leaves, seatNumbered, leaveOn, eventOn, packetOn, firedOn}
 use Rattle.desk_making.specs.Making.{makeOn, newcomer, joinOn, loadOn}
-use Rattle.desk_looking.specs.Looking.{messageOn, readOn, writeOn, saveOn, screenOn, looks, holderAnswer, timerSet, seatAnswer}
+use Rattle.desk_looking.specs.Looking.{messageOn, readOn, writeOn, saveOn, screenOn, looks, holderSeat, holderPriority}
+use Rattle.clocks_looking.specs.ClockSets.{timerSet}
+use Rattle.desk_looking.specs.Looking.{seatAnswer}
+use Rattle.seat_looking.specs.Showing.{seatShown, settingsShown}
+use Rattle.clocks_looking.specs.ClockSets.{startsOn, stopsOn}
+
+-- THE FACE
+
+-- its number, which every change of a function that C programs see counts up
+abbrev pub version : ℕ
+version = 2
+
+abbrev pub VersionPromise : (answer : ℤ) → Type 0
+VersionPromise answer = answer ≡ signed (result version)
 
 -- A DESK AND ITS SEATS
 
-abbrev pub MakePromise : (desk : List ℕ) (ssrc level limit c7 c20 duration : ℕ) (answer : ℕ) (desk′ : List ℕ) → Type 0
+abbrev pub MakePromise : (desk : List ℕ) (ssrc level limit c7 c20 duration : ℕ) (answer : ℤ) (desk′ : List ℕ) → Type 0
 MakePromise desk ssrc level limit c7 c20 duration answer desk′ = (answer, desk′) ≡ makeOn desk (settingsOf ssrc level limit c7 c20 duration)
 
-abbrev pub JoinPromise : (desk identity : List ℕ) (ssrc highest queueing receiveOnly : ℕ) (answer : ℕ) (desk′ : List ℕ) → Type 0
+abbrev pub JoinPromise : (desk identity : List ℕ) (ssrc highest queueing receiveOnly : ℕ) (answer : ℤ) (desk′ : List ℕ) → Type 0
 JoinPromise desk identity ssrc highest queueing receiveOnly answer desk′ =
     (answer, desk′) ≡ joinOn desk identity (newcomer ssrc highest queueing receiveOnly)
 
-abbrev pub LeavePromise : (desk : List ℕ) (seat : ℕ) (report : List ℕ) (answer : ℕ) (desk′ report′ : List ℕ) → Type 0
+abbrev pub LeavePromise : (desk : List ℕ) (seat : ℕ) (report : List ℕ) (answer : ℤ) (desk′ report′ : List ℕ) → Type 0
 LeavePromise desk seat report answer desk′ report′ = leaves answer desk′ report′ ≡ leaveOn desk report (seatNumbered seat)
 
 -- WHAT HAPPENS IN THE CALL
 
-abbrev pub StartPromise : (desk report : List ℕ) (answer : ℕ) (desk′ report′ : List ℕ) → Type 0
+abbrev pub StartPromise : (desk report : List ℕ) (answer : ℤ) (desk′ report′ : List ℕ) → Type 0
 StartPromise desk report answer desk′ report′ = leaves answer desk′ report′ ≡ eventOn desk report Start
 
-abbrev pub StopPromise : (desk report : List ℕ) (answer : ℕ) (desk′ report′ : List ℕ) → Type 0
+abbrev pub StopPromise : (desk report : List ℕ) (answer : ℤ) (desk′ report′ : List ℕ) → Type 0
 StopPromise desk report answer desk′ report′ = leaves answer desk′ report′ ≡ eventOn desk report Stop
 
-abbrev pub PacketPromise : (desk packet report : List ℕ) (answer : ℕ) (desk′ report′ : List ℕ) → Type 0
+abbrev pub PacketPromise : (desk packet report : List ℕ) (answer : ℤ) (desk′ report′ : List ℕ) → Type 0
 PacketPromise desk packet report answer desk′ report′ = leaves answer desk′ report′ ≡ packetOn desk report packet
 
-abbrev pub MediaPromise : (desk : List ℕ) (ssrc : ℕ) (report : List ℕ) (answer : ℕ) (desk′ report′ : List ℕ) → Type 0
+abbrev pub MediaPromise : (desk : List ℕ) (ssrc : ℕ) (report : List ℕ) (answer : ℤ) (desk′ report′ : List ℕ) → Type 0
 MediaPromise desk ssrc report answer desk′ report′ = leaves answer desk′ report′ ≡ eventOn desk report (Media ssrc)
 
-abbrev pub TimerPromise : (desk : List ℕ) (timer : ℕ) (report : List ℕ) (answer : ℕ) (desk′ report′ : List ℕ) → Type 0
+abbrev pub TimerPromise : (desk : List ℕ) (timer : ℕ) (report : List ℕ) (answer : ℤ) (desk′ report′ : List ℕ) → Type 0
 TimerPromise desk timer report answer desk′ report′ = leaves answer desk′ report′ ≡ firedOn desk report (timerNamed timer)
 
 -- WHAT IS SENT, AND PACKETS BY THEMSELVES
@@ -50,7 +64,7 @@ TimerPromise desk timer report answer desk′ report′ = leaves answer desk′ 
 abbrev pub MessagePromise : (desk report : List ℕ) (which : ℕ) (room : List ℕ) (answer : ℤ) (room′ : List ℕ) → Type 0
 MessagePromise desk report which room answer room′ = (answer, room′) ≡ messageOn desk report which room
 
-abbrev pub ReadPromise : (packet message : List ℕ) (answer : ℕ) (message′ : List ℕ) → Type 0
+abbrev pub ReadPromise : (packet message : List ℕ) (answer : ℤ) (message′ : List ℕ) → Type 0
 ReadPromise packet message answer message′ = (answer, message′) ≡ readOn packet message
 
 abbrev pub WritePromise : (message source room : List ℕ) (answer : ℤ) (room′ : List ℕ) → Type 0
@@ -61,7 +75,7 @@ WritePromise message source room answer room′ = (answer, room′) ≡ writeOn 
 abbrev pub SavePromise : (desk room : List ℕ) (answer : ℤ) (room′ : List ℕ) → Type 0
 SavePromise desk room answer room′ = (answer, room′) ≡ saveOn desk room
 
-abbrev pub LoadPromise : (desk sheet : List ℕ) (answer : ℕ) (desk′ : List ℕ) → Type 0
+abbrev pub LoadPromise : (desk sheet : List ℕ) (answer : ℤ) (desk′ : List ℕ) → Type 0
 LoadPromise desk sheet answer desk′ = (answer, desk′) ≡ loadOn desk sheet
 
 -- LOOKING AT A DESK
@@ -73,7 +87,10 @@ abbrev pub PhasePromise : (desk : List ℕ) (answer : ℤ) → Type 0
 PhasePromise desk answer = answer ≡ looks desk (result (kindOctet (coreAt desk .phase)))
 
 abbrev pub HolderPromise : (desk : List ℕ) (answer : ℤ) → Type 0
-HolderPromise desk answer = answer ≡ looks desk (holderAnswer (coreAt desk .phase))
+HolderPromise desk answer = answer ≡ looks desk (holderSeat (coreAt desk .phase))
+
+abbrev pub HolderPriorityPromise : (desk : List ℕ) (answer : ℤ) → Type 0
+HolderPriorityPromise desk answer = answer ≡ looks desk (holderPriority (coreAt desk .phase))
 
 abbrev pub RunningPromise : (desk : List ℕ) (answer : ℤ) → Type 0
 RunningPromise desk answer = answer ≡ looks desk (result (timerSet (running (coreAt desk .phase))))
@@ -95,3 +112,17 @@ SeatBySsrcPromise desk ssrc answer = answer ≡ looks desk (seatAnswer (seatOf (
 
 abbrev pub SeatByIdentityPromise : (desk identity : List ℕ) (answer : ℤ) → Type 0
 SeatByIdentityPromise desk identity answer = answer ≡ looks desk (seatAnswer (seatNamed (hallAt desk) (namesAt desk) identity))
+
+abbrev pub SeatPromise : (desk : List ℕ) (seat : ℕ) (room : List ℕ) (answer : ℤ) (room′ : List ℕ) → Type 0
+SeatPromise desk seat room answer room′ = (answer, room′) ≡ seatShown desk seat room
+
+abbrev pub SettingsPromise : (desk room : List ℕ) (answer : ℤ) (room′ : List ℕ) → Type 0
+SettingsPromise desk room answer room′ = (answer, room′) ≡ settingsShown desk room
+
+-- WHICH CLOCKS TO START AND STOP AFTER A STEP: before and after are what `floor_running` answered before and after it
+
+abbrev pub StartsPromise : (before after fired : ℕ) (report : List ℕ) (answer : ℤ) → Type 0
+StartsPromise before after fired report answer = answer ≡ startsOn before after fired report
+
+abbrev pub StopsPromise : (before after : ℕ) (answer : ℤ) → Type 0
+StopsPromise before after answer = answer ≡ stopsOn before after

@@ -1,15 +1,25 @@
 // The C face: the desk rests in lent octets (docs/FORMS.md), and every exported function is its rule between decoding and encoding.
-// specs/Promises.antt says what each answers and leaves, by the words of crates desk_steps, desk_making and desk_looking;
-// include/floor.h is the manual.
+// specs/Promises.antt says what each answers and leaves, by the words of crates desk_steps, desk_making and desk_looking; every answer is
+// told as crate signed tells it. include/floor.h is the manual.
+use desk_making::WideSettings;
 use events::Event;
-use hall::Answer;
 use hall::Flags;
 use report_octets::Told;
-ghost use Rattle.floor.specs.Promises.{MakePromise, JoinPromise, LeavePromise, StartPromise, StopPromise, PacketPromise, MediaPromise, TimerPromise, MessagePromise, ReadPromise, WritePromise, SavePromise, LoadPromise, ScreenPromise, PhasePromise, HolderPromise, RunningPromise, SequencePromise, C7Promise, C20Promise, SeatsPromise, SeatBySsrcPromise, SeatByIdentityPromise};
+ghost use Rattle.floor.specs.Promises.{VersionPromise, MakePromise, JoinPromise, LeavePromise, StartPromise, StopPromise, PacketPromise, MediaPromise, TimerPromise, MessagePromise, ReadPromise, WritePromise, SavePromise, LoadPromise, ScreenPromise, PhasePromise, HolderPromise, HolderPriorityPromise, RunningPromise, SequencePromise, C7Promise, C20Promise, SeatsPromise, SeatBySsrcPromise, SeatByIdentityPromise, SeatPromise, SettingsPromise, StartsPromise, StopsPromise};
+
+// Which face this is. A header and an archive that answer the same number belong together.
+const VERSION: u32 = 2;
+
+#[no_mangle]
+pub extern "C" fn floor_version() -> i32
+    ensures { λ r. ⌜ VersionPromise r ⌝ }
+{
+    signed::found(VERSION)
+}
 
 // The call starts.
 #[no_mangle]
-pub extern "C" fn floor_start(desk: &mut [u8], report: &mut [u8]) -> u32
+pub extern "C" fn floor_start(desk: &mut [u8], report: &mut [u8]) -> i32
     ensures { λ r. ⌜ StartPromise (now (desk .entry)) (now (report .entry)) r (now (desk .exit)) (now (report .exit)) ⌝ }
 {
     desk_steps::event_on(desk, report, Event::Start)
@@ -17,7 +27,7 @@ pub extern "C" fn floor_start(desk: &mut [u8], report: &mut [u8]) -> u32
 
 // The call stops.
 #[no_mangle]
-pub extern "C" fn floor_stop(desk: &mut [u8], report: &mut [u8]) -> u32
+pub extern "C" fn floor_stop(desk: &mut [u8], report: &mut [u8]) -> i32
     ensures { λ r. ⌜ StopPromise (now (desk .entry)) (now (report .entry)) r (now (desk .exit)) (now (report .exit)) ⌝ }
 {
     desk_steps::event_on(desk, report, Event::Stop)
@@ -25,7 +35,7 @@ pub extern "C" fn floor_stop(desk: &mut [u8], report: &mut [u8]) -> u32
 
 // Media came in from this SSRC.
 #[no_mangle]
-pub extern "C" fn floor_media(desk: &mut [u8], ssrc: u32, report: &mut [u8]) -> u32
+pub extern "C" fn floor_media(desk: &mut [u8], ssrc: u32, report: &mut [u8]) -> i32
     ensures { λ r. ⌜ MediaPromise (now (desk .entry)) ssrc (now (report .entry)) r (now (desk .exit)) (now (report .exit)) ⌝ }
 {
     desk_steps::event_on(desk, report, Event::Media(ssrc))
@@ -33,7 +43,7 @@ pub extern "C" fn floor_media(desk: &mut [u8], ssrc: u32, report: &mut [u8]) -> 
 
 // A packet came in.
 #[no_mangle]
-pub extern "C" fn floor_packet(desk: &mut [u8], packet: &[u8], report: &mut [u8]) -> u32
+pub extern "C" fn floor_packet(desk: &mut [u8], packet: &[u8], report: &mut [u8]) -> i32
     ensures { λ r. ⌜ PacketPromise (now (desk .entry)) (now (packet .entry)) (now (report .entry)) r (now (desk .exit)) (now (report .exit)) ⌝ }
 {
     if desk_test::is_desk(desk) {
@@ -42,13 +52,13 @@ pub extern "C" fn floor_packet(desk: &mut [u8], packet: &[u8], report: &mut [u8]
         let step = packet_events::hear(core, hall, packet);
         desk_steps::settle(desk, report, step)
     } else {
-        20
+        signed::refusal(20)
     }
 }
 
 // A timer fired.
 #[no_mangle]
-pub extern "C" fn floor_timer(desk: &mut [u8], timer: u32, report: &mut [u8]) -> u32
+pub extern "C" fn floor_timer(desk: &mut [u8], timer: u32, report: &mut [u8]) -> i32
     ensures { λ r. ⌜ TimerPromise (now (desk .entry)) timer (now (report .entry)) r (now (desk .exit)) (now (report .exit)) ⌝ }
 {
     let named = timers::timer_named(timer);
@@ -57,7 +67,7 @@ pub extern "C" fn floor_timer(desk: &mut [u8], timer: u32, report: &mut [u8]) ->
 
 // A seat leaves.
 #[no_mangle]
-pub extern "C" fn floor_leave(desk: &mut [u8], seat: u32, report: &mut [u8]) -> u32
+pub extern "C" fn floor_leave(desk: &mut [u8], seat: u32, report: &mut [u8]) -> i32
     ensures { λ r. ⌜ LeavePromise (now (desk .entry)) seat (now (report .entry)) r (now (desk .exit)) (now (report .exit)) ⌝ }
 {
     if desk_test::is_desk(desk) {
@@ -67,7 +77,7 @@ pub extern "C" fn floor_leave(desk: &mut [u8], seat: u32, report: &mut [u8]) -> 
         let outcome = events::leave_call(core, hall, names, desk_steps::seat_numbered(seat));
         desk_steps::settle_outcome(desk, report, outcome)
     } else {
-        20
+        signed::refusal(20)
     }
 }
 
@@ -81,27 +91,25 @@ pub extern "C" fn floor_make(
     c7: u32,
     c20: u32,
     duration: u32,
-) -> u32
+) -> i32
     ensures { λ r. ⌜ MakePromise (now (desk .entry)) ssrc level limit c7 c20 duration r (now (desk .exit)) ⌝ }
 {
-    if !desk_making::in_octets(level, limit, c7, c20, duration) {
-        return hall::number_of(Answer::OutsideRange) as u32;
-    }
-    let settings = hall::settings_of(
-        ssrc,
-        level as u8,
-        limit as u8,
-        c7 as u8,
-        c20 as u8,
-        duration as u16,
-    );
-    let answer = hall::check_settings(settings);
-    desk_making::fresh_desk(desk, hall::number_of(answer), settings)
+    desk_making::make_desk(
+        desk,
+        WideSettings {
+            ssrc,
+            level,
+            limit,
+            c7,
+            c20,
+            duration,
+        },
+    )
 }
 
 // Makes a fresh desk from a sheet.
 #[no_mangle]
-pub extern "C" fn floor_load(desk: &mut [u8], sheet: &[u8]) -> u32
+pub extern "C" fn floor_load(desk: &mut [u8], sheet: &[u8]) -> i32
     ensures { λ r. ⌜ LoadPromise (now (desk .entry)) (now (sheet .entry)) r (now (desk .exit)) ⌝ }
 {
     let loading = loading::load(sheet);
@@ -110,10 +118,10 @@ pub extern "C" fn floor_load(desk: &mut [u8], sheet: &[u8]) -> u32
     let hall = loading.hall;
     let names = loading.names;
     let n = sheet::verdict_number(verdict);
-    desk_making::write_desk(desk, n, core, hall, names)
+    desk_making::write_desk(desk, n, 0, core, hall, names)
 }
 
-// Takes the lowest free seat.
+// Takes the lowest free seat, and answers it.
 #[no_mangle]
 pub extern "C" fn floor_join(
     desk: &mut [u8],
@@ -122,7 +130,7 @@ pub extern "C" fn floor_join(
     highest: u8,
     queueing: u8,
     receive_only: u8,
-) -> u32
+) -> i32
     ensures { λ r. ⌜ JoinPromise (now (desk .entry)) (now (identity .entry)) ssrc highest queueing «receive_only» r (now (desk .exit)) ⌝ }
 {
     if desk_test::is_desk(desk) {
@@ -136,11 +144,13 @@ pub extern "C" fn floor_join(
         let names = desk_reading::names_at(desk);
         let joined = joining::join_call(hall, names, identity, who);
         let answer = joined.answer;
+        let seat = joined.seat;
         let more = joined.hall;
         let named = joined.names;
-        desk_making::write_desk(desk, hall::number_of(answer), core, more, named)
+        let n = hall::number_of(answer);
+        desk_making::write_desk(desk, n, desk_making::seat_taken(seat), core, more, named)
     } else {
-        20
+        signed::refusal(20)
     }
 }
 
@@ -151,9 +161,9 @@ pub extern "C" fn floor_phase(desk: &[u8]) -> i32
     if desk_test::is_desk(desk) {
         let core = desk_reading::core_at(desk);
         let phase = core.phase;
-        desk_looking::found(core_writing::kind_octet(phase) as u32)
+        signed::found(core_writing::kind_octet(phase) as u32)
     } else {
-        desk_looking::refusal(20)
+        signed::refusal(20)
     }
 }
 
@@ -164,9 +174,22 @@ pub extern "C" fn floor_holder(desk: &[u8]) -> i32
     if desk_test::is_desk(desk) {
         let core = desk_reading::core_at(desk);
         let phase = core.phase;
-        desk_looking::holder_number(phase)
+        desk_looking::holder_seat(phase)
     } else {
-        desk_looking::refusal(20)
+        signed::refusal(20)
+    }
+}
+
+#[no_mangle]
+pub extern "C" fn floor_holder_priority(desk: &[u8]) -> i32
+    ensures { λ r. ⌜ HolderPriorityPromise (now (desk .entry)) r ⌝ }
+{
+    if desk_test::is_desk(desk) {
+        let core = desk_reading::core_at(desk);
+        let phase = core.phase;
+        desk_looking::holder_priority(phase)
+    } else {
+        signed::refusal(20)
     }
 }
 
@@ -177,9 +200,9 @@ pub extern "C" fn floor_running(desk: &[u8]) -> i32
     if desk_test::is_desk(desk) {
         let core = desk_reading::core_at(desk);
         let phase = core.phase;
-        desk_looking::found(desk_looking::timer_set(timers::running_timers(phase)))
+        signed::found(clocks_looking::timer_set(timers::running_timers(phase)))
     } else {
-        desk_looking::refusal(20)
+        signed::refusal(20)
     }
 }
 
@@ -189,9 +212,9 @@ pub extern "C" fn floor_sequence(desk: &[u8]) -> i32
 {
     if desk_test::is_desk(desk) {
         let core = desk_reading::core_at(desk);
-        desk_looking::found(core.sequence as u32)
+        signed::found(core.sequence as u32)
     } else {
-        desk_looking::refusal(20)
+        signed::refusal(20)
     }
 }
 
@@ -201,9 +224,9 @@ pub extern "C" fn floor_c7(desk: &[u8]) -> i32
 {
     if desk_test::is_desk(desk) {
         let core = desk_reading::core_at(desk);
-        desk_looking::found(core.c7 as u32)
+        signed::found(core.c7 as u32)
     } else {
-        desk_looking::refusal(20)
+        signed::refusal(20)
     }
 }
 
@@ -213,9 +236,9 @@ pub extern "C" fn floor_c20(desk: &[u8]) -> i32
 {
     if desk_test::is_desk(desk) {
         let core = desk_reading::core_at(desk);
-        desk_looking::found(core.c20 as u32)
+        signed::found(core.c20 as u32)
     } else {
-        desk_looking::refusal(20)
+        signed::refusal(20)
     }
 }
 
@@ -226,9 +249,9 @@ pub extern "C" fn floor_seats(desk: &[u8]) -> i32
     if desk_test::is_desk(desk) {
         let hall = desk_reading::hall_at(desk);
         let present = hall.present;
-        desk_looking::found(report_octets::mask_of(present) as u32)
+        signed::found(report_octets::mask_of(present) as u32)
     } else {
-        desk_looking::refusal(20)
+        signed::refusal(20)
     }
 }
 
@@ -240,7 +263,7 @@ pub extern "C" fn floor_seat_by_ssrc(desk: &[u8], ssrc: u32) -> i32
         let hall = desk_reading::hall_at(desk);
         desk_looking::seat_number(hall::seat_of(hall, ssrc))
     } else {
-        desk_looking::refusal(20)
+        signed::refusal(20)
     }
 }
 
@@ -253,8 +276,40 @@ pub extern "C" fn floor_seat_by_identity(desk: &[u8], identity: &[u8]) -> i32
         let names = desk_reading::names_at(desk);
         desk_looking::seat_number(identities::seat_named(hall, names, identity))
     } else {
-        desk_looking::refusal(20)
+        signed::refusal(20)
     }
+}
+
+// A seat as the sheet lays it out.
+#[no_mangle]
+pub extern "C" fn floor_seat(desk: &[u8], seat: u32, room: &mut [u8]) -> i32
+    ensures { λ r. ⌜ SeatPromise (now (desk .entry)) seat (now (room .entry)) r (now (room .exit)) ⌝ }
+{
+    seat_looking::seat_on(desk, seat, room)
+}
+
+// The settings as the sheet lays them out.
+#[no_mangle]
+pub extern "C" fn floor_settings(desk: &[u8], room: &mut [u8]) -> i32
+    ensures { λ r. ⌜ SettingsPromise (now (desk .entry)) (now (room .entry)) r (now (room .exit)) ⌝ }
+{
+    seat_looking::settings_on(desk, room)
+}
+
+// The clocks to start anew after a step.
+#[no_mangle]
+pub extern "C" fn floor_starts(before: u32, after: u32, fired: u32, report: &[u8]) -> i32
+    ensures { λ r. ⌜ StartsPromise before after fired (now (report .entry)) r ⌝ }
+{
+    clocks_looking::starts_on(before, after, fired, report)
+}
+
+// The clocks to stop.
+#[no_mangle]
+pub extern "C" fn floor_stops(before: u32, after: u32) -> i32
+    ensures { λ r. ⌜ StopsPromise before after r ⌝ }
+{
+    clocks_looking::stops_on(before, after)
 }
 
 // The line for the wall screen.
@@ -267,7 +322,7 @@ pub extern "C" fn floor_screen(desk: &[u8], room: &mut [u8]) -> i32
         let line = core.line;
         desk_looking::show(line, room)
     } else {
-        desk_looking::refusal(20)
+        signed::refusal(20)
     }
 }
 
@@ -281,7 +336,7 @@ pub extern "C" fn floor_save(desk: &[u8], room: &mut [u8]) -> i32
         let names = desk_reading::names_at(desk);
         desk_looking::saved_number(saving::save(hall, names, room))
     } else {
-        desk_looking::refusal(20)
+        signed::refusal(20)
     }
 }
 
@@ -291,20 +346,20 @@ pub extern "C" fn floor_message(desk: &[u8], report: &[u8], which: u32, room: &m
     ensures { λ r. ⌜ MessagePromise (now (desk .entry)) (now (report .entry)) which (now (room .entry)) r (now (room .exit)) ⌝ }
 {
     if !desk_test::is_desk(desk) {
-        return desk_looking::refusal(20);
+        return signed::refusal(20);
     }
     match report_octets::message_in(report, which) {
         Told::Says(kind) => desk_looking::tell(desk, kind, room),
-        Told::NoMessage => desk_looking::refusal(12),
+        Told::NoMessage => signed::refusal(12),
     }
 }
 
 // Reads a packet into a message's 40 octets.
 #[no_mangle]
-pub extern "C" fn floor_read(packet: &[u8], message: &mut [u8]) -> u32
+pub extern "C" fn floor_read(packet: &[u8], message: &mut [u8]) -> i32
     ensures { λ r. ⌜ ReadPromise (now (packet .entry)) (now (message .entry)) r (now (message .exit)) ⌝ }
 {
-    message_octets::read_held(packet, message) as u32
+    signed::refusal(message_octets::read_held(packet, message))
 }
 
 // Writes a message as a packet.

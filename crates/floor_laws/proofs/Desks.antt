@@ -62,15 +62,11 @@ right-at s o q = record { sound = sound-test (deskAt s) (typed s o) (passes s q)
 -- so is a fresh one, and whatever does keeps it so
 narrow-settings : (g : Settings) → Settable g → SettingsFit g
 unfolding settable
-narrow-settings g k =
-    let b =
-    octets-hold (g .level) (g .limit) (g .c7) (g .c20) (g .duration)
-    (and-left (inOctets (g .level) (g .limit) (g .c7) (g .c20) (g .duration)) (inRange g) (k .0)) in
-    record { ssrc = k .1; level = b .0; limit = b .1; c7 = b .2; c20 = b .3; duration = b .4 }
+narrow-settings g k = octets-hold g (and-left (inOctets g) (inRange g) (k .0)) (k .1)
 
 pub in-range : (g : Settings) → Settable g → inRange g ≡ true
 unfolding settable
-in-range g k = and-right (inOctets (g .level) (g .limit) (g .c7) (g .c20) (g .duration)) (inRange g) (k .0)
+in-range g k = and-right (inOctets g) (inRange g) (k .0)
 
 pub right-made : (g : Settings) → Settable g → Right (made g)
 right-made g k = record { sound = sound-fresh (made g) (justMade g (in-range g k)); narrow = narrow-made g (narrow-settings g k) }

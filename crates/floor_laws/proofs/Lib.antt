@@ -4,6 +4,7 @@ pub mod Numbers
 pub mod Desks
 pub mod Shape
 pub mod Refusals
+pub mod Rooms
 pub mod Acts
 pub mod Steps
 pub mod Made

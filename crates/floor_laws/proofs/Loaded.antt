@@ -3,11 +3,12 @@ use Rattle.desk_octets.specs.Places.{deskSize}
 use Prim.Native.Nat.{ℕ, zero, suc, _+_, _≤_}
 use native.Mathlib.Omega.{arith}
 use mathlib.Core.Path.{_≡_, refl, ap, sym, subst, _∙_}
-use mathlib.Core.Bool.{true, not, _&&_, _||_}
+use mathlib.Core.Bool.{true, not, _||_}
 use mathlib.Core.List.{List, [], _∷_}
-use lib.Dec.{eqb, ltb}
+use lib.Dec.{eqb}
+use lib.IntN.{ℤ}
 use lib.ListN.{length, take, drop}
-use borrow.Author.Tests.{eqb-false, le-leb, lt-ltb, not-false}
+use borrow.Author.Tests.{eqb-false, le-leb, not-false}
 use Rattle.octets.specs.Octets.{part, Octets}
 use Rattle.hall.specs.declared.Hall.{Hall}
 use Rattle.identities.specs.declared.Names.{Names}
@@ -22,7 +23,10 @@ use Rattle.events.specs.declared.Desk.{Desk}
 use Rattle.history.specs.Doing.{made, does, afterAll, Fresh, justMade, andJoined}
 use Rattle.loading.specs.Loading.{Load, Seats, whole, fault, refused, ifSeated, joinAll, seatAll, settled, loading, whoIs, readSeat}
 use Rattle.loading.specs.Loading.{identityLength, afterSeat, laidOut, seatInfront, readSeats, zeros, settingsOn}
-use Rattle.words.proofs.Tests.{both, five, neither-left}
+use Rattle.words.proofs.Tests.{both, neither-left}
+use Rattle.message.specs.Answers.{result}
+use Rattle.signed.specs.Signed.{signed, Succeeds}
+use Rattle.desk_making.proofs.Making.{held-in-octets}
 use Rattle.desk_making.specs.Making.{inOctets, settable, written, loadOn}
 use Rattle.floor.specs.Promises.{LoadPromise}
 use Rattle.floor_laws.specs.Kept.{Holds, Fits, AllFit, Settable, deskIn, joinsOf, seatedFrom, joinsOn, LoadedInForm}
@@ -112,20 +116,15 @@ module _ (s : List ℕ) (o : Octets s) where
       (λ _. infront-fits (readSeat s at) (seat-fits at) (readSeats n s (afterSeat s at)) (seats-fit n (afterSeat s at))) (λ _. tt)
 
   settings-fit : inRange (settingsOn s) ≡ true → Settable (settingsOn s)
-  unfolding settable inOctets
+  unfolding settable
   settings-fit q =
       let g = settingsOn s in
       let f : SettingsFit g = settings-read-fit s (settingsPlace s) o in
-      let b = five (ltb (g .level) 256) (ltb (g .limit) 256) (ltb (g .c7) 256) (ltb (g .c20) 256) (ltb (g .duration) 65536)
-      (lt-ltb (g .level) 256 (f .level)) (lt-ltb (g .limit) 256 (f .limit)) (lt-ltb (g .c7) 256 (f .c7)) (lt-ltb (g .c20) 256 (f .c20))
-      (lt-ltb (g .duration) 65536 (f .duration)) in (
-        both (ltb (g .level) 256 && ltb (g .limit) 256 && ltb (g .c7) 256 && ltb (g .c20) 256 && ltb (g .duration) 65536) (inRange g) b q,
-        f .ssrc,
-      )
+      (both (inOctets g) (inRange g) (held-in-octets g f) q, f .ssrc)
 
-module _ (room sheet room′ : List ℕ) (p : LoadPromise room sheet 0 room′) (o : Octets sheet) where
+module _ (room sheet : List ℕ) (m : ℤ) (room′ : List ℕ) (p : LoadPromise room sheet m room′) (z : Succeeds m) (o : Octets sheet) where
   pub loaded-number : loading sheet .number ≡ 0
-  loaded-number = done-only room (loading sheet .number) (deskLoaded (loading sheet)) (sym (ap (λ (w : ℕ × List ℕ). w .0) p))
+  loaded-number = done-only room (loading sheet .number) 0 (deskLoaded (loading sheet)) (subst (λ (w : ℤ × List ℕ). Succeeds (w .0)) p z)
 
   loaded-run : (inRange (settingsOn sheet) ≡ true) × (deskLoaded (loading sheet) ≡ afterAll (made (settingsOn sheet)) (joinsOn sheet))
   loaded-run = loaded-so sheet loaded-number
@@ -141,8 +140,8 @@ module _ (room sheet room′ : List ℕ) (p : LoadPromise room sheet 0 room′) 
       let d = deskLoaded (loading sheet) in
       let g = settingsOn sheet in
       let r : Right d = rw (loaded-run .1) (right-run (made g) (joinsOn sheet) its-joins (right-made g its-settings)) in
-      let h : Written d (loadOn room sheet) = written-so d room (loading sheet .number) (λ _. r) in
-      subst (λ (v : ℕ × List ℕ). Written d v) (sym p) h refl
+      let h : Written d (loadOn room sheet) = written-so d room (loading sheet .number) 0 (λ _. r) in
+      subst (λ (v : ℤ × List ℕ). Written d v) (sym p) h z
 
 -- seats that join a fresh desk leave it fresh
 joined-fresh : (d : Desk) → Fresh d → (xs : List Seat) → Fresh (afterAll d (joinsOf xs))
@@ -154,21 +153,21 @@ seated-fresh d f (whole xs) = joined-fresh d f xs
 seated-fresh d f fault = f
 
 pub loaded-in-form : LoadedInForm
-loaded-in-form room sheet room′ p o =
+loaded-in-form room sheet m room′ p z o =
     record {
-      settings = its-settings room sheet room′ p o;
-      joins = its-joins room sheet room′ p o;
+      settings = its-settings room sheet m room′ p z o;
+      joins = its-joins room sheet m room′ p z o;
       isFresh =
           seated-fresh (made (settingsOn sheet))
-          (justMade (settingsOn sheet) (in-range (settingsOn sheet) (its-settings room sheet room′ p o)))
+          (justMade (settingsOn sheet) (in-range (settingsOn sheet) (its-settings room sheet m room′ p z o)))
           (readSeats (seatCount sheet) sheet 0);
       holds =
           holds-as (deskIn room′) (deskLoaded (loading sheet)) (afterAll (made (settingsOn sheet)) (joinsOn sheet))
-          (loaded-run room sheet room′ p o .1)
-          (loaded-stands room sheet room′ p o);
+          (loaded-run room sheet m room′ p z o .1)
+          (loaded-stands room sheet m room′ p z o);
     }
 
 -- an accepted sheet and enough room
-pub loads : (room sheet : List ℕ) → loading sheet .number ≡ 0 → deskSize ≤ length room → loadOn room sheet .0 ≡ 0
+pub loads : (room sheet : List ℕ) → loading sheet .number ≡ 0 → deskSize ≤ length room → loadOn room sheet .0 ≡ signed (result 0)
 unfolding written if_then_else_
 loads room sheet z b = rw (z, le-leb deskSize (length room) b)

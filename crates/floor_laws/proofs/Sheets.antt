@@ -2,7 +2,7 @@
 use Rattle.desk_octets.specs.Places.{deskSize}
 use Prim.Native.Nat.{ℕ, _≤_, _<_}
 use native.Mathlib.Omega.{arith}
-use mathlib.Core.Path.{_≡_, ap, _∙_, sym}
+use mathlib.Core.Path.{_≡_, refl, ap, _∙_, sym}
 use mathlib.Core.Bool.{true, false}
 use mathlib.Core.List.{List}
 use lib.ListN.{length, take}
@@ -21,7 +21,8 @@ use Rattle.sheet_laws.proofs.Back.{saved-loads}
 use Rattle.sheet_laws.proofs.Again.{written-back}
 use Rattle.desk_octets.specs.Form.{coreAt, hallAt, namesAt}
 use Rattle.desk_test.specs.Lent.{formed}
-use Rattle.desk_looking.specs.Looking.{answers, saveOn}
+use Rattle.signed.specs.Signed.{signed, answers, isDone}
+use Rattle.desk_looking.specs.Looking.{saveOn}
 use Rattle.floor.specs.Promises.{SavePromise, LoadPromise}
 use Rattle.floor_laws.specs.Kept.{deskIn, loadedAs, LoadedIsSaved, SavedIsLoaded}
 use Rattle.floor_laws.proofs.Desks.{right-at}
@@ -87,37 +88,39 @@ sheet-back s o a =
     sym (its-sheet h ns) ∙ written-back s (sheetOf h ns) o a .octets (its-room h ns)
 
 pub loaded-is-saved : LoadedIsSaved
-loaded-is-saved desk s desk′ p o room n room′ q l =
+loaded-is-saved desk s m desk′ p z o room n room′ q l =
     let d = deskIn desk′ in
-    let h = loaded-stands desk s desk′ p o in
+    let h = loaded-stands desk s m desk′ p z o in
     let e : sheet d room ≡ s =
-    ap (λ (k : Desk). sheetOf (k .hall) (k .names)) (h .stands) ∙ sheet-back s o (loaded-number desk s desk′ p o) in
+    ap (λ (k : Desk). sheetOf (k .hall) (k .names)) (h .stands) ∙ sheet-back s o (loaded-number desk s m desk′ p z o) in
     let w : (n, room′) ≡ answers (result (length s)) (over room 0 s) =
     q ∙ rw e at (saves d room (h .inForm) (rw e l)) in
     (ap (λ (v : ℤ × List ℕ). v .0) w, ap (λ (v : ℤ × List ℕ). v .1) w)
 
-module _ (d desk : List ℕ) (m : ℕ) (desk′ : List ℕ) where
+module _ (d desk : List ℕ) (m : ℤ) (desk′ : List ℕ) where
   -- what loading makes of the sheet is what the octets hold
   taken : (s : List ℕ) → s ≡ sheetOf (hallAt d) (namesAt d) → LoadPromise desk s m desk′ → Octets s → deskSize ≤ length desk → Octets d →
       formed d ≡ true →
-      IsDesk (loadedAs m (deskIn desk′)) (seatsOf (hallAt d) (namesAt d)) (hallAt d .settings)
+      (m ≡ signed (result 0)) × IsDesk (loadedAs (deskIn desk′)) (seatsOf (hallAt d) (namesAt d)) (hallAt d .settings)
   taken s e p o l k q =
       let i : IsDesk (loading s) (seatsOf (hallAt d) (namesAt d)) (hallAt d .settings) =
       rw (e ∙ sym (its-sheet (hallAt d) (namesAt d)))
       (saved-loads (hallAt d) (namesAt d) (sheetOf (hallAt d) (namesAt d)) (right-at d k q .sound .seats)
       (its-room (hallAt d) (namesAt d))) in
-      let z : m ≡ 0 = ap (λ (w : ℕ × List ℕ). w .0) p ∙ loads desk s (i .accepted) l in
-      let h = loaded-stands desk s desk′ (rw z at p) o in
+      let z : m ≡ signed (result 0) = ap (λ (w : ℤ × List ℕ). w .0) p ∙ loads desk s (i .accepted) l in
+      let h = loaded-stands desk s m desk′ p (ap isDone z) o in
       let c : coreAt (deskIn desk′) ≡ loading s .core = ap (λ (x : Desk). x .core) (h .stands) in
       let a : hallAt (deskIn desk′) ≡ loading s .hall = ap (λ (x : Desk). x .hall) (h .stands) in
-      let b : namesAt (deskIn desk′) ≡ loading s .names = ap (λ (x : Desk). x .names) (h .stands) in
-      record {
-        accepted = z;
-        isFresh = c ∙ i .isFresh;
-        settings = ap (λ (x : Hall). x .settings) a ∙ i .settings;
-        seats = rw (a, b) (i .seats);
-        numbered = λ t u. rw a (i .numbered t u);
-      }
+      let b : namesAt (deskIn desk′) ≡ loading s .names = ap (λ (x : Desk). x .names) (h .stands) in (
+        z,
+        record {
+          accepted = refl;
+          isFresh = c ∙ i .isFresh;
+          settings = ap (λ (x : Hall). x .settings) a ∙ i .settings;
+          seats = rw (a, b) (i .seats);
+          numbered = λ t u. rw a (i .numbered t u);
+        },
+      )
 
 pub saved-is-loaded : SavedIsLoaded
 saved-is-loaded d room n room′ p k desk m desk′ q o l =

@@ -6,6 +6,7 @@ use mathlib.Core.Path.{_≡_, refl, sym, subst, _∙_}
 use mathlib.Core.Bool.{true, false}
 use mathlib.Core.List.{List}
 use lib.Dec.{eqb, leb}
+use lib.IntN.{ℤ}
 use lib.ListN.{length}
 use Rattle.words.specs.Choice.{if_then_else_, by-if}
 use Rattle.octets.specs.Octets.{over, Octets}
@@ -18,7 +19,10 @@ use Rattle.history.specs.Doing.{Doing, joins as joining, does, after, afterAll}
 use Rattle.desk_octets.specs.Form.{coreAt, hallAt, namesAt}
 use Rattle.desk_test.specs.Lent.{formed}
 use Rattle.desk_steps.specs.Steps.{Leaves, leaves, settles, outcomeOn}
-use Rattle.desk_making.specs.Making.{written, joinOn}
+use Rattle.desk_making.specs.Making.{written, joinOn, seatTaken}
+use Rattle.message.specs.Answers.{refused, result}
+use Rattle.signed.specs.Signed.{signed, answers}
+use Rattle.signed.proofs.Signed.{not-done}
 use Rattle.desk_test.proofs.Desks.{fits}
 use Rattle.desk_octets.proofs.Facts.{fits-whole}
 use Rattle.desk_octets.proofs.Forth.{over-desk}
@@ -37,13 +41,13 @@ module _ (d : List ℕ) (o : Octets d) (q : formed d ≡ true) (k : Right (deskA
   abbrev Stands : Doing → Leaves → Type 0
   Stands x l = Holds (l .desk) (afterAll (deskAt d) (did (l .answer) x))
 
-  refused-so : (n : ℕ) (x : Doing) → eqb n 0 ≡ false → Holds d (afterAll (deskAt d) (did n x))
+  refused-so : (n : ℕ) (x : Doing) → eqb n 0 ≡ false → Holds d (afterAll (deskAt d) (did (signed (refused n)) x))
   unfolding if_then_else_
-  refused-so n x e = rw e stays
+  refused-so n x e = rw (not-done n e) stays
 
-  done-so : (s : List ℕ) (x : Doing) → Holds s (after (deskAt d) x) → Holds s (afterAll (deskAt d) (did 0 x))
+  done-so : (s : List ℕ) (k : ℕ) (x : Doing) → Holds s (after (deskAt d) x) → Holds s (afterAll (deskAt d) (did (signed (result k)) x))
   unfolding if_then_else_
-  done-so s x w = w
+  done-so s k x w = w
 
   outcome-so : (r : List ℕ) (x : Doing) → DoingFits x → Stands x (outcomeOn d r (does (deskAt d) x))
   unfolding outcomeOn settles
@@ -51,39 +55,39 @@ module _ (d : List ℕ) (o : Octets d) (q : formed d ≡ true) (k : Right (deskA
       let n = answerNumber (does (deskAt d) x .answer) in
       by-if (Stands x) (formed d)
       (λ _. by-if (Stands x) (eqb n 0)
-      (λ _. by-if (Stands x) (leb reportSize (length r)) (λ _. done-so _ x (carried x w)) (λ _. refused-so 13 x refl))
+      (λ _. by-if (Stands x) (leb reportSize (length r)) (λ _. done-so _ 0 x (carried x w)) (λ _. refused-so 13 x refl))
       (λ e. refused-so n x e))
       (λ _. refused-so 20 x refl)
 
   module _ (r : List ℕ) (i : List ℕ) (n : Newcomer) (w : Fits i n) where
-    abbrev Seated : ℕ × List ℕ → Type 0
+    abbrev Seated : ℤ × List ℕ → Type 0
     Seated z = Stands (joining i n) (leaves (z .0) (z .1) r)
 
-    joined-so : Seated (0, over d 0 (octetsFor (after (deskAt d) (joining i n))))
-    joined-so =
+    joined-so : (k : ℕ) → Seated (answers (result k) (over d 0 (octetsFor (after (deskAt d) (joining i n)))))
+    joined-so k =
         let x = after (deskAt d) (joining i n) in
-        rw (over-desk d (x .core) (x .hall) (x .names) (fits-whole d (fits d q))) (done-so _ (joining i n) (carried (joining i n) w))
+        rw (over-desk d (x .core) (x .hall) (x .names) (fits-whole d (fits d q))) (done-so _ k (joining i n) (carried (joining i n) w))
 
     abbrev j : Joined
     j = join (hallAt d) (namesAt d) i n
 
-    written-so : Seated (written d (answerNumber (j .answer)) (coreAt d) (j .hall) (j .names))
+    written-so : Seated (written d (answerNumber (j .answer)) (seatTaken (j .seat)) (coreAt d) (j .hall) (j .names))
     unfolding written does
     written-so =
         by-if Seated (eqb (answerNumber (j .answer)) 0)
-        (λ _. by-if Seated (leb deskSize (length d)) (λ _. joined-so) (λ _. refused-so 13 (joining i n) refl))
+        (λ _. by-if Seated (leb deskSize (length d)) (λ _. joined-so (seatTaken (j .seat))) (λ _. refused-so 13 (joining i n) refl))
         (λ e. refused-so (answerNumber (j .answer)) (joining i n) e)
 
     pub join-so : Seated (joinOn d i n)
     join-so = by-if Seated (formed d) (λ _. written-so) (λ _. refused-so 20 (joining i n) refl)
 
   -- so of what is promised
-  pub call-so : (r : List ℕ) (n : ℕ) (d′ r′ : List ℕ) (a : Act) → PromisedBy a d r n d′ r′ → ActFits a → Stands (meant a) (leaves n d′ r′)
+  pub call-so : (r : List ℕ) (n : ℤ) (d′ r′ : List ℕ) (a : Act) → PromisedBy a d r n d′ r′ → ActFits a → Stands (meant a) (leaves n d′ r′)
   call-so r n d′ r′ a p w =
       by-act (Stands (meant a)) a d r n d′ r′ p
       (λ i m e. subst (λ (x : Doing). Stands x (leaves (joinOn d i m .0) (joinOn d i m .1) r)) (sym e)
       (join-so r i m (subst (λ (x : Doing). DoingFits x) e w)))
-      (outcome-so r (meant a) w)
+      (λ _. outcome-so r (meant a) w)
 
 pub step-in-form : StepInForm
 step-in-form d x p o q w = call-so d o q (right-at d o q) (x .room) (x .answer) (x .desk) (x .report) (x .act) p w

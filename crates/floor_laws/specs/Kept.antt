@@ -9,17 +9,18 @@ use Prim.Native.Nat.{ℕ, _/_, _≤_, _<_}
 use mathlib.Core.Path.{_≡_}
 use mathlib.Core.Bool.{true, false}
 use mathlib.Core.List.{List, [], _∷_}
-use lib.Dec.{eqb}
 use lib.ListN.{length, take}
 use lib.IntN.{ℤ, pos}
 use Rattle.octets.specs.Octets.{over, Octets}
 use Rattle.words.specs.Choice.{if_then_else_}
-use Rattle.message.specs.Answers.{refused}
+use Rattle.message.specs.Answers.{refused, result}
+use Rattle.signed.specs.Signed.{signed, byNumber, isDone, Succeeds, Refuses}
 use Rattle.line.specs.declared.Entry.{Entry}
 use Rattle.screen.specs.Screen.{answered}
 use Rattle.hall.specs.Answers.{answerNumber}
 use Rattle.hall.specs.declared.Settings.{Settings}
 use Rattle.hall.specs.declared.Newcomer.{Newcomer}
+use Rattle.hall.specs.Seats.{freeSeat}
 use Rattle.events.specs.declared.Event.the-variants.{Start, Stop, Media, Expiry}
 use Rattle.events.specs.declared.Desk.{Desk}
 use Rattle.events.specs.Events.{wholeDesk}
@@ -32,13 +33,13 @@ use Rattle.sheet_laws.specs.Sheets.{IsDesk}
 use Rattle.desk_octets.specs.Form.{octetsOf, coreAt, hallAt, namesAt}
 use Rattle.report_octets_laws.specs.Reported.{ReportFits}
 use Rattle.desk_test.specs.Lent.{formed}
-use Rattle.desk_making.specs.Making.{newcomer, settable}
+use Rattle.desk_making.specs.Making.{newcomer, settable, seatTaken}
 use Rattle.desk_steps.specs.Steps.{seatNumbered}
-use Rattle.desk_looking.specs.Looking.{signed, screened}
+use Rattle.desk_looking.specs.Looking.{screened}
 use Rattle.floor.specs.Promises.{MakePromise, JoinPromise, LeavePromise, StartPromise, StopPromise, PacketPromise, MediaPromise}
 use Rattle.floor.specs.Promises.{TimerPromise, MessagePromise, SavePromise, LoadPromise, ScreenPromise, PhasePromise, HolderPromise}
 use Rattle.floor.specs.Promises.{RunningPromise, SequencePromise, C7Promise, C20Promise, SeatsPromise, SeatBySsrcPromise}
-use Rattle.floor.specs.Promises.{SeatByIdentityPromise}
+use Rattle.floor.specs.Promises.{HolderPriorityPromise, SeatByIdentityPromise, ReadPromise, WritePromise, SeatPromise, SettingsPromise}
 
 -- WHAT A C PROGRAM HAS
 
@@ -69,12 +70,12 @@ pub data Act : Type 0 where
 pub record Call : Type 0 where
   pub act : Act
   pub room : List ℕ
-  pub answer : ℕ
+  pub answer : ℤ
   pub desk : List ℕ
   pub report : List ℕ
 
 -- what the function promises of it; join has no report
-abbrev pub PromisedBy : Act → (d r : List ℕ) (n : ℕ) (d′ r′ : List ℕ) → Type 0
+abbrev pub PromisedBy : Act → (d r : List ℕ) (n : ℤ) (d′ r′ : List ℕ) → Type 0
 PromisedBy (floorJoin o x h q l) d r n d′ r′ = JoinPromise d o x h q l n d′ × (r′ ≡ r)
 PromisedBy (floorLeave s) d r n d′ r′ = LeavePromise d s r n d′ r′
 PromisedBy floorStart d r n d′ r′ = StartPromise d r n d′ r′
@@ -100,6 +101,16 @@ meant (floorTimer t) = event (Expiry (timerNamed t))
 abbrev pub ruled : Desk → Act → ℕ
 ruled k a = answerNumber (does k (meant a) .answer)
 
+-- what is told of it once it is done: the seat of a join, the lowest free one; 0 of all else
+abbrev pub doneBy : Desk → Doing → ℕ
+doneBy k (event e) = 0
+doneBy k (packet p) = 0
+doneBy k (leaving s) = 0
+doneBy k (joining o n) = seatTaken (freeSeat (k .hall))
+
+abbrev pub toldBy : Desk → Act → ℤ
+toldBy k a = signed (byNumber (ruled k a) (doneBy k (meant a)))
+
 -- numbers from C have their places in octets: what a newcomer says of itself has; nothing else that an act brings is kept
 abbrev pub Fits : List ℕ → Newcomer → Type 0
 Fits o n = Octets o × (n .ssrc < 4294967296) × (n .highest < 256)
@@ -118,40 +129,52 @@ AllFit [] = Unit
 AllFit (x ∷ xs) = DoingFits x × AllFit xs
 
 -- what was done: what is refused, for whatever reason, is not
-abbrev pub did : ℕ → Doing → List Doing
-did answer x = if eqb answer 0 then x ∷ [] else []
+abbrev pub did : ℤ → Doing → List Doing
+did answer x = if isDone answer then x ∷ [] else []
 
 abbrev pub doings : Call → List Doing
 doings x = did (x .answer) (meant (x .act))
 
 -- a desk is made with settings, in a room
-abbrev pub FloorMake : (room : List ℕ) (g : Settings) (answer : ℕ) (room′ : List ℕ) → Type 0
+abbrev pub FloorMake : (room : List ℕ) (g : Settings) (answer : ℤ) (room′ : List ℕ) → Type 0
 FloorMake room g n room′ = MakePromise room (g .ssrc) (g .level) (g .limit) (g .c7) (g .c20) (g .duration) n room′
 
 -- "ALL REFUSALS LEAVE THE DESK UNCHANGED, WITH NO MESSAGE AND NO MARK" (proofs/Refusals): nothing is written, in the desk or in the report
 
 abbrev pub RefusalWritesNothing : Type 0
-RefusalWritesNothing = (d : List ℕ) (x : Call) → Promised d x → (x .answer ≡ 0 → ⊥) → (x .desk ≡ d) × (x .report ≡ x .room)
+RefusalWritesNothing = (d : List ℕ) (x : Call) → Promised d x → Refuses (x .answer) → (x .desk ≡ d) × (x .report ≡ x .room)
 
 abbrev pub NotMade : Type 0
-NotMade = (room : List ℕ) (g : Settings) (n : ℕ) (room′ : List ℕ) → FloorMake room g n room′ → (n ≡ 0 → ⊥) → room′ ≡ room
+NotMade = (room : List ℕ) (g : Settings) (n : ℤ) (room′ : List ℕ) → FloorMake room g n room′ → Refuses n → room′ ≡ room
 
 abbrev pub NotLoaded : Type 0
-NotLoaded = (room sheet : List ℕ) (n : ℕ) (room′ : List ℕ) → LoadPromise room sheet n room′ → (n ≡ 0 → ⊥) → room′ ≡ room
+NotLoaded = (room sheet : List ℕ) (n : ℤ) (room′ : List ℕ) → LoadPromise room sheet n room′ → Refuses n → room′ ≡ room
+
+-- nor in the room of a function that writes into one (proofs/Rooms)
+abbrev pub Keeps : (Promise : List ℕ → ℤ → List ℕ → Type 0) → Type 0
+Keeps Promise = (room : List ℕ) (n : ℤ) (room′ : List ℕ) → Promise room n room′ → Refuses n → room′ ≡ room
+
+abbrev pub RoomsKept : Type 0
+RoomsKept =
+    ((d report : List ℕ) (which : ℕ) → Keeps (MessagePromise d report which)) × ((packet : List ℕ) → Keeps (ReadPromise packet))
+    × ((message source : List ℕ) → Keeps (WritePromise message source)) × ((d : List ℕ) → Keeps (SavePromise d))
+    × ((d : List ℕ) → Keeps (ScreenPromise d)) × ((d : List ℕ) (seat : ℕ) → Keeps (SeatPromise d seat))
+    × ((d : List ℕ) → Keeps (SettingsPromise d))
 
 -- "OCTETS NOT IN THAT FORM GET 20, BEFORE ALL ELSE" (proofs/Refusals)
 
-abbrev pub NotADesk : Type 0
-NotADesk = (d : List ℕ) (x : Call) → Promised d x → formed d ≡ false → x .answer ≡ 20
-
--- the functions that look at a desk answer minus 20, and those with a room leave it as it was
 abbrev pub Minus20 : ℤ → Type 0
 Minus20 answer = answer ≡ signed (refused 20)
 
+abbrev pub NotADesk : Type 0
+NotADesk = (d : List ℕ) (x : Call) → Promised d x → formed d ≡ false → Minus20 (x .answer)
+
+-- the functions that look at a desk answer so too, and those with a room leave it as it was
 abbrev pub NotLookedAt : Type 0
 NotLookedAt = (d : List ℕ) (n : ℤ) → formed d ≡ false →
-    (PhasePromise d n → Minus20 n) × (HolderPromise d n → Minus20 n) × (RunningPromise d n → Minus20 n)
-    × (SequencePromise d n → Minus20 n) × (C7Promise d n → Minus20 n) × (C20Promise d n → Minus20 n) × (SeatsPromise d n → Minus20 n)
+    (PhasePromise d n → Minus20 n) × (HolderPromise d n → Minus20 n) × (HolderPriorityPromise d n → Minus20 n)
+    × (RunningPromise d n → Minus20 n) × (SequencePromise d n → Minus20 n) × (C7Promise d n → Minus20 n) × (C20Promise d n → Minus20 n)
+    × (SeatsPromise d n → Minus20 n)
     × ((ssrc : ℕ) → SeatBySsrcPromise d ssrc n → Minus20 n) × ((identity : List ℕ) → SeatByIdentityPromise d identity n → Minus20 n)
 
 abbrev pub Unread : ℤ → List ℕ → List ℕ → Type 0
@@ -161,12 +184,13 @@ abbrev pub NotWrittenFrom : Type 0
 NotWrittenFrom = (d room : List ℕ) (n : ℤ) (room′ : List ℕ) → formed d ≡ false →
     (ScreenPromise d room n room′ → Unread n room room′) × (SavePromise d room n room′ → Unread n room room′)
     × ((report : List ℕ) (which : ℕ) → MessagePromise d report which room n room′ → Unread n room room′)
+    × ((seat : ℕ) → SeatPromise d seat room n room′ → Unread n room room′) × (SettingsPromise d room n room′ → Unread n room room′)
 
 -- then comes what the rules answer, and nothing else is refused but for want of 24 octets for the report of what would be done
 abbrev pub RulesAnswer : Type 0
 RulesAnswer =
     (d : List ℕ) (x : Call) → Promised d x → formed d ≡ true → (ruled (deskAt d) (x .act) ≡ 0 → reportSize ≤ length (x .room)) →
-    x .answer ≡ ruled (deskAt d) (x .act)
+    x .answer ≡ toldBy (deskAt d) (x .act)
 
 -- "A STEP WRITES ONLY OCTETS IN IT" (proofs/Steps), and they stand for the desk that the rules leave
 
@@ -203,11 +227,12 @@ deskIn room = take deskSize room
 -- settings in their ranges and enough room make a fresh desk
 abbrev pub Makes : Type 0
 Makes =
-    (room : List ℕ) (g : Settings) (n : ℕ) (room′ : List ℕ) → FloorMake room g n room′ → settable g ≡ true → deskSize ≤ length room → n ≡ 0
+    (room : List ℕ) (g : Settings) (n : ℤ) (room′ : List ℕ) → FloorMake room g n room′ → settable g ≡ true → deskSize ≤ length room →
+    n ≡ signed (result 0)
 
 abbrev pub MadeInForm : Type 0
 MadeInForm =
-    (room : List ℕ) (g : Settings) (room′ : List ℕ) → FloorMake room g 0 room′ → g .ssrc < 4294967296 →
+    (room : List ℕ) (g : Settings) (n : ℤ) (room′ : List ℕ) → FloorMake room g n room′ → Succeeds n → g .ssrc < 4294967296 →
     Settable g × Holds (deskIn room′) (made g)
 
 -- an accepted sheet leaves the fresh desk with its settings that its seats joined, one after the other
@@ -230,28 +255,30 @@ pub record Loaded (s sheet : List ℕ) : Type 0 where
   pub holds : Holds s (afterAll (made (settingsOn sheet)) (joinsOn sheet))
 
 abbrev pub LoadedInForm : Type 0
-LoadedInForm = (room sheet room′ : List ℕ) → LoadPromise room sheet 0 room′ → Octets sheet → Loaded (deskIn room′) sheet
+LoadedInForm =
+    (room sheet : List ℕ) (n : ℤ) (room′ : List ℕ) → LoadPromise room sheet n room′ → Succeeds n → Octets sheet →
+    Loaded (deskIn room′) sheet
 
 -- "AN ACCEPTED SHEET IS WRITTEN BACK OCTET FOR OCTET" (proofs/Sheets): what `floor_load` took, `floor_save` writes, given room for it
 
 abbrev pub LoadedIsSaved : Type 0
 LoadedIsSaved =
-    (desk sheet desk′ : List ℕ) → LoadPromise desk sheet 0 desk′ → Octets sheet →
+    (desk sheet : List ℕ) (m : ℤ) (desk′ : List ℕ) → LoadPromise desk sheet m desk′ → Succeeds m → Octets sheet →
     (room : List ℕ) (n : ℤ) (room′ : List ℕ) → SavePromise (deskIn desk′) room n room′ → length sheet ≤ length room →
     (n ≡ pos (length sheet)) × (room′ ≡ over room 0 sheet)
 
 -- "SEATS AND SETTINGS ARE SAVED FROM ANY DESK" (proofs/Sheets): what `floor_save` wrote, `floor_load` takes, in any room that is long
 -- enough, and leaves a fresh desk with the same seats, numbered from 0 in their order, and the same settings
 
-abbrev pub loadedAs : ℕ → List ℕ → Load
-loadedAs n d = record { number = n; core = coreAt d; hall = hallAt d; names = namesAt d }
+abbrev pub loadedAs : List ℕ → Load
+loadedAs d = record { number = 0; core = coreAt d; hall = hallAt d; names = namesAt d }
 
 abbrev pub SavedIsLoaded : Type 0
 SavedIsLoaded =
     (d room : List ℕ) (n : ℕ) (room′ : List ℕ) → SavePromise d room (pos n) room′ → Octets d →
     let sheet = take n room′ in
-    (desk : List ℕ) (m : ℕ) (desk′ : List ℕ) → LoadPromise desk sheet m desk′ → Octets sheet → deskSize ≤ length desk →
-    IsDesk (loadedAs m (deskIn desk′)) (seatsOf (hallAt d) (namesAt d)) (hallAt d .settings)
+    (desk : List ℕ) (m : ℤ) (desk′ : List ℕ) → LoadPromise desk sheet m desk′ → Octets sheet → deskSize ≤ length desk →
+    (m ≡ signed (result 0)) × IsDesk (loadedAs (deskIn desk′)) (seatsOf (hallAt d) (namesAt d)) (hallAt d .settings)
 
 -- "THE WALL SCREEN IS HANDED THE LINE AS A LIST OF ENTRIES" (proofs/Wall): two octets an entry, and C is answered as the crate `screen`
 -- answers

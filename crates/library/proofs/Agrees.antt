@@ -1,12 +1,14 @@
 -- What the octets that a call leaves for its report say is what the rules report of what was done. Assumes nothing.
 use Prim.Native.Nat.{ℕ}
-use native.Mathlib.Omega.{arith}
 use mathlib.Core.Path.{_≡_, refl, ap, sym, subst, _∙_}
 use mathlib.Core.Bool.{true}
 use mathlib.Core.List.{List, [], _∷_}
 use lib.Dec.{eqb, leb}
+use lib.IntN.{ℤ}
 use lib.ListN.{length, take}
-use borrow.Author.Tests.{eqb-true, eqb-false}
+use Rattle.words.proofs.Tests.{clash}
+use Rattle.signed.specs.Signed.{isDone, Succeeds}
+use Rattle.signed.proofs.Signed.{not-done}
 use Rattle.words.specs.Choice.{by-if}
 use Rattle.octets.specs.Octets.{over, Octets}
 use Rattle.hall.specs.Answers.{answerNumber}
@@ -33,27 +35,27 @@ Agrees d r (y ∷ ys) = (r ≡ does d y .report) × Agrees d r ys
 
 module _ (d : List ℕ) (r : List ℕ) where
   -- a step that was done has its report in the room
-  abbrev Done : Outcome → Leaves → Type 0
-  Done p l = l .answer ≡ 0 → take reportSize (l .report) ≡ reportOctets (p .report)
+  abbrev Reported : Outcome → Leaves → Type 0
+  Reported p l = Succeeds (l .answer) → take reportSize (l .report) ≡ reportOctets (p .report)
 
-  settled : (p : Outcome) → Done p (outcomeOn d r p)
+  settled : (p : Outcome) → Reported p (outcomeOn d r p)
   unfolding outcomeOn settles
   settled p =
       let n = answerNumber (p .answer) in
       let s = reportOctets (p .report) in
-      by-if (Done p) (formed d)
-      (λ _. by-if (Done p) (eqb n 0)
-      (λ e. by-if (Done p) (leb reportSize (length r))
+      by-if (Reported p) (formed d)
+      (λ _. by-if (Reported p) (eqb n 0)
+      (λ e. by-if (Reported p) (leb reportSize (length r))
       (λ _ _. ap (λ (m : ℕ). take m (over r 0 s)) (sym (twenty-four (p .report))) ∙ first-over r s)
-      (λ _ z. absurd (omega (arith, z))))
-      (λ e z. absurd (eqb-false n 0 e z)))
-      (λ _ z. absurd (omega (arith, z)))
+      (λ _ z. clash z refl))
+      (λ e z. clash z (not-done n e)))
+      (λ _ z. clash z refl)
 
-  module _ (o : Octets d) (q : formed d ≡ true) (n : ℕ) (d′ r′ : List ℕ) (z : n ≡ 0) where
+  module _ (o : Octets d) (q : formed d ≡ true) (n : ℤ) (d′ r′ : List ℕ) (z : Succeeds n) where
     says : (y : Doing) → DoingFits y → leaves n d′ r′ ≡ outcomeOn d r (does (deskAt d) y) →
         reportIn (take reportSize r′) ≡ does (deskAt d) y .report
     says y w p =
-        let e = subst (λ (l : Leaves). Done (does (deskAt d) y) l) (sym p) (settled (does (deskAt d) y)) z in
+        let e = subst (λ (l : Leaves). Reported (does (deskAt d) y) l) (sym p) (settled (does (deskAt d) y)) z in
         rw e (says-the-report (does (deskAt d) y .report) (step-fits d o q y w))
 
     agrees-by : (a : Act) → PromisedBy a d r n d′ r′ → reportBy a (take reportSize r′) ≡ does (deskAt d) (meant a) .report
@@ -69,5 +71,5 @@ module _ (d : List ℕ) (r : List ℕ) where
 pub agrees : (d : List ℕ) → Octets d → formed d ≡ true → (x : Call) → Promised d x →
     Agrees (deskAt d) (reportBy (x .act) (take reportSize (x .report))) (doings x)
 agrees d o q x p =
-    by-if (Agrees (deskAt d) (reportBy (x .act) (take reportSize (x .report)))) (eqb (x .answer) 0)
-    (λ e. (agrees-by d (x .room) o q (x .answer) (x .desk) (x .report) (eqb-true (x .answer) 0 e) (x .act) p, tt)) (λ _. tt)
+    by-if (Agrees (deskAt d) (reportBy (x .act) (take reportSize (x .report)))) (isDone (x .answer))
+    (λ e. (agrees-by d (x .room) o q (x .answer) (x .desk) (x .report) e (x .act) p, tt)) (λ _. tt)

@@ -4,13 +4,13 @@ use Prim.Native.Nat.{ℕ, suc}
 use mathlib.Core.Path.{_≡_, refl, ap, sym, subst, _∙_}
 use mathlib.Core.Bool.{true, false}
 use mathlib.Core.List.{List, [], _∷_, _++_}
-use lib.Dec.{eqb}
 use lib.IntN.{pos}
 use lib.ListN.{take}
 use Rattle.report_octets.specs.Places.{reportSize}
 use Rattle.words.specs.Choice.{by-if}
 use Rattle.words.specs.Table.{getD-fill}
 use Rattle.words.proofs.Tests.{clash}
+use Rattle.signed.specs.Signed.{isDone}
 use Rattle.line.specs.Line.{waiting}
 use Rattle.steps.specs.declared.Given.the-variants.{OutOfLine}
 use Rattle.giving.specs.Floor.{holds}
@@ -47,7 +47,7 @@ data Short : List Doing → Type 0 where
   single : (y : Doing) → Short (y ∷ [])
 
 done-short : (x : Call) → Short (doings x)
-done-short x = by-if Short (eqb (x .answer) 0) (λ _. single (meant (x .act))) (λ _. none)
+done-short x = by-if Short (isDone (x .answer)) (λ _. single (meant (x .act))) (λ _. none)
 
 -- what comes next of a desk and its log, if this was done and reported
 module _ (d : List ℕ) (rows : List Row) (k : Reached d rows) (d′ : List ℕ) (r : Report) where
@@ -85,11 +85,11 @@ calls-on d rows k x p w =
     (agrees d (k .holds .octets) (k .holds .inForm) x p) (step-in-form d x p (k .holds .octets) (k .holds .inForm) w)
 
 pub reached : EveryRunReached
-reached d rows (made room g room′ p b) =
-    let h = made-in-form room g room′ p b in
+reached d rows (made room g n room′ p z b) =
+    let h = made-in-form room g n room′ p z b in
     record { start = madeWith g; isFresh = justMade g (in-range g (h .0)); past = []; holds = h .1; same = refl }
-reached d rows (loaded room sheet room′ p o) =
-    let l = loaded-in-form room sheet room′ p o in
+reached d rows (loaded room sheet n room′ p z o) =
+    let l = loaded-in-form room sheet n room′ p z o in
     record {
       start = afterAll (madeWith (settingsOn sheet)) (joinsOn sheet);
       isFresh = l .isFresh;
@@ -114,7 +114,7 @@ module _ (d : List ℕ) (rows : List Row) (k : Reached d rows) where
 
   its-holder : (l : Look d) (s : ℕ) → isSeat (holder l) s ≡ holds (desk .core .phase) s
   its-holder l s =
-      holder-seen d (k .holds .octets) (k .holds .inForm) l s ∙ ap (λ (e : Desk). holds (e .core .phase) s) (k .holds .stands)
+      holder-seen d (k .holds .inForm) l s ∙ ap (λ (e : Desk). holds (e .core .phase) s) (k .holds .stands)
 
 pub room-enough : RoomEnough
 room-enough d rows r room a room′ p b = let k = reached d rows r in enough d room a room′ (k .holds .octets) (k .holds .inForm) p b
@@ -172,8 +172,8 @@ module _ (d : List ℕ) (rows : List Row) (k : Reached d rows) (d′ : List ℕ)
       line-seen d′ (h .inForm) later ∙ ap (λ (e : Desk). waiting (e .core .line)) (h .stands)
       ∙ sym (line-seen d (k .holds .inForm) before) in
       let g : isSeat (holder later) s ≡ isSeat (holder before) s =
-      holder-seen d′ (h .octets) (h .inForm) later s ∙ ap (λ (e : Desk). holds (e .core .phase) s) (h .stands)
-      ∙ sym (holder-seen d (k .holds .octets) (k .holds .inForm) before s) in
+      holder-seen d′ (h .inForm) later s ∙ ap (λ (e : Desk). holds (e .core .phase) s) (h .stands)
+      ∙ sym (holder-seen d (k .holds .inForm) before s) in
       record {
         enters = λ a b. clash (rw l at b) a;
         goes = λ a b. clash a (rw l at b);
@@ -185,7 +185,7 @@ module _ (d : List ℕ) (rows : List Row) (k : Reached d rows) (d′ : List ℕ)
       let old = its-line d rows k before in
       let new = line-seen d′ (h .inForm) later ∙ ap (λ (e : Desk). waiting (e .core .line)) (stands-so y h) in
       let from = its-holder d rows k before s in
-      let to = holder-seen d′ (h .octets) (h .inForm) later s ∙ ap (λ (e : Desk). holds (e .core .phase) s) (stands-so y h) in
+      let to = holder-seen d′ (h .inForm) later s ∙ ap (λ (e : Desk). holds (e .core .phase) s) (stands-so y h) in
       rw (reported y w, old, new) (record {
         enters = m .enters;
         goes = m .goes;

@@ -1,6 +1,6 @@
 -- What `floor_screen`, `floor_holder` and `floor_phase` show is the line, the holder and the phase of the desk that the octets stand for.
 -- Assumes nothing.
-use Prim.Native.Nat.{ℕ, zero, suc, _+_, _*_, _/_, _≤_, _<_}
+use Prim.Native.Nat.{ℕ, zero, suc, _+_, _*_, _≤_, _<_}
 use native.Mathlib.Nat.{add-zero, zero-add}
 use native.Mathlib.Omega.{arith}
 use mathlib.Core.Path.{_≡_, refl, ap, sym, _∙_}
@@ -22,14 +22,14 @@ use Rattle.line.specs.Line.{entryOf as entry}
 use Rattle.timers.specs.Timers.{isStopped}
 use Rattle.marks.specs.Marks.{isSeat}
 use Rattle.reach.proofs.Hall.{hall-ok}
-use Rattle.desk_octets.specs.Form.{kindOctet, holderIn, coreAt, hallAt, namesAt}
+use Rattle.desk_octets.specs.Form.{kindOctet, coreAt, hallAt, namesAt}
 use Rattle.desk_octets.specs.Columns.{rows}
 use Rattle.desk_octets.proofs.Columns.{column-is-from-0, column-same, shift}
 use Rattle.desk_test.specs.Lent.{formed}
-use Rattle.desk_looking.specs.Looking.{answers, signed, holderAnswer, pairAt, pairs, screened, screenOn}
+use Rattle.signed.specs.Signed.{answers, signed}
+use Rattle.desk_looking.specs.Looking.{holderSeat, pairAt, pairs, screened, screenOn}
 use Rattle.floor.specs.Promises.{ScreenPromise, PhasePromise}
 use Rattle.desk_looking.proofs.Looks.{looks-so}
-use Rattle.floor_laws.proofs.Narrow.{Small}
 use Rattle.floor_laws.proofs.Desks.{right-at}
 use Rattle.library.specs.Library.{Look, entriesIn, seatAnswered, line, holder}
 
@@ -95,19 +95,16 @@ enough d room a room′ o q p b =
     (n, ap (λ (w : ℤ × List ℕ). w .0) (p ∙ screens d room q (le-leb (2 * n) (length room) (omega arith))))
 
 -- the holder
-seat-back : (s p : ℕ) → p < 256 → (256 * s + p) / 256 ≡ s
-seat-back s p h = omega arith
+holder-so : (p : Phase) (s : ℕ) → isSeat (seatAnswered (signed (holderSeat p))) s ≡ holds p s
+holder-so Stopped s = refl
+holder-so (Idle t7) s = refl
+holder-so (Taken e b) s = refl
+holder-so (Revoking e n) s = refl
 
-holder-so : (p : Phase) → Small (holderIn p) → (s : ℕ) → isSeat (seatAnswered (signed (holderAnswer p))) s ≡ holds p s
-holder-so Stopped k s = refl
-holder-so (Idle t7) k s = refl
-holder-so (Taken e b) k s = rw (seat-back (e .seat) (e .priority) (k .1))
-holder-so (Revoking e n) k s = rw (seat-back (e .seat) (e .priority) (k .1))
-
-pub holder-seen : (d : List ℕ) → Octets d → formed d ≡ true → (l : Look d) (s : ℕ) → isSeat (holder l) s ≡ holds (coreAt d .phase) s
-holder-seen d o q l s =
-    ap (λ (a : ℤ). isSeat (seatAnswered a) s) (l .holder ∙ looks-so d (holderAnswer (coreAt d .phase)) q)
-    ∙ holder-so (coreAt d .phase) (right-at d o q .narrow .core .holder) s
+pub holder-seen : (d : List ℕ) → formed d ≡ true → (l : Look d) (s : ℕ) → isSeat (holder l) s ≡ holds (coreAt d .phase) s
+holder-seen d q l s =
+    ap (λ (a : ℤ). isSeat (seatAnswered a) s) (l .holder ∙ looks-so d (holderSeat (coreAt d .phase)) q)
+    ∙ holder-so (coreAt d .phase) s
 
 -- the phase
 going-on : (p : Phase) (k : ℕ) → suc k ≡ kindOctet p → isStopped p ≡ false

@@ -1,10 +1,9 @@
--- A call that answers 0 brings one row: what it means to the desk, and what its report says. Assumes nothing.
+-- A call that is done brings one row: what it means to the desk, and what its report says. Assumes nothing.
 use mathlib.Core.Path.{_≡_, ap}
 use mathlib.Core.List.{[], _∷_}
-use lib.Dec.{eqb}
 use lib.ListN.{take}
-use borrow.Author.Tests.{eq-eqb}
 use Rattle.words.specs.Choice.{if-yes}
+use Rattle.signed.specs.Signed.{isDone}
 use Rattle.report_octets.specs.Places.{reportSize}
 use Rattle.desk_octets.specs.Form.{hallAt}
 use Rattle.floor_laws.specs.Kept.{meant, doings}
@@ -12,5 +11,5 @@ use Rattle.library.specs.Library.{reportBy, rowsOf, DoneIsARow}
 
 pub done-is-a-row : DoneIsARow
 done-is-a-row d x p z =
-    let e : doings x ≡ meant (x .act) ∷ [] = if-yes (eqb (x .answer) 0) (meant (x .act) ∷ []) [] (eq-eqb (x .answer) 0 z) in
+    let e : doings x ≡ meant (x .act) ∷ [] = if-yes (isDone (x .answer)) (meant (x .act) ∷ []) [] z in
     (_, ap (rowsOf (hallAt d) (reportBy (x .act) (take reportSize (x .report)))) e)

@@ -6,7 +6,7 @@
 -- First a run and its log, then a look at the desk, then the five statements, and at the end the demand. All is proved in proofs/Library
 -- (and DoneIsARow in proofs/Rows), from the same statements of the rules' desk (demands/specs/Demands), whose counting is used here too.
 -- Assumes nothing.
-use Prim.Native.Nat.{ℕ, suc, _+_, _*_, _/_, _≤_, _<_}
+use Prim.Native.Nat.{ℕ, suc, _+_, _*_, _≤_, _<_}
 use mathlib.Core.Path.{_≡_}
 use mathlib.Core.Bool.{Bool, true, false, _||_}
 use mathlib.Core.List.{List, [], _∷_, _++_}
@@ -15,6 +15,7 @@ use lib.ListN.{length, getD, take}
 use Rattle.report_octets.specs.Places.{reportSize}
 use Rattle.words.specs.Choice.{one}
 use Rattle.octets.specs.Octets.{Octets}
+use Rattle.signed.specs.Signed.{Succeeds, Refuses}
 use Rattle.line.specs.declared.Entry.{Entry}
 use Rattle.line.specs.Line.{isIn}
 use Rattle.hall.specs.declared.Settings.{Settings}
@@ -60,22 +61,24 @@ rowsOf h r (y ∷ ys) = record { asked = asking h y; report = r } ∷ rowsOf h r
 abbrev pub rowsBy : List ℕ → Call → List Row
 rowsBy d x = rowsOf (hallAt d) (reportBy (x .act) (take reportSize (x .report))) (doings x)
 
--- every call that answers 0 brings one row
+-- every call that is done brings one row
 abbrev pub DoneIsARow : Type 0
-DoneIsARow = (d : List ℕ) (x : Call) → Promised d x → x .answer ≡ 0 → (r : Row) × (rowsBy d x ≡ r ∷ [])
+DoneIsARow = (d : List ℕ) (x : Call) → Promised d x → Succeeds (x .answer) → (r : Row) × (rowsBy d x ≡ r ∷ [])
 
 -- Calls on one desk's octets: those that stand there now, and the log, the latest row first. A desk that is made or loaded, in the first
 -- 1,200 octets of a room, begins a new log, whatever stood there and was done before; a make or a load that is refused is no row either.
 -- `called` is join, leave, start, stop, packet, media and timer, each with its promise; the other functions only read a desk. Numbers from
 -- C are as its types hold them.
 pub data Ran : List ℕ → List Row → Type 0 where
-  made : (room : List ℕ) (g : Settings) (room′ : List ℕ) → FloorMake room g 0 room′ → g .ssrc < 4294967296 → Ran (deskIn room′) []
-  loaded : (room sheet room′ : List ℕ) → LoadPromise room sheet 0 room′ → Octets sheet → Ran (deskIn room′) []
+  made : (room : List ℕ) (g : Settings) (n : ℤ) (room′ : List ℕ) → FloorMake room g n room′ → Succeeds n → g .ssrc < 4294967296 →
+      Ran (deskIn room′) []
+  loaded : (room sheet : List ℕ) (n : ℤ) (room′ : List ℕ) → LoadPromise room sheet n room′ → Succeeds n → Octets sheet →
+      Ran (deskIn room′) []
   called : {d : List ℕ} {rows : List Row} → Ran d rows → (x : Call) → Promised d x → ActFits (x .act) → Ran (x .desk) (rowsBy d x ++ rows)
   notMade : {d : List ℕ} {rows : List Row} → Ran d rows →
-      (g : Settings) (n : ℕ) (d′ : List ℕ) → FloorMake d g n d′ → (n ≡ 0 → ⊥) → Ran d′ rows
+      (g : Settings) (n : ℤ) (d′ : List ℕ) → FloorMake d g n d′ → Refuses n → Ran d′ rows
   notLoaded : {d : List ℕ} {rows : List Row} → Ran d rows →
-      (sheet : List ℕ) (n : ℕ) (d′ : List ℕ) → LoadPromise d sheet n d′ → (n ≡ 0 → ⊥) → Ran d′ rows
+      (sheet : List ℕ) (n : ℤ) (d′ : List ℕ) → LoadPromise d sheet n d′ → Refuses n → Ran d′ rows
 
 -- WHAT A RUN COMES TO: octets in the form; they stand for the desk that the rules leave of a fresh one, and the log is what they report
 
@@ -99,12 +102,12 @@ pub record Look (d : List ℕ) : Type 0 where
   pub screen : ScreenPromise d room (pos count) shown
   pub holder : HolderPromise d answer
 
--- two octets an entry; 256 times the seat and the priority, or less than 0
+-- two octets an entry; the holder's seat, or less than 0
 abbrev pub entriesIn : List ℕ → ℕ → List Entry
 entriesIn s n = column (λ i. entry (getD s (2 * i) 0) (getD s (2 * i + 1) 0)) 0 n
 
 abbrev pub seatAnswered : ℤ → Mark
-seatAnswered (pos n) = Seat (n / 256)
+seatAnswered (pos n) = Seat n
 seatAnswered (negsuc n) = NoSeat
 
 abbrev pub line : {d : List ℕ} → Look d → List Entry

@@ -19,7 +19,7 @@ use Rattle.joining.specs.Join.{join}
 use Rattle.steps.specs.declared.Core.{Core}
 use Rattle.events.specs.Events.{fresh}
 use Rattle.seat_octets.specs.Layout.{flagsOf, flagsTop, settingsIn, zerosIn}
-use Rattle.sheet.specs.Layout.{Seat, seatHead}
+use Rattle.sheet.specs.Layout.{Seat, seatHead, highestWithin, ssrcWithin, lengthWithin}
 use Rattle.sheet.specs.Framing.{settingsPlace, seatCount, verdictNumber, framing}
 use Rattle.loading.specs.declared.Loading.{Loading}
 
@@ -50,13 +50,13 @@ zeros s = zerosIn s (settingsPlace s)
 
 -- the seat that begins at a place
 abbrev pub identityLength : List ℕ → ℕ → ℕ
-identityLength s at = getD s (at + 6) 0
+identityLength s at = getD s (at + lengthWithin) 0
 
 abbrev pub afterSeat : List ℕ → ℕ → ℕ
 afterSeat s at = at + seatHead + identityLength s at
 
 unfoldable pub whoIs : List ℕ → ℕ → Newcomer
-whoIs s at = newcomerOf (be32 s (at + 2)) (getD s (at + 1) 0) (flagsOf (getD s at 0))
+whoIs s at = newcomerOf (be32 s (at + ssrcWithin)) (getD s (at + highestWithin) 0) (flagsOf (getD s at 0))
 
 unfoldable pub readSeat : List ℕ → ℕ → Seat
 readSeat s at = record { who = whoIs s at; identity = part s (at + seatHead) (identityLength s at) }

@@ -66,8 +66,8 @@ fn who_is(s: &[u8], at: usize) -> Newcomer
     ensures { λ r. ⌜ r ≡ whoIs (now (s .entry)) at ⌝ }
 {
     hall::newcomer_of(
-        octets::number32(s, at + 2),
-        s[at + 1],
+        octets::number32(s, at + sheet::SSRC_WITHIN),
+        s[at + sheet::HIGHEST_WITHIN],
         seat_octets::flags_of(s[at]),
     )
 }
@@ -85,7 +85,7 @@ fn laid_out(s: &[u8], at: usize) -> bool
     if end - at < sheet::SEAT_HEAD {
         return false;
     }
-    if end - at - sheet::SEAT_HEAD < s[at + 6] as usize {
+    if end - at - sheet::SEAT_HEAD < s[at + sheet::LENGTH_WITHIN] as usize {
         return false;
     }
     s[at] <= seat_octets::FLAGS_TOP
@@ -98,7 +98,7 @@ fn take_next(s: &[u8], at: usize, hall: Hall, names: Names) -> Turn
 {
     if laid_out(s, at) {
         let from = at + sheet::SEAT_HEAD;
-        let next = from + s[at + 6] as usize;
+        let next = from + s[at + sheet::LENGTH_WITHIN] as usize;
         let who = who_is(s, at);
         let joined = joining::join_call(hall, names, &s[from..next], who);
         let seat = joined.seat;

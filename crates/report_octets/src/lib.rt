@@ -22,7 +22,7 @@ const STRUCK_ZERO: usize = 2;
 
 const ENDED_PLACE: usize = 4;
 
-const HOW_PLACE: usize = 6;
+pub const HOW_PLACE: usize = 6;
 
 const FIRST_PLACE: usize = 8;
 

@@ -1,39 +1,28 @@
--- The hall gone through seat by seat: what each seat puts on the sheet, and what the seats from one on put there. Assumes nothing.
-use Prim.Native.Nat.{ℕ, zero, suc, _+_, _-_, _≤_, _<_}
+-- The hall gone through seat by seat: what the seats from one on put on the sheet. Assumes nothing.
+use Prim.Native.Nat.{ℕ, suc, _+_, _-_, _≤_, _<_}
 use native.Mathlib.Omega.{arith}
 use native.Mathlib.Nat.{zero-add}
 use native.Mathlib.Numerals.{add-one}
-use mathlib.Core.Bool.{true, false}
-use mathlib.Core.List.{List, [], _∷_, _++_, append-assoc, append-nil}
+use mathlib.Core.List.{List, [], _++_, append-assoc, append-nil}
 use mathlib.Core.Path.{_≡_, refl, sym, ap, _∙_}
-use lib.ListN.{length, take, length-append}
-use Rattle.words.specs.Choice.{if_then_else_, if-yes, if-no, by-test}
-use Rattle.octets.specs.Octets.{octets16, octets32, over, part}
+use lib.ListN.{length, length-append}
+use Rattle.words.specs.Choice.{if_then_else_, by-test}
+use Rattle.octets.specs.Octets.{over}
 use Rattle.octets.proofs.Over.{over-none, over-two}
 use Rattle.hall.specs.declared.Hall.{Hall}
-use Rattle.hall.specs.declared.Newcomer.{Newcomer}
 use Rattle.hall.specs.Seats.{isPresent}
-use Rattle.identities.specs.declared.Name.{Name}
 use Rattle.identities.specs.declared.Names.{Names}
-use Rattle.identities.specs.Identity.{octetsOf}
-use Rattle.seat_octets.specs.Layout.{flagsOctet, settingsSize, settingsOctets}
+use Rattle.seat_octets.specs.Layout.{settingsSize, settingsOctets}
 use Rattle.seat_octets.proofs.SettingsLaws.{settings-long}
-use Rattle.sheet.specs.Layout.{Seat, seatOctets, seatsOctets, seatAt, seatsFrom, seatsOf, trailer, sheet, sheetOf}
-use Rattle.saving.specs.Walk.{octetsAt, countAt}
+use Rattle.sheet.specs.Layout.{Seat, seatsOctets, seatsFrom, seatsOf, trailer, sheet, sheetOf}
+use Rattle.seat_saving.specs.Seat.{octetsAt}
+use Rattle.saving.specs.Walk.{countAt}
 
 pub over-front : (room xs ys : List ℕ) → over (over room 0 xs) (length xs) ys ≡ over room 0 (xs ++ ys)
 over-front room xs ys =
     ap (λ (n : ℕ). over (over room 0 xs) n ys) (sym (zero-add (length xs))) ∙ over-two room 0 xs ys (omega arith)
 
 module _ (h : Hall) (ns : Names) where
-  pub taken : (s : ℕ) → isPresent h s ≡ true → octetsAt h ns s ≡ seatOctets (seatAt h ns s)
-  unfolding octetsAt
-  taken s e = if-yes _ _ _ e
-
-  pub free : (s : ℕ) → isPresent h s ≡ false → octetsAt h ns s ≡ []
-  unfolding octetsAt
-  free s e = if-no _ _ _ e
-
   module _ (n s : ℕ) where
     one-octets : seatsOctets (seatsFrom h ns (suc n) s) ≡ octetsAt h ns s ++ seatsOctets (seatsFrom h ns n (suc s))
     unfolding octetsAt seatsOctets if_then_else_
@@ -100,23 +89,6 @@ module _ (h : Hall) (ns : Names) where
   pub put-ends : (room₀ room : List ℕ) (at s : ℕ) → 16 ≤ s → Put room₀ room at s → room ≡ over room₀ 0 (seatsOctets (seatsOf h ns))
   put-ends room₀ room at s l p =
       p .is ∙ ap (over room₀ 0) (sym (append-nil (p .done)) ∙ ap (λ (o : List ℕ). p .done ++ o) (sym (no-octets s l)) ∙ p .all)
-
--- a name's octets as a part of its array
-pub name-part : (n : Name) → part (n .octets) 0 (length (octetsOf n)) ≡ octetsOf n
-unfolding octetsOf part
-name-part n = prefix (n .len) (n .octets)
-  where
-    prefix : (k : ℕ) (l : List ℕ) → take (length (take k l)) l ≡ take k l
-    prefix zero l = refl
-    prefix (suc k) [] = refl
-    prefix (suc k) (x ∷ l) = ap (λ (r : List ℕ). x ∷ r) (prefix k l)
-
--- a seat's octets as they are put one after the other
-pub seat-made : (w : Newcomer) (name : Name) (fl n : ℕ) → fl ≡ flagsOctet (w .flags) → n ≡ length (octetsOf name)
-    → (((fl ∷ w .highest ∷ []) ++ octets32 (w .ssrc)) ++ (n ∷ [])) ++ part (name .octets) 0 n
-    ≡ seatOctets (record { who = w; identity = octetsOf name })
-unfolding seatOctets octets32 octets16
-seat-made w name fl n e f = rw (e, f, name-part name)
 
 -- seats, settings and trailer as they are put one after the other
 module _ (h : Hall) (ns : Names) where

@@ -1,18 +1,14 @@
--- How the code goes through a hall to save it, seat by seat. What is saved stands in Saving, and in sheet/specs/Layout. Assumes nothing.
+-- How the code goes through a hall to save it, seat by seat. What is saved stands in Saving, and in sheet/specs/Layout; what
+-- one seat puts there in seat_saving/specs/Seat. Assumes nothing.
 use Prim.Native.Nat.{ℕ, _≤_}
-use mathlib.Core.List.{List, []}
 use mathlib.Core.Path.{_≡_}
 use lib.ListN.{length}
 use Rattle.words.specs.Choice.{if_then_else_}
 use Rattle.hall.specs.declared.Hall.{Hall}
 use Rattle.hall.specs.Seats.{isPresent}
 use Rattle.identities.specs.declared.Names.{Names}
-use Rattle.sheet.specs.Layout.{seatOctets, seatAt, seatsOctets, seatsOf}
+use Rattle.sheet.specs.Layout.{seatsOctets, seatsOf}
 use Rattle.saving.specs.declared.Extent.{Extent}
-
--- what a seat of a hall, taken or free, puts on the sheet
-unfoldable pub octetsAt : Hall → Names → ℕ → List ℕ
-octetsAt h ns s = if isPresent h s then seatOctets (seatAt h ns s) else []
 
 abbrev pub countAt : Hall → ℕ → ℕ
 countAt h s = if isPresent h s then 1 else 0

@@ -14,7 +14,7 @@
 --               6..7    letters F, S
 --
 -- Assumes nothing.
-use Prim.Native.Nat.{ℕ, zero, suc, _+_}
+use Prim.Native.Nat.{ℕ, zero, suc, _+_, _*_}
 use mathlib.Core.List.{List, [], _∷_, _++_}
 use lib.ListN.{length, getD}
 use Rattle.words.specs.Choice.{if_then_else_}
@@ -44,6 +44,20 @@ trailerSize = 8
 
 abbrev pub tailSize : ℕ
 tailSize = settingsSize + trailerSize
+
+-- the longest sheet: sixteen seats, each with an identity of 62 octets
+abbrev pub longestSheet : ℕ
+longestSheet = 16 * (seatHead + 62) + tailSize
+
+-- where things stand in a seat, behind its flags
+abbrev pub highestWithin : ℕ
+highestWithin = 1
+
+abbrev pub ssrcWithin : ℕ
+ssrcWithin = 2
+
+abbrev pub lengthWithin : ℕ
+lengthWithin = 6
 
 -- a seat as a sheet has it: what a newcomer says of itself, and its identity
 pub record Seat : Type 0 where

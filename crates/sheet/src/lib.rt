@@ -19,6 +19,13 @@ pub const TRAILER_SIZE: usize = 8;
 
 pub const TAIL_SIZE: usize = seat_octets::SETTINGS_SIZE + TRAILER_SIZE;
 
+// Where things stand in a seat, behind its flags.
+pub const HIGHEST_WITHIN: usize = 1;
+
+pub const SSRC_WITHIN: usize = 2;
+
+pub const LENGTH_WITHIN: usize = 6;
+
 // Where things stand in the trailer; the offset of the settings is its first.
 const SEATS_OFFSET: usize = 2;
 

@@ -15,7 +15,7 @@ use Rattle.events.specs.declared.Desk.{Desk}
 use Rattle.events.specs.Events.{fresh}
 use Rattle.history.specs.Doing.{Doing, Fresh, afterAll}
 use Rattle.reach.specs.Sound.{SeatsOk}
-use Rattle.sheet.specs.Layout.{Seat, seatsOf}
+use Rattle.sheet.specs.Layout.{Seat, seatsOf, longestSheet}
 use Rattle.saving.specs.declared.Saving.{Saving}
 use Rattle.saving.specs.Saving.{saving, writtenBy, Saves}
 use Rattle.loading.specs.declared.Loading.{Loading}
@@ -61,8 +61,8 @@ Lossless = (g h : Hall) (ms ns : Names) (p q : List ℕ) → saving g ms p .numb
 -- The shortest sheet has 20 octets, and the longest 1,124 (proofs/Lengths); a room as long as that is enough.
 pub record Lengths (h : Hall) (ns : Names) (room : List ℕ) : Type 0 where
   pub shortest : saving h ns room .number ≡ 0 → 20 ≤ saving h ns room .written
-  pub longest : SeatsOk h ns → saving h ns room .written ≤ 1124
-  pub enough : SeatsOk h ns → 1124 ≤ length room → saving h ns room .number ≡ 0
+  pub longest : SeatsOk h ns → saving h ns room .written ≤ longestSheet
+  pub enough : SeatsOk h ns → longestSheet ≤ length room → saving h ns room .number ≡ 0
 
 abbrev pub AllLengths : Type 0
 AllLengths = (h : Hall) (ns : Names) (room : List ℕ) → Lengths h ns room

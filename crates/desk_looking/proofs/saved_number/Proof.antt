@@ -1,6 +1,6 @@
 -- `desk_looking::saved_number` keeps its promise, `r ≡ signed (savedAnswer (savingAnswer saving))`. Assumes nothing.
 use Rattle.words.specs.Choice.{if_then_else_}
-use Rattle.desk_looking.proofs.Signed.{passed}
+use Rattle.signed.proofs.Signed.{passed}
 use mathlib.Core.Path.{_∙_}
 use native.Mathlib.Omega.{arith}
 use borrow.Author.Needs.{needs}

@@ -1,5 +1,5 @@
 -- `desk_looking::seat_number` keeps its promise, `r ≡ signed (seatAnswer seat)`. Assumes nothing.
-use Rattle.desk_looking.proofs.Signed.{passed}
+use Rattle.signed.proofs.Signed.{passed}
 use mathlib.Core.Path.{_∙_}
 use borrow.Author.Needs.{needs}
 use Rattle.desk_looking.proofs.seat_number.Statement.{statement}

@@ -5,7 +5,7 @@ use lib.ListN.{length}
 use Prim.Native.Nat.{_*_, _≤_, _<_}
 use Rattle.desk_looking.specs.Looking.{screened}
 use borrow.Author.Tests.{lt-leb, le-leb}
-use Rattle.desk_looking.proofs.Signed.{passed, pair-same}
+use Rattle.signed.proofs.Signed.{passed, pair-same}
 use Rattle.words.specs.Choice.{if-yes, if-no}
 use mathlib.Core.Path.{refl, sym, _∙_, ap}
 use native.Mathlib.Omega.{arith}

@@ -2,9 +2,9 @@
 -- nothing.
 use Rattle.outgoing.specs.Outgoing.{outgoing}
 use lib.ListN.{length}
-use Rattle.desk_looking.specs.Looking.{signed}
+use Rattle.signed.specs.Signed.{signed}
 use Rattle.desk_looking.proofs.Short.{sending-short}
-use Rattle.desk_looking.proofs.Signed.{passed, pair-same}
+use Rattle.signed.proofs.Signed.{passed, pair-same}
 use mathlib.Core.Path.{_∙_, ap}
 use borrow.Author.Needs.{needs}
 use Rattle.desk_looking.proofs.tell.Statement.{statement}

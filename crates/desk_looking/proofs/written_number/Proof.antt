@@ -1,7 +1,7 @@
 -- `desk_looking::written_number` keeps its promise, `r ≡ signed (writingAnswer answer)`. A packet has at most 440 octets. Assumes nothing.
 use lib.IntN.{pos, negℤ}
 use Prim.Native.Nat.{ℕ}
-use Rattle.desk_looking.proofs.Signed.{passed}
+use Rattle.signed.proofs.Signed.{passed}
 use mathlib.Core.Path.{_∙_, ap}
 use native.Mathlib.Omega.{arith}
 use borrow.Author.Needs.{needs}

@@ -1,4 +1,4 @@
--- `desk_making::in_octets` keeps its promise, `r ≡ inOctets level limit c7 c20 duration`. Assumes nothing.
+-- `desk_making::in_octets` keeps its promise, `r ≡ inOctets (narrowed wide)`. Assumes nothing.
 use Rattle.desk_making.specs.Making.{inOctets}
 use mathlib.Core.Path.{refl}
 use Rattle.desk_making.proofs.in_octets.Statement.{statement}

@@ -1,33 +1,39 @@
 -- `desk_steps::settle` meets its contract. Assumes nothing.
-use mathlib.Core.Path.{sym}
+use mathlib.Core.Path.{sym, _∙_}
 use borrow.Author.Tests.{ne-eqb, eq-eqb, lt-leb, le-leb}
 use borrow.Author.Needs.{needs}
 use Rattle.desk_octets.proofs.Facts.{octets-lent}
 use Rattle.desk_octets.proofs.Forth.{core-written}
 use Rattle.desk_test.proofs.Desks.{fits, has-room}
+use Rattle.signed.proofs.Signed.{passed}
 use Rattle.desk_steps.specs.Steps.{outcomeOn, stepOn}
-use Rattle.desk_steps.proofs.Steps.{refused-so, no-room-so, done-so}
+use Rattle.desk_steps.proofs.Steps.{same-leaves, refused-so, no-room-so, done-so}
 use Rattle.desk_steps.proofs.settle.Statement.{statement}
 use Rattle.desk_steps.proofs.settle.Tie as tie
 
 number-of-requires : tie.Need-number-of-requires
 number-of-requires c κs = search needs
 
-cast-result : tie.Need-cast-result
-cast-result c = search needs
+refusal-requires : tie.Need-refusal-requires
+refusal-requires c κs = search needs
+
+refusal-requires-2 : tie.Need-refusal-requires-2
+refusal-requires-2 c κs = search needs
 
 returns : tie.Need-returns
 unfolding outcomeOn stepOn
 returns c =
-    rw (← (c .before .number-of .ensures))
-    (sym (refused-so _ (c .before .before .before .before .pre) _ _ _ _ (ne-eqb _ _ (c .if1 .taken))))
+    same-leaves (passed (c .refusal .ok) ∙ c .refusal .ensures)
+    ∙ rw (← (c .before .before .number-of .ensures))
+    (sym (refused-so _ (c .before .before .before .before .before .pre) _ _ _ _ (ne-eqb _ _ (c .before .if1 .taken))))
 
 returns-2 : tie.Need-returns-2
 unfolding outcomeOn stepOn
 returns-2 c =
-    rw (← (c .before .before .number-of .ensures))
-    (sym (no-room-so _ (c .before .before .before .before .before .pre) _ _ _ _ (eq-eqb _ _ (c .before .if1 .left))
-    (lt-leb _ _ (c .if2 .taken))))
+    same-leaves (passed (c .refusal2 .ok) ∙ c .refusal2 .ensures)
+    ∙ rw (← (c .before .before .before .number-of .ensures))
+    (sym (no-room-so _ (c .before .before .before .before .before .before .pre) _ _ _ _ (eq-eqb _ _ (c .before .before .if1 .left))
+    (lt-leb _ _ (c .before .if2 .taken))))
 
 put-report-requires : tie.Need-put-report-requires
 put-report-requires c κs = c .before .before .before .if2 .left
@@ -67,8 +73,9 @@ settle-spec =
     tie.close
     (tie.spec
     number-of-requires
-    cast-result
+    refusal-requires
     returns
+    refusal-requires-2
     returns-2
     put-report-requires
     put-core-requires

@@ -1,6 +1,7 @@
 -- `floor::floor_holder` keeps its promise, `HolderPromise (now (desk .entry)) r`. Assumes nothing.
-use Rattle.desk_looking.proofs.Signed.{passed}
-use Rattle.desk_looking.specs.Looking.{signed, holderAnswer}
+use Rattle.signed.proofs.Signed.{passed}
+use Rattle.signed.specs.Signed.{signed}
+use Rattle.desk_looking.specs.Looking.{holderSeat}
 use Rattle.steps.specs.declared.Core.{Core}
 use Rattle.desk_test.proofs.Desks.{has-room}
 use Rattle.desk_looking.proofs.Looks.{looks-so, looks-not}
@@ -15,16 +16,16 @@ is-desk-requires c κs = search needs
 core-at-requires : tie.Need-core-at-requires
 core-at-requires c κs = has-room _ (sym (c .before .is-desk .ensures) ∙ c .if1 .taken)
 
-holder-number-requires : tie.Need-holder-number-requires
-holder-number-requires c κs = search needs
+holder-seat-requires : tie.Need-holder-seat-requires
+holder-seat-requires c κs = search needs
 
 refusal-requires : tie.Need-refusal-requires
 refusal-requires c κs = search needs
 
 returns : tie.Need-returns
 returns c =
-    passed (c .holder-number .ok) ∙ c .holder-number .ensures
-    ∙ ap (λ (k : Core). signed (holderAnswer (k .phase))) (c .before .core-at .ensures)
+    passed (c .holder-seat .ok) ∙ c .holder-seat .ensures
+    ∙ ap (λ (k : Core). signed (holderSeat (k .phase))) (c .before .core-at .ensures)
     ∙ sym (looks-so _ _ (sym (c .before .before .before .is-desk .ensures) ∙ c .before .before .if1 .taken))
 
 returns-2 : tie.Need-returns-2
@@ -37,7 +38,7 @@ floor-holder-spec =
     (tie.spec
     is-desk-requires
     core-at-requires
-    holder-number-requires
+    holder-seat-requires
     refusal-requires
     returns
     returns-2)

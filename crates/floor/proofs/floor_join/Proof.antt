@@ -2,7 +2,8 @@
 -- (now (desk .exit))`. Takes the lowest free seat. Assumes nothing.
 use Rattle.desk_test.proofs.Desks.{has-room}
 use Rattle.words.specs.Choice.{if-yes, if-no}
-use mathlib.Core.Path.{sym, _∙_}
+use Rattle.signed.proofs.Signed.{passed, pair-same}
+use mathlib.Core.Path.{refl, sym, _∙_}
 use borrow.Author.Needs.{needs}
 use Rattle.floor.proofs.floor_join.Statement.{statement}
 use Rattle.floor.proofs.floor_join.Tie as tie
@@ -31,8 +32,14 @@ join-call-requires c κs = search needs
 number-of-requires : tie.Need-number-of-requires
 number-of-requires c κs = search needs
 
+seat-taken-requires : tie.Need-seat-taken-requires
+seat-taken-requires c κs = search needs
+
 write-desk-requires : tie.Need-write-desk-requires
 write-desk-requires c κs = search needs
+
+refusal-requires : tie.Need-refusal-requires
+refusal-requires c κs = search needs
 
 same-length : tie.Need-same-length
 same-length c = search needs
@@ -40,25 +47,29 @@ same-length c = search needs
 returns : tie.Need-returns
 returns c =
     rw (
-      ← (c .before .before .before .before .before .before .before .before .before .before .before .before .core-at .ensures),
-      ← (c .before .before .before .before .before .before .before .before .before .before .hall-at .ensures),
-      ← (c .before .before .before .before .before .before .before .before .names-at .ensures),
-      ← (c .before .before .before .before .before .before .before .before .before .before .before .before .before .before .newcomer-of
-          .ensures),
-      ← (c .before .before .before .before .before .before .before .join-call .ensures),
-      ← (c .before .before .before .number-of .ensures),
+      ← (c .before .before .before .before .before .before .before .before .before .before .before .before .before .core-at .ensures),
+      ← (c .before .before .before .before .before .before .before .before .before .before .before .hall-at .ensures),
+      ← (c .before .before .before .before .before .before .before .before .before .names-at .ensures),
+      ← (c .before .before .before .before .before .before .before .before .before .before .before .before .before .before .before
+          .newcomer-of .ensures),
+      ← (c .before .before .before .before .before .before .before .before .join-call .ensures),
+      ← (c .before .before .before .before .before .number-of .ensures),
+      ← (c .before .before .before .seat-taken .ensures),
     )
-    (c .before .before .write-desk .ensures
+    (pair-same (passed (c .before .before .write-desk .ok)) refl ∙ c .before .before .write-desk .ensures
     ∙ sym (if-yes _ _ _ (sym
     (c .before .before .before .before .before .before .before .before .before .before .before .before .before .before .before .before
-    .is-desk .ensures) ∙ c .before .before .before .before .before .before .before .before .before .before .before .before .before .before
-    .before .if1 .taken)))
+    .before .is-desk .ensures)
+    ∙ c .before .before .before .before .before .before .before .before .before .before .before .before .before .before .before .before
+    .if1 .taken)))
 
 same-length-2 : tie.Need-same-length-2
 same-length-2 c = search needs
 
 returns-2 : tie.Need-returns-2
-returns-2 c = sym (if-no _ _ _ (sym (c .before .is-desk .ensures) ∙ c .if1 .left))
+returns-2 c =
+    pair-same (passed (c .refusal .ok) ∙ c .refusal .ensures) refl
+    ∙ sym (if-no _ _ _ (sym (c .before .before .is-desk .ensures) ∙ c .before .if1 .left))
 
 pub floor-join-spec : {M : Type 1} → statement M
 floor-join-spec =
@@ -71,7 +82,9 @@ floor-join-spec =
     names-at-requires
     join-call-requires
     number-of-requires
+    seat-taken-requires
     write-desk-requires
+    refusal-requires
     same-length
     returns
     same-length-2

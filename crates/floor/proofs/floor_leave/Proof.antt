@@ -1,7 +1,8 @@
 -- `floor::floor_leave` keeps its promise, `LeavePromise (now (desk .entry)) seat (now (report .entry)) r (now (desk .exit)) (now (report
 -- .exit))`. A seat leaves. Assumes nothing.
+use Rattle.signed.proofs.Signed.{passed}
 use Rattle.desk_test.proofs.Desks.{has-room}
-use Rattle.desk_steps.proofs.Steps.{no-desk-so}
+use Rattle.desk_steps.proofs.Steps.{same-leaves, no-desk-so}
 use Rattle.desk_steps.specs.Steps.{outcomeOn}
 use mathlib.Core.Path.{sym, _∙_}
 use borrow.Author.Needs.{needs}
@@ -33,6 +34,9 @@ settle-outcome-requires c κs =
     sym (c .before .before .before .before .before .before .before .before .before .before .before .is-desk .ensures)
     ∙ c .before .before .before .before .before .before .before .before .before .before .if1 .taken
 
+refusal-requires : tie.Need-refusal-requires
+refusal-requires c κs = search needs
+
 same-length : tie.Need-same-length
 same-length c = search needs
 
@@ -48,14 +52,17 @@ returns c =
       ← (c .before .before .before .before .before .before .before .before .seat-numbered .ensures),
       ← (c .before .before .before .before .before .before .before .leave-call .ensures),
     )
-    (c .before .before .before .before .settle-outcome .ensures)
+    (same-leaves (passed (c .before .before .before .before .settle-outcome .ok))
+    ∙ c .before .before .before .before .settle-outcome .ensures)
 
 same-length-3 : tie.Need-same-length-3
 same-length-3 c = search needs
 
 returns-2 : tie.Need-returns-2
 unfolding outcomeOn
-returns-2 c = sym (no-desk-so _ _ _ _ _ (sym (c .before .is-desk .ensures) ∙ c .if1 .left))
+returns-2 c =
+    same-leaves (passed (c .refusal .ok) ∙ c .refusal .ensures)
+    ∙ sym (no-desk-so _ _ _ _ _ (sym (c .before .before .is-desk .ensures) ∙ c .before .if1 .left))
 
 pub floor-leave-spec : {M : Type 1} → statement M
 floor-leave-spec =
@@ -68,6 +75,7 @@ floor-leave-spec =
     seat-numbered-requires
     leave-call-requires
     settle-outcome-requires
+    refusal-requires
     same-length
     same-length-2
     returns

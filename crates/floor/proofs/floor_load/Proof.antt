@@ -1,5 +1,7 @@
 -- `floor::floor_load` keeps its promise, `LoadPromise (now (desk .entry)) (now (sheet .entry)) r (now (desk .exit))`. Makes a fresh desk
 -- from a sheet. Assumes nothing.
+use Rattle.signed.proofs.Signed.{passed, pair-same}
+use mathlib.Core.Path.{refl, _∙_}
 use borrow.Author.Needs.{needs}
 use Rattle.floor.proofs.floor_load.Statement.{statement}
 use Rattle.floor.proofs.floor_load.Tie as tie
@@ -21,7 +23,7 @@ returns c =
     rw (
       ← (c .before .before .before .before .before .before .before .before .load .ensures),
       ← (c .before .before .before .before .verdict-number .ensures),
-    ) (c .before .before .write-desk .ensures)
+    ) (pair-same (passed (c .before .before .write-desk .ok)) refl ∙ c .before .before .write-desk .ensures)
 
 pub floor-load-spec : {M : Type 1} → statement M
 floor-load-spec =

@@ -2,7 +2,7 @@
 -- (room .exit))`. A report's message as its packet. Assumes nothing.
 use borrow.Author.Tests.{not-true, not-false}
 use Rattle.desk_test.proofs.Desks.{has-room}
-use Rattle.desk_looking.proofs.Signed.{passed, pair-same}
+use Rattle.signed.proofs.Signed.{passed, pair-same}
 use Rattle.words.specs.Choice.{if-yes, if-no}
 use mathlib.Core.Path.{refl, sym, _∙_}
 use borrow.Author.Needs.{needs}

@@ -1,5 +1,5 @@
 -- `floor::floor_phase` keeps its promise, `PhasePromise (now (desk .entry)) r`. Assumes nothing.
-use Rattle.desk_looking.proofs.Signed.{passed}
+use Rattle.signed.proofs.Signed.{passed}
 use Rattle.steps.specs.declared.Core.{Core}
 use Rattle.desk_octets.specs.Form.{kindOctet}
 use lib.IntN.{pos}

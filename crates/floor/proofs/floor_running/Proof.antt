@@ -1,6 +1,6 @@
 -- `floor::floor_running` keeps its promise, `RunningPromise (now (desk .entry)) r`. Assumes nothing.
-use Rattle.desk_looking.proofs.Signed.{passed}
-use Rattle.desk_looking.specs.Looking.{timerSet}
+use Rattle.signed.proofs.Signed.{passed}
+use Rattle.clocks_looking.specs.ClockSets.{timerSet}
 use Rattle.timers.specs.Timers.{running}
 use Rattle.steps.specs.declared.Core.{Core}
 use lib.IntN.{pos}

@@ -1,7 +1,7 @@
 -- `floor::floor_save` keeps its promise, `SavePromise (now (desk .entry)) (now (room .entry)) r (now (room .exit))`. Saves seats and
 -- settings. Assumes nothing.
 use Rattle.desk_test.proofs.Desks.{has-room}
-use Rattle.desk_looking.proofs.Signed.{passed, pair-same}
+use Rattle.signed.proofs.Signed.{passed, pair-same}
 use Rattle.words.specs.Choice.{if-yes, if-no}
 use mathlib.Core.Path.{refl, sym, _∙_}
 use borrow.Author.Needs.{needs}

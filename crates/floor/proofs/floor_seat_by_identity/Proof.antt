@@ -1,6 +1,6 @@
 -- `floor::floor_seat_by_identity` keeps its promise, `SeatByIdentityPromise (now (desk .entry)) (now (identity .entry)) r`. Assumes
 -- nothing.
-use Rattle.desk_looking.proofs.Signed.{passed}
+use Rattle.signed.proofs.Signed.{passed}
 use Rattle.desk_test.proofs.Desks.{has-room}
 use Rattle.desk_looking.proofs.Looks.{looks-so, looks-not}
 use mathlib.Core.Path.{sym, _∙_}

@@ -1,5 +1,5 @@
 -- `floor::floor_seat_by_ssrc` keeps its promise, `SeatBySsrcPromise (now (desk .entry)) ssrc r`. Assumes nothing.
-use Rattle.desk_looking.proofs.Signed.{passed}
+use Rattle.signed.proofs.Signed.{passed}
 use Rattle.desk_test.proofs.Desks.{has-room}
 use Rattle.desk_looking.proofs.Looks.{looks-so, looks-not}
 use mathlib.Core.Path.{sym, _∙_}

@@ -1,5 +1,5 @@
 -- `floor::floor_seats` keeps its promise, `SeatsPromise (now (desk .entry)) r`. Assumes nothing.
-use Rattle.desk_looking.proofs.Signed.{passed}
+use Rattle.signed.proofs.Signed.{passed}
 use Rattle.report_octets.specs.Report.{maskOf}
 use Rattle.hall.specs.declared.Hall.{Hall}
 use lib.IntN.{pos}

@@ -2,9 +2,9 @@
 -- .exit))`. Writes a message as a packet. Assumes nothing.
 use Rattle.message_octets.specs.Held.{heldAt}
 use lib.ListN.{length}
-use Rattle.desk_looking.specs.Looking.{signed}
+use Rattle.signed.specs.Signed.{signed}
 use Rattle.desk_looking.proofs.Short.{held-short}
-use Rattle.desk_looking.proofs.Signed.{passed, pair-same}
+use Rattle.signed.proofs.Signed.{passed, pair-same}
 use mathlib.Core.Path.{_∙_, ap}
 use borrow.Author.Needs.{needs}
 use Rattle.floor.proofs.floor_write.Statement.{statement}
