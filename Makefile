@@ -73,8 +73,9 @@ $(TEXT): bench/floor_text.c $(HEADERS) | $(OUT)
 
 # ---- programs ----
 
-$(OUT)/floorplay $(OUT)/thursday: $(OUT)/%: bench/%.c $(HEADERS) $(TEXT) $(ARCHIVE) | $(OUT)
-	$(COMPILE) $< $(TEXT) $(ARCHIVE) -o $@
+$(OUT)/floorplay: bench/words.c bench/words.h
+$(OUT)/floorplay $(OUT)/thursday: $(OUT)/%: bench/%.c bench/usage.h $(HEADERS) $(TEXT) $(ARCHIVE) | $(OUT)
+	$(COMPILE) $(filter %.c,$^) $(TEXT) $(ARCHIVE) -o $@
 
 $(OUT)/server: examples/server.c include/floor.h $(ARCHIVE) | $(OUT)
 	$(COMPILE) $< $(ARCHIVE) -o $@

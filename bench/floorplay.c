@@ -1,6 +1,7 @@
 /* floorplay [FILE]: plays a script of events on a desk and prints one line for each, as second/FORMAT.md says.
- * A teacher writes exercises in it and keeps them as files; scripts/thursday.script is one.
- * Exit status 0 if the script was read to its end and every answer was written; else 1, and standard error says why. */
+ * A teacher writes exercises in it and keeps them as files; scripts/words.script is one.
+ * Exit status 0 if the script was read to its end and every answer was written; 1 if not, and standard error says why; 2 if it is called in
+ * another way. */
 #define _POSIX_C_SOURCE 200809L /* getline */
 #include <errno.h>
 #include <floor_text.h>
@@ -9,6 +10,9 @@
 #include <stdio.h>
 #include <stdlib.h>
 #include <string.h>
+
+#include "usage.h"
+#include "words.h"
 
 #define MOST_WORDS 20
 
@@ -559,11 +563,17 @@ static int cut(char *line, char ***words)
 /* One line of the script, `length` octets and a zero behind them. A comment may hold anything, octets of zero too. */
 static void play_line(char *line, size_t length)
 {
-    char **words;
+    char **words, figures[WORDS_ROOM];
+    const char *why;
     if (line[strspn(line, blanks)] == '#')
         return;
     if (memchr(line, 0, length)) {
         malformed("an octet of zero");
+        return;
+    }
+    line = words_in_figures(has_desk ? &desk : NULL, line, figures, &why);
+    if (!line) {
+        malformed(why);
         return;
     }
     int n = cut(line, &words);
@@ -589,8 +599,32 @@ static int play_script(FILE *script, const char *name)
     return fflush(stdout) == 0 ? 0 : failed("standard output");
 }
 
+static const char usage[] = "usage: floorplay [FILE]\n";
+static const char help[] =
+    "Plays a script of events on a floor control desk, from FILE or from standard\n"
+    "input, and prints one line for each event: what was answered, the messages with\n"
+    "who gets them, the marks, and the desk.\n"
+    "\n"
+    "Example: with these lines in a file exercise.script\n"
+    "\n"
+    "    # a desk, two handsets, and a call in which both ask for the floor\n"
+    "    make ssrc 1 level 200 limit 2 c7 2 c20 2 duration 30\n"
+    "    join \"test1\" 10 255 queueing\n"
+    "    join \"test2\" 11 255 queueing\n"
+    "    start\n"
+    "    ask \"test1\" 5\n"
+    "    ask \"test2\" 5\n"
+    "    talk \"test1\"\n"
+    "    release \"test1\"\n"
+    "\n"
+    "floorplay exercise.script plays them. second/FORMAT.md has every line that a\n"
+    "script can have, and every part of an answer.\n";
+
 int main(int argc, char **argv)
 {
+    int told = told_usage(argc, argv, 1, usage, help);
+    if (told >= 0)
+        return told;
     const char *name = argc > 1 ? argv[1] : "standard input";
     FILE *script = argc > 1 ? fopen(name, "r") : stdin;
     if (!script)

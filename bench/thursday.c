@@ -6,6 +6,8 @@
 #include <stdlib.h>
 #include <string.h>
 
+#include "usage.h"
+
 static struct floor_desk desk;
 static struct floor_report report;
 
@@ -85,8 +87,20 @@ static void open_the_call(void)
     show("a", "the call starts");
 }
 
-int main(void)
+static const char usage[] = "usage: thursday\n";
+static const char help[] =
+    "Plays Thursday's exercise on a floor control desk, and prints for each event the\n"
+    "messages with who gets them, as people read them and as packets, and the wall.\n"
+    "\n"
+    "Example: what goes out to the handsets and what the wall shows, a page at a time\n"
+    "\n"
+    "    thursday | less\n";
+
+int main(int argc, char **argv)
 {
+    int told = told_usage(argc, argv, 0, usage, help);
+    if (told >= 0)
+        return told;
     open_the_call();
     asks(0, 5); show("b", "0 asks 5");
     asks(1, 5); show("c", "1 asks 5");

@@ -6,6 +6,7 @@
 #include <poll.h>
 #include <stdio.h>
 #include <stdlib.h>
+#include <string.h>
 #include <time.h>
 
 enum { TICK = 10, SECOND = 1000, DURATION = 30 };             /* milliseconds twice; seconds of talk */
@@ -67,8 +68,19 @@ static void take_packet(const uint8_t *packet, size_t n, const struct sockaddr_i
     settle(answer, FLOOR_TIMER_NONE, now);
 }
 
+static int told_usage(const char *word)                       /* the exit status */
+{
+    int asked = strcmp(word, "--help") == 0 || strcmp(word, "-h") == 0;
+    fputs("usage: server [PORT]\n", asked ? stdout : stderr);
+    if (asked)
+        puts("Serves sixteen handsets over UDP, by default at port 5004.\n\nExample: at another port, to be ended with Ctrl-C\n\n    server 5006");
+    return !asked ? 2 : fflush(stdout) == 0 ? 0 : 1;
+}
+
 int main(int argc, char **argv)
 {
+    if (argc > 2 || (argc == 2 && atoi(argv[1]) <= 0))
+        return told_usage(argc > 2 ? "" : argv[1]);
     struct sockaddr_in from = {.sin_family = AF_INET, .sin_port = htons((uint16_t)atoi(argc > 1 ? argv[1] : "5004"))};
     uint8_t packet[FLOOR_PACKET_IN + 1];
     struct timespec time;

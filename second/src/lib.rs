@@ -19,3 +19,5 @@ pub mod settings;
 pub mod sheet;
 mod slices;
 pub mod timers;
+pub mod usage;
+pub mod words;

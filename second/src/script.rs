@@ -11,6 +11,7 @@ use crate::report::{How, Notice, Report};
 use crate::seats::{Seat, Seats, SEATS};
 use crate::settings::{Settings, Wishes};
 use crate::sheet;
+use crate::words::{self, Saying, Word};
 
 /// One line of a script, understood.
 #[derive(Clone, Debug, PartialEq, Eq)]
@@ -52,7 +53,9 @@ enum DraftField {
 }
 
 /// Why a line was not understood.
-type Reason = &'static str;
+pub(crate) type Reason = &'static str;
+
+pub(crate) const NOT_A_COMMAND: Reason = "not a command with these words";
 
 /// Plays a script. It holds the desk that the last `make` or `load` made, if any.
 #[derive(Clone, Debug, Default)]
@@ -71,12 +74,24 @@ impl Player {
 
     /// The answer to one line, or nothing for a blank line or a comment.
     pub fn answer(&mut self, line: &[u8]) -> Option<String> {
-        let words: Vec<&[u8]> = words(line).collect();
-        if words.first()?.starts_with(b"#") {
+        let first = line.iter().find(|&&octet| !words::is_blank(octet))?;
+        if *first == b'#' {
             return None;
         }
-        let answer = understand(&words).and_then(|command| self.obey(command));
+        let answer = self.heard(line).and_then(|command| self.obey(command));
         Some(answer.unwrap_or_else(|reason| format!("? {reason}")))
+    }
+
+    /// What a line asks for: in figures if it can be taken so, else in words.
+    fn heard(&self, line: &[u8]) -> Result<Command, Reason> {
+        let words = words::split(line)?;
+        in_figures(&words).or_else(|reason| {
+            let said = words::understand(&words, self.desk()).unwrap_or(Err(reason))?;
+            Ok(match said {
+                Saying::Make(wishes) => Command::Make(wishes),
+                Saying::Step(event) => Command::Step(event),
+            })
+        })
     }
 
     fn obey(&mut self, command: Command) -> Result<String, Reason> {
@@ -120,9 +135,13 @@ fn or_refusal(result: Result<String, Refusal>) -> String {
 
 // Understanding a line.
 
-fn words(line: &[u8]) -> impl Iterator<Item = &[u8]> {
-    let is_space = |octet: &u8| matches!(octet, b' ' | b'\t' | b'\r' | b'\n');
-    line.split(is_space).filter(|word| !word.is_empty())
+/// A line that has nothing in quotes.
+fn in_figures(words: &[Word<'_>]) -> Result<Command, Reason> {
+    let bare = words.iter().map(|word| match *word {
+        Word::Bare(octets) => Ok(octets),
+        Word::Quoted(_) => Err(NOT_A_COMMAND),
+    });
+    understand(&bare.collect::<Result<Vec<_>, _>>()?)
 }
 
 fn understand(words: &[&[u8]]) -> Result<Command, Reason> {
@@ -173,12 +192,12 @@ fn understand_event(name: &[u8], rest: &[&[u8]]) -> Result<Event, Reason> {
         (b"packet", &[octets]) => Ok(Event::Packet(hexadecimal(octets)?)),
         (b"media", &[ssrc]) => Ok(Event::Media(number(ssrc)?)),
         (b"timer", &[timer]) => Ok(Event::TimeUp(number(timer)?)),
-        _ => Err("not a command with these words"),
+        _ => Err(NOT_A_COMMAND),
     }
 }
 
 /// A decimal number that fits its type.
-fn number<Number: TryFrom<u32>>(word: &[u8]) -> Result<Number, Reason> {
+pub(crate) fn number<Number: TryFrom<u32>>(word: &[u8]) -> Result<Number, Reason> {
     if word.is_empty() {
         return Err("a number is missing");
     }
@@ -190,7 +209,7 @@ fn number<Number: TryFrom<u32>>(word: &[u8]) -> Result<Number, Reason> {
     fitting.ok_or("not a number, or too large a one")
 }
 
-fn flag(word: &[u8]) -> Result<bool, Reason> {
+pub(crate) fn flag(word: &[u8]) -> Result<bool, Reason> {
     match word {
         b"0" => Ok(false),
         b"1" => Ok(true),
@@ -198,7 +217,7 @@ fn flag(word: &[u8]) -> Result<bool, Reason> {
     }
 }
 
-fn hexadecimal(word: &[u8]) -> Result<Vec<u8>, Reason> {
+pub(crate) fn hexadecimal(word: &[u8]) -> Result<Vec<u8>, Reason> {
     hex::octets(word).ok_or("not octets in hexadecimal")
 }
 

@@ -11,6 +11,7 @@ fn order(seed: u64, count: usize) -> Order {
         count,
         wrap: false,
         write: false,
+        figures: false,
     }
 }
 
@@ -284,16 +285,89 @@ fn any_octets_at_all_get_an_answer() {
     let mut dice = Dice::new(600);
     let mut player = Player::new();
     player.answer(b"make 1 200 2 2 2 30");
+    player.answer(b"join \"0\" 10 255 queueing");
     let names = [
-        "make", "load", "join", "packet", "read", "write", "timer", "leave", "screen",
+        "make", "load", "join", "packet", "read", "write", "timer", "leave", "screen", "ask",
+        "release", "place", "talk",
     ];
     for _ in 0..20_000 {
         let length = dice.below(60);
         let mut line = dice.any_of(names).as_bytes().to_vec();
         line.push(b' ');
-        line.extend((0..length).map(|_| dice.any_of(*b"0123456789abcdef --=,  \x00\xff")));
+        line.extend((0..length).map(|_| dice.any_of(*b"0123456789abcdef --=,  \"\"\\\x00\xff")));
         assert!(player.answer(&line).is_some());
     }
+}
+
+#[test]
+fn what_happens_is_the_same_in_words_and_in_figures() {
+    for seed in 700..704 {
+        let words = Order {
+            write: true,
+            ..order(seed, 20_000)
+        };
+        let figures = Order {
+            figures: true,
+            ..words
+        };
+        let (words, figures) = (played(words), played(figures));
+        assert_eq!(words.len(), figures.len());
+        let mut said = BTreeMap::<&str, usize>::new();
+        for ((line, answer), (meant, other)) in words.iter().zip(&figures) {
+            assert_eq!(answer, other, "seed {seed}, {line} for {meant}");
+            if line != meant {
+                let figures = ["make", "join", "leave", "media", "packet"];
+                assert!(
+                    figures.iter().any(|name| meant.starts_with(name)),
+                    "{meant}"
+                );
+                *said
+                    .entry(line.split(' ').next().unwrap_or(""))
+                    .or_default() += 1;
+            }
+        }
+        // A share of the script, and each kind of line often enough.
+        let share = said.values().sum::<usize>() * 100 / words.len();
+        assert!((15..25).contains(&share), "seed {seed}: {share} percent");
+        for command in ["make", "join", "leave", "ask", "release", "place", "talk"] {
+            let times = said.get(command).copied().unwrap_or(0);
+            assert!(times >= 50, "seed {seed}: {times} of {command}");
+        }
+        assert!(figures.iter().any(|(line, _)| line.starts_with("packet ")));
+        assert!(words.iter().any(|(line, _)| line.starts_with("packet ")));
+    }
+}
+
+#[test]
+fn the_formats_table_of_words_is_true() {
+    let page = include_str!("../FORMAT.md");
+    let mut desk = Player::new();
+    for line in include_str!("../../scripts/words.script").lines() {
+        desk.answer(line.as_bytes());
+        if line == "start" {
+            break;
+        }
+    }
+    let mut rows = 0;
+    let section = page.split("\n## Lines in words\n").nth(1);
+    let section = section.and_then(|text| text.split("\n## ").next());
+    let lines = section.expect("the section").lines();
+    for row in lines.filter(|line| line.starts_with("| `")) {
+        let cells: Vec<&str> = row.trim_matches('|').split(" | ").map(str::trim).collect();
+        let (words, figures) = match cells[..] {
+            [words, figures, _] => (words.trim_matches('`'), figures.trim_matches('`')),
+            _ => panic!("not a row of three: {row}"),
+        };
+        let after = |line: &str| {
+            let mut player = desk.clone();
+            let answer = player.answer(line.as_bytes()).expect("an answer");
+            assert!(!answer.starts_with('?'), "{line}: {answer}");
+            (answer, player.answer(b"save"), player.desk().cloned())
+        };
+        assert_eq!(after(words), after(figures), "{row}");
+        rows += 1;
+    }
+    assert!(rows >= 19, "{rows} rows");
 }
 
 #[test]

@@ -185,15 +185,19 @@ fn row_by_row() {
 }
 
 #[test]
-fn the_script_is_answered_as_worked_out_by_hand() {
-    let script = include_str!("../../scripts/thursday.script");
+fn the_scripts_are_answered_as_worked_out_by_hand() {
     let expected = include_str!("../../scripts/thursday.expected");
-    let mut player = Player::new();
-    let answers = script
-        .lines()
-        .filter_map(|line| player.answer(line.as_bytes()));
-    assert_eq!(
-        answers.collect::<Vec<_>>(),
-        expected.lines().collect::<Vec<_>>()
-    );
+    let in_figures = include_str!("../../scripts/thursday.script");
+    let in_words = include_str!("../../scripts/words.script");
+    assert!(!in_words.contains("packet"));
+    for script in [in_figures, in_words] {
+        let mut player = Player::new();
+        let answers = script
+            .lines()
+            .filter_map(|line| player.answer(line.as_bytes()));
+        assert_eq!(
+            answers.collect::<Vec<_>>(),
+            expected.lines().collect::<Vec<_>>()
+        );
+    }
 }

@@ -7,6 +7,7 @@ mod dice;
 mod papers;
 mod parcel;
 mod people;
+mod wording;
 
 use std::collections::VecDeque;
 
@@ -26,6 +27,9 @@ const LONG: usize = 100_000;
 const RUN_BEGINS: &str = "# the run begins";
 const RUN_ENDS: &str = "# the run ends";
 
+/// Of a hundred lines that can be said in words, so many are.
+const IN_WORDS: usize = 40;
+
 /// What a script is made for.
 #[derive(Clone, Copy, Debug)]
 pub struct Order {
@@ -36,12 +40,16 @@ pub struct Order {
     pub wrap: bool,
     /// Use the `write` command too.
     pub write: bool,
+    /// Say no line in words that can be said in figures.
+    pub figures: bool,
 }
 
 /// The lines of a script, one after the other.
 pub struct Maker {
     order: Order,
     dice: Dice,
+    /// Decides on the words alone, so that the same things happen in words and in figures.
+    wording: Dice,
     player: Player,
     /// How many lines were answered, those of the run aside.
     answered: usize,
@@ -121,12 +129,12 @@ const ACTS: [(usize, Act); 32] = [
     (2, Act::LoadSound),
     (40, Act::LoadDamaged),
     (20, Act::BadMake),
-    (8, Act::Malformed),
+    (12, Act::Malformed),
     (8, Act::OddSpelling),
     (6, Act::Comment),
 ];
 
-const MALFORMED: [&str; 34] = [
+const MALFORMED: [&str; 72] = [
     "make",
     "make 1 2 3 4 5",
     "make 1 2 3 4 5 6 7",
@@ -161,6 +169,45 @@ const MALFORMED: [&str; 34] = [
     "timer T1",
     "rewrite",
     "floor",
+    // In words. Some name a seat or an identity that may be there, and then they are in order.
+    "ask",
+    "ask 0 256",
+    "ask 0 -1",
+    "ask 0 5 5",
+    "ask 15",
+    "ask 12 5",
+    "ask 16 5",
+    "ask 4294967296",
+    "ask -",
+    "ask test1 5",
+    "ask 7465737431 5",
+    "ask \"test1\" 5",
+    "ask \"test1 \" 5",
+    "ask \"Test1\" 255",
+    "ask \"nobody\" 5",
+    "ask \"\" 5",
+    "ask \"test1 5",
+    "ask \"test1\"5",
+    "ask \"te\"st1\" 5",
+    "ask \"test1\\\" 5",
+    "ask \"test\t1\" 5",
+    "ask 0 \"5\"",
+    "Ask 0 5",
+    "release",
+    "release 15",
+    "release \"test10\" 5",
+    "place 13",
+    "place \"TEST1\"",
+    "talk",
+    "talk 14",
+    "talk \"test2\"",
+    "leave \"nobody\"",
+    "leave \"test1\" \"test2\"",
+    "join \"a\" 1 255 queueing queueing",
+    "join \"a\" 1 255 queueing 0",
+    "join \"a\" \"1\" 255 queueing",
+    "make ssrc 1 level 2 limit 3 c7 4 c20 5",
+    "make ssrc 1 level 2 limit 3 c7 4 c20 5 c20 6",
 ];
 
 impl Maker {
@@ -168,6 +215,7 @@ impl Maker {
         let mut maker = Maker {
             order,
             dice: Dice::new(order.seed),
+            wording: Dice::new(!order.seed),
             player: Player::new(),
             answered: 0,
             in_run: false,
@@ -180,9 +228,13 @@ impl Maker {
         maker
     }
 
-    /// Adds a line to the script, and plays it.
+    /// Adds a line to the script, in words at times, and plays it.
     fn say(&mut self, line: impl Into<String>) {
-        let line = line.into();
+        let mut line = line.into();
+        if !self.order.figures && self.wording.chance(IN_WORDS) {
+            let words = wording::in_words(&line, self.player.desk(), &mut self.wording);
+            line = words.unwrap_or(line);
+        }
         if self.player.answer(line.as_bytes()).is_some() && !self.in_run {
             self.answered += 1;
             self.call_left = self.call_left.saturating_sub(1);
@@ -555,6 +607,10 @@ impl Maker {
             }
             Act::LoadDamaged => self.load_damaged(),
             Act::BadMake => self.bad_make(),
+            Act::Malformed if self.dice.chance(30) => {
+                let line = wording::jumble(&mut self.dice);
+                self.say(line);
+            }
             Act::Malformed => {
                 let line = self.dice.any_of(MALFORMED);
                 self.say(line);
