@@ -5,6 +5,7 @@
 #   make check       what the header promises, tested with cmocka
 #   make bench       instructions a call, beside the same work in plain C; installs what it needs of Debian's packages (tests/set-up)
 #   make clean
+#   make dist        build/floor-VERSION.tar.gz: all that a bench needs, on a machine without the kit too
 #
 # The archive is proved and compiled by the Rattle kit (`rt staticlib floor`) and links into x86-64 programs. On an x86-64 machine they
 # are compiled by its own compiler; on any other by Debian's cross compiler, and run under the emulator.
@@ -51,8 +52,10 @@ all: $(ARCHIVE) $(TEXT) $(OUT)/floorplay $(OUT)/thursday $(OUT)/server $(OUT)/fl
 
 SOURCES = $(shell find crates -name '*.rt' -o -name '*.antt') crates.txt
 
+# What the archive stands on is proved first, side by side, and said as it goes. PROVED=yes: it has just been proved, as in the gate.
 build/libfloor.a: $(SOURCES) | build
-	rt staticlib floor
+	$(if $(PROVED),,@tools/prove check $(shell sed -n 's/^floor://p' crates.txt))
+	@tools/prove staticlib floor
 	cp target/staticlib/libfloor.a $@
 
 # plain.c under the library's names; as_plain.h has the list of them.
@@ -134,6 +137,10 @@ install: $(ARCHIVE) $(TEXT) $(OUT)/floor.pc
 	install -m 644 $(HEADERS) $(DESTDIR)$(PREFIX)/include/
 	install -m 644 $(ARCHIVE) $(TEXT) $(DESTDIR)$(PREFIX)/lib/
 	install -m 644 $(OUT)/floor.pc $(DESTDIR)$(PREFIX)/lib/pkgconfig/
+
+.PHONY: dist
+dist: all
+	@tools/dist '$(OUT)' '$(VERSION)' '$(OBJCOPY)'
 
 clean:
 	rm -rf build
