@@ -52,7 +52,7 @@ pub const GRANTED: usize = 32;
 
 pub const USER: usize = 36;
 
-pub const SIZE: usize = 40;
+pub const MESSAGE_SIZE: usize = 40;
 
 // What the bit of each field is worth: 2 to the field's ID.
 pub const HAS_PRIORITY: u16 = 1;
@@ -242,7 +242,7 @@ fn put_held(room: &mut [u8], s: &[u8], kind: MessageType, starts: &[usize; 16])
     requires { ⌜ Reach (now s) (λ i. getD (now starts) i 0) ⌝ }
     ensures { λ _. ⌜ now (room .exit) ≡ over (now (room .entry)) 0 (heldOctets (reads.messageAt kind (now (s .entry)) (λ i. getD (now (starts .entry)) i 0))) ⌝ }
 {
-    copying::put_zeros(room, 0, SIZE);
+    copying::put_zeros(room, 0, MESSAGE_SIZE);
     let has = lay_first(room, s, starts);
     let has = lay_next(room, s, starts, has);
     let has = lay_parts(room, s, starts, has);
@@ -258,7 +258,7 @@ pub fn read_held(packet: &[u8], room: &mut [u8]) -> u8
     match reading::judge(packet, &mut starts) {
         Opening::Refused(r) => message::refusal_number(r),
         Opening::Of(kind) => {
-            if room.len() < SIZE {
+            if room.len() < MESSAGE_SIZE {
                 return 13;
             }
             put_held(room, packet, kind, &starts);

@@ -10,6 +10,36 @@ use message::Queue;
 use message::Refusal;
 use message::Typed;
 use message::Word;
+use message_octets::ACK;
+use message_octets::CAUSE;
+use message_octets::DURATION;
+use message_octets::FIELDS;
+use message_octets::GRANTED;
+use message_octets::HAS_CAUSE;
+use message_octets::HAS_DURATION;
+use message_octets::HAS_GRANTED;
+use message_octets::HAS_INDICATOR;
+use message_octets::HAS_MESSAGE_TYPE;
+use message_octets::HAS_PERMISSION;
+use message_octets::HAS_PRIORITY;
+use message_octets::HAS_QUEUE;
+use message_octets::HAS_SEQUENCE;
+use message_octets::HAS_SOURCE;
+use message_octets::HAS_SSRC_FIELD;
+use message_octets::HAS_USER;
+use message_octets::INDICATOR;
+use message_octets::MESSAGE_SIZE;
+use message_octets::MESSAGE_TYPE;
+use message_octets::PERMISSION;
+use message_octets::PHRASE;
+use message_octets::PRIORITY;
+use message_octets::QUEUE;
+use message_octets::SEQUENCE;
+use message_octets::SOURCE;
+use message_octets::SSRC;
+use message_octets::SSRC_FIELD;
+use message_octets::TYPE;
+use message_octets::USER;
 use writing::Writing;
 ghost use mathlib.Core.Path.{_≡_};
 ghost use mathlib.Core.Bool.{true, _&&_};
@@ -128,13 +158,13 @@ fn has_all(kind: MessageType, fields: u16) -> bool
     ensures { λ r. ⌜ r ≡ hasAll (isSet fields) (required kind) ⌝ }
 {
     let has = Has {
-        duration: is_set(fields, message_octets::HAS_DURATION),
-        cause: is_set(fields, message_octets::HAS_CAUSE),
-        queue: is_set(fields, message_octets::HAS_QUEUE),
-        granted: is_set(fields, message_octets::HAS_GRANTED),
-        sequence: is_set(fields, message_octets::HAS_SEQUENCE),
-        source: is_set(fields, message_octets::HAS_SOURCE),
-        message_type: is_set(fields, message_octets::HAS_MESSAGE_TYPE),
+        duration: is_set(fields, HAS_DURATION),
+        cause: is_set(fields, HAS_CAUSE),
+        queue: is_set(fields, HAS_QUEUE),
+        granted: is_set(fields, HAS_GRANTED),
+        sequence: is_set(fields, HAS_SEQUENCE),
+        source: is_set(fields, HAS_SOURCE),
+        message_type: is_set(fields, HAS_MESSAGE_TYPE),
     };
     message::has_required(kind, has)
 }
@@ -163,13 +193,7 @@ fn cause_fits(s: &[u8], fields: u16, src: &[u8]) -> bool
     requires { ⌜ messageSize ≤ length (now s) ⌝ }
     ensures { λ r. ⌜ r ≡ (phraseLies (now (src .entry)) (causeAt (now (s .entry)) fields) && phraseFits (causeAt (now (s .entry)) fields)) ⌝ }
 {
-    let c = cause_in(
-        s,
-        fields,
-        message_octets::HAS_CAUSE,
-        message_octets::CAUSE,
-        message_octets::PHRASE,
-    );
+    let c = cause_in(s, fields, HAS_CAUSE, CAUSE, PHRASE);
     readable::phrase_lies(c, src) && readable::phrase_fits(c)
 }
 
@@ -187,34 +211,10 @@ fn all_fit(s: &[u8], fields: u16, src: &[u8]) -> bool
     ensures { λ r. ⌜ r ≡ (lies (messageIn (now (s .entry)) fields) (now (src .entry)) && fitting (messageIn (now (s .entry)) fields)) ⌝ }
 {
     cause_fits(s, fields, src)
-        && part_fits(
-            s,
-            fields,
-            message_octets::HAS_GRANTED,
-            message_octets::GRANTED,
-            src,
-        )
-        && word_fits(
-            s,
-            fields,
-            message_octets::HAS_PERMISSION,
-            message_octets::PERMISSION,
-            5,
-        )
-        && part_fits(
-            s,
-            fields,
-            message_octets::HAS_USER,
-            message_octets::USER,
-            src,
-        )
-        && word_fits(
-            s,
-            fields,
-            message_octets::HAS_SOURCE,
-            message_octets::SOURCE,
-            10,
-        )
+        && part_fits(s, fields, HAS_GRANTED, GRANTED, src)
+        && word_fits(s, fields, HAS_PERMISSION, PERMISSION, 5)
+        && part_fits(s, fields, HAS_USER, USER, src)
+        && word_fits(s, fields, HAS_SOURCE, SOURCE, 10)
 }
 
 // Whether 40 octets hold a message that a reader would accept.
@@ -223,13 +223,13 @@ fn readable_in(s: &[u8], fields: u16, src: &[u8]) -> bool
     requires { ⌜ fields ≡ be16 (now s) fieldsPlace ⌝ }
     ensures { λ r. ⌜ r ≡ readableIn (heldAt (now (s .entry))) (now (src .entry)) ⌝ }
 {
-    if 1 < s[message_octets::ACK] {
+    if 1 < s[ACK] {
         return false;
     }
     if has_unlisted(fields) {
         return false;
     }
-    if has_required(s[message_octets::TYPE], fields) {
+    if has_required(s[TYPE], fields) {
         all_fit(s, fields, src)
     } else {
         false
@@ -250,15 +250,15 @@ fn short_size(fields: u16) -> usize
     ensures { λ r. ⌜ r ≡ shortSize fields ⌝ }
     ensures { λ r. ⌜ r ≤ 40 ⌝ }
 {
-    four_if(fields, message_octets::HAS_PRIORITY)
-        + four_if(fields, message_octets::HAS_DURATION)
-        + four_if(fields, message_octets::HAS_QUEUE)
-        + four_if(fields, message_octets::HAS_PERMISSION)
-        + four_if(fields, message_octets::HAS_SEQUENCE)
-        + four_if(fields, message_octets::HAS_SOURCE)
-        + four_if(fields, message_octets::HAS_MESSAGE_TYPE)
-        + four_if(fields, message_octets::HAS_INDICATOR)
-        + four_if(fields, message_octets::HAS_SSRC_FIELD) * 2
+    four_if(fields, HAS_PRIORITY)
+        + four_if(fields, HAS_DURATION)
+        + four_if(fields, HAS_QUEUE)
+        + four_if(fields, HAS_PERMISSION)
+        + four_if(fields, HAS_SEQUENCE)
+        + four_if(fields, HAS_SOURCE)
+        + four_if(fields, HAS_MESSAGE_TYPE)
+        + four_if(fields, HAS_INDICATOR)
+        + four_if(fields, HAS_SSRC_FIELD) * 2
 }
 
 fn part_size(s: &[u8], fields: u16, worth: u16, at: usize) -> usize
@@ -275,13 +275,7 @@ fn cause_size(s: &[u8], fields: u16) -> usize
     requires { ⌜ phraseCount (causeAt (now s) fields) ≤ 253 ⌝ }
     ensures { λ r. ⌜ r ≡ causeSize (causeAt (now (s .entry)) fields) ⌝ }
 {
-    let c = cause_in(
-        s,
-        fields,
-        message_octets::HAS_CAUSE,
-        message_octets::CAUSE,
-        message_octets::PHRASE,
-    );
+    let c = cause_in(s, fields, HAS_CAUSE, CAUSE, PHRASE);
     field_writing::cause_size(c)
 }
 
@@ -297,13 +291,8 @@ fn size_in(s: &[u8], fields: u16) -> usize
     header::HEADER
         + short_size(fields)
         + cause_size(s, fields)
-        + part_size(
-            s,
-            fields,
-            message_octets::HAS_GRANTED,
-            message_octets::GRANTED,
-        )
-        + part_size(s, fields, message_octets::HAS_USER, message_octets::USER)
+        + part_size(s, fields, HAS_GRANTED, GRANTED)
+        + part_size(s, fields, HAS_USER, USER)
 }
 
 // Lays a field out of its place in the octets, if its bit is set.
@@ -349,7 +338,7 @@ fn put_queue(room: &mut [u8], at: usize, s: &[u8], fields: u16) -> usize
     requires { ⌜ at + length (optional 3 (ofQueue (queueIf (bitOf fields 8) (getD (now s) queuePlace 0) (getD (now s) (queuePlace + 1) 0)))) ≤ length (now room) ⌝ }
     ensures { λ r. ⌜ Laid (now (room .entry)) at (optional 3 (ofQueue (queueIf (bitOf fields 8) (getD (now (s .entry)) queuePlace 0) (getD (now (s .entry)) (queuePlace + 1) 0)))) (now (room .exit)) r ⌝ }
 {
-    let q = queue_in(s, fields, message_octets::HAS_QUEUE, message_octets::QUEUE);
+    let q = queue_in(s, fields, HAS_QUEUE, QUEUE);
     field_writing::put_queue(room, at, q)
 }
 
@@ -358,12 +347,7 @@ fn put_number(room: &mut [u8], at: usize, s: &[u8], fields: u16) -> usize
     requires { ⌜ at + length (optional 14 (ofNumber (numberIf (bitOf fields 16384) (be32 (now s) ssrcFieldPlace)))) ≤ length (now room) ⌝ }
     ensures { λ r. ⌜ Laid (now (room .entry)) at (optional 14 (ofNumber (numberIf (bitOf fields 16384) (be32 (now (s .entry)) ssrcFieldPlace)))) (now (room .exit)) r ⌝ }
 {
-    let n = number_in(
-        s,
-        fields,
-        message_octets::HAS_SSRC_FIELD,
-        message_octets::SSRC_FIELD,
-    );
+    let n = number_in(s, fields, HAS_SSRC_FIELD, SSRC_FIELD);
     field_writing::put_number(room, at, n)
 }
 
@@ -395,13 +379,7 @@ fn put_cause(room: &mut [u8], at: usize, src: &[u8], s: &[u8], fields: u16) -> u
     requires { ⌜ at + length (optional 2 (ofCause (now src) (causeAt (now s) fields))) ≤ length (now room) ⌝ }
     ensures { λ r. ⌜ Laid (now (room .entry)) at (optional 2 (ofCause (now (src .entry)) (causeAt (now (s .entry)) fields))) (now (room .exit)) r ⌝ }
 {
-    let c = cause_in(
-        s,
-        fields,
-        message_octets::HAS_CAUSE,
-        message_octets::CAUSE,
-        message_octets::PHRASE,
-    );
+    let c = cause_in(s, fields, HAS_CAUSE, CAUSE, PHRASE);
     field_writing::put_cause(room, at, src, c)
 }
 
@@ -412,45 +390,12 @@ fn put_front(room: &mut [u8], at: usize, src: &[u8], s: &[u8], fields: u16) -> u
     requires { ⌜ at + length (body (frontFields (messageIn (now s) fields) (now src))) ≤ length (now room) ⌝ }
     ensures { λ r. ⌜ Laid (now (room .entry)) at (body (frontFields (messageIn (now (s .entry)) fields) (now (src .entry)))) (now (room .exit)) r ⌝ }
 {
-    let at = put_octet(
-        room,
-        at,
-        0,
-        s,
-        fields,
-        message_octets::HAS_PRIORITY,
-        message_octets::PRIORITY,
-    );
-    let at = put_word(
-        room,
-        at,
-        1,
-        s,
-        fields,
-        message_octets::HAS_DURATION,
-        message_octets::DURATION,
-    );
+    let at = put_octet(room, at, 0, s, fields, HAS_PRIORITY, PRIORITY);
+    let at = put_word(room, at, 1, s, fields, HAS_DURATION, DURATION);
     let at = put_cause(room, at, src, s, fields);
     let at = put_queue(room, at, s, fields);
-    let at = put_identity(
-        room,
-        at,
-        src,
-        4,
-        s,
-        fields,
-        message_octets::HAS_GRANTED,
-        message_octets::GRANTED,
-    );
-    put_word(
-        room,
-        at,
-        5,
-        s,
-        fields,
-        message_octets::HAS_PERMISSION,
-        message_octets::PERMISSION,
-    )
+    let at = put_identity(room, at, src, 4, s, fields, HAS_GRANTED, GRANTED);
+    put_word(room, at, 5, s, fields, HAS_PERMISSION, PERMISSION)
 }
 
 // Lays the fields 6 to 14, in ascending order.
@@ -460,52 +405,11 @@ fn put_rest(room: &mut [u8], at: usize, src: &[u8], s: &[u8], fields: u16) -> us
     requires { ⌜ at + length (body (restFields (messageIn (now s) fields) (now src))) ≤ length (now room) ⌝ }
     ensures { λ r. ⌜ Laid (now (room .entry)) at (body (restFields (messageIn (now (s .entry)) fields) (now (src .entry)))) (now (room .exit)) r ⌝ }
 {
-    let at = put_identity(
-        room,
-        at,
-        src,
-        6,
-        s,
-        fields,
-        message_octets::HAS_USER,
-        message_octets::USER,
-    );
-    let at = put_word(
-        room,
-        at,
-        8,
-        s,
-        fields,
-        message_octets::HAS_SEQUENCE,
-        message_octets::SEQUENCE,
-    );
-    let at = put_word(
-        room,
-        at,
-        10,
-        s,
-        fields,
-        message_octets::HAS_SOURCE,
-        message_octets::SOURCE,
-    );
-    let at = put_octet(
-        room,
-        at,
-        12,
-        s,
-        fields,
-        message_octets::HAS_MESSAGE_TYPE,
-        message_octets::MESSAGE_TYPE,
-    );
-    let at = put_word(
-        room,
-        at,
-        13,
-        s,
-        fields,
-        message_octets::HAS_INDICATOR,
-        message_octets::INDICATOR,
-    );
+    let at = put_identity(room, at, src, 6, s, fields, HAS_USER, USER);
+    let at = put_word(room, at, 8, s, fields, HAS_SEQUENCE, SEQUENCE);
+    let at = put_word(room, at, 10, s, fields, HAS_SOURCE, SOURCE);
+    let at = put_octet(room, at, 12, s, fields, HAS_MESSAGE_TYPE, MESSAGE_TYPE);
+    let at = put_word(room, at, 13, s, fields, HAS_INDICATOR, INDICATOR);
     put_number(room, at, s, fields)
 }
 
@@ -514,17 +418,17 @@ fn put_rest(room: &mut [u8], at: usize, src: &[u8], s: &[u8], fields: u16) -> us
 pub fn write_held(held: &[u8], source: &[u8], room: &mut [u8]) -> Writing
     ensures { λ r. ⌜ WritesOf (heldAt (now (held .entry))) (now (source .entry)) (now (room .entry)) r (now (room .exit)) ⌝ }
 {
-    if held.len() != message_octets::SIZE {
+    if held.len() != MESSAGE_SIZE {
         return Writing::Refused(Refusal::Unreadable);
     }
-    let fields = octets::number16(held, message_octets::FIELDS);
+    let fields = octets::number16(held, FIELDS);
     if readable_in(held, fields, source) {
         let size = size_in(held, fields);
         if room.len() < size {
             return Writing::Refused(Refusal::NoRoom);
         }
-        let first = 128 + 16 * held[message_octets::ACK] + held[message_octets::TYPE];
-        let ssrc = octets::number32(held, message_octets::SSRC);
+        let first = 128 + 16 * held[ACK] + held[TYPE];
+        let ssrc = octets::number32(held, SSRC);
         header::put_header(room, first, ssrc, size);
         let at = put_front(room, header::HEADER, source, held, fields);
         put_rest(room, at, source, held, fields);
