@@ -6,51 +6,58 @@ use sheet::Verdict;
 ghost use Prim.Native.Nat.{_+_, _<_, _≤_};
 ghost use lib.ListN.{length};
 
+// Octets enough for the longest sheet, which has 1,124.
+const SHEET_ROOM: usize = 1152;
+
+// How many ways there are to damage one octet of the class's sheet.
+const DAMAGE_COUNT: usize = 24;
+
 // What is printed, in one table. A name is that of one row, or of the first of several: of what follows the flags
-// in a seat, of the settings and of the trailer, of the verdicts, the damages and the cuts. The first four are a seat's flags.
+// in a seat, of the settings and of the trailer, of the verdicts, the damages and the cuts. The first four are a seat's flags. Each
+// stands as many rows behind the one before it as that has, so that a row more is told in one place.
 const SEAT_ROWS: usize = 4;
 
-const SETTINGS_ROWS: usize = 7;
+const SETTINGS_ROWS: usize = SEAT_ROWS + 3;
 
-const TRAILER_ROWS: usize = 14;
+const TRAILER_ROWS: usize = SETTINGS_ROWS + 7;
 
-const SEAT: usize = 19;
+const SEAT: usize = TRAILER_ROWS + 5;
 
-const SETTINGS: usize = 20;
+const SETTINGS: usize = SEAT + 1;
 
-const TRAILER: usize = 21;
+const TRAILER: usize = SETTINGS + 1;
 
-const VERDICT: usize = 22;
+const VERDICT: usize = TRAILER + 1;
 
-const SAVED: usize = 28;
+const SAVED: usize = VERDICT + 6;
 
-const NO_ROOM: usize = 29;
+const NO_ROOM: usize = SAVED + 1;
 
-const DAMAGED: usize = 30;
+const DAMAGED: usize = NO_ROOM + 1;
 
-const DAMAGES: usize = 31;
+const DAMAGES: usize = DAMAGED + 1;
 
-const CUTS: usize = 55;
+const CUTS: usize = DAMAGES + DAMAGE_COUNT;
 
-const LOADED: usize = 59;
+const LOADED: usize = CUTS + 4;
 
-const SAVED_AGAIN: usize = 60;
+const SAVED_AGAIN: usize = LOADED + 1;
 
-const OTHER: usize = 61;
+const OTHER: usize = SAVED_AGAIN + 1;
 
-const SAME: usize = 62;
+const SAME: usize = OTHER + 1;
 
-const BEHIND: usize = 63;
+const BEHIND: usize = SAME + 1;
 
-const INTO: usize = 64;
+const INTO: usize = BEHIND + 1;
 
-const CLASS: usize = 65;
+const CLASS: usize = INTO + 1;
 
-const ROOMS: usize = 66;
+const ROOMS: usize = CLASS + 1;
 
-const NOBODY: usize = 67;
+const NOBODY: usize = ROOMS + 1;
 
-const EVERYBODY: usize = 68;
+const EVERYBODY: usize = NOBODY + 1;
 
 fn say(k: usize, n: usize) {
     printing::row(
@@ -131,11 +138,11 @@ fn say(k: usize, n: usize) {
 
 // A sheet as a person would want to see it: the offset, the octets, and what they are.
 
-const WIDTHS: [u8; 19] = [1, 1, 1, 1, 1, 4, 1, 4, 1, 1, 1, 1, 2, 2, 2, 2, 1, 1, 2];
+const WIDTHS: [u8; SEAT] = [1, 1, 1, 1, 1, 4, 1, 4, 1, 1, 1, 1, 2, 2, 2, 2, 1, 1, 2];
 
 // How many octets the first rows of the table are of.
 fn width(k: usize) -> u8 {
-    if k < 19 { WIDTHS[k] } else { 0 }
+    if k < SEAT { WIDTHS[k] } else { 0 }
 }
 
 // An octet of the sheet; 0 past its end.
@@ -334,7 +341,7 @@ fn save(class: Seated, room: &mut [u8]) -> usize {
 
 // The class's sheet has 224 octets: five seats, the second from 22 on; settings from 204 on; the trailer from 216 on. Which octet is
 // damaged, and which it is then.
-const PLACES: [usize; 24] = [
+const PLACES: [usize; DAMAGE_COUNT] = [
     222,
     223,
     221,
@@ -361,7 +368,7 @@ const PLACES: [usize; 24] = [
     220,
 ];
 
-const OCTETS: [u8; 24] = [
+const OCTETS: [u8; DAMAGE_COUNT] = [
     102,
     84,
     2,
@@ -400,7 +407,7 @@ fn damage(room: &mut [u8], at: usize, octet: u8) {
 
 fn damages(room: &mut [u8]) {
     let mut k = 0;
-    while k < 24 {
+    while k < DAMAGE_COUNT {
         say(DAMAGES + k, 0);
         damage(room, PLACES[k], OCTETS[k]);
         k += 1;
@@ -447,7 +454,7 @@ fn back(s: &[u8], room: &mut [u8]) {
 }
 
 fn again(s: &[u8]) {
-    let mut room = [0u8; 1200];
+    let mut room = [0u8; SHEET_ROOM];
     back(s, &mut room);
 }
 
@@ -473,13 +480,13 @@ fn saved(class: Seated, room: &mut [u8]) {
 }
 
 fn rooms(title: usize, class: Seated) {
-    let mut room = [7u8; 1200];
+    let mut room = [7u8; SHEET_ROOM];
     say(title, 0);
     saved(class, &mut room);
 }
 
 fn main() {
-    let mut room = [0u8; 1200];
+    let mut room = [0u8; SHEET_ROOM];
     let class = gone(class());
     say(CLASS, 0);
     lesson(class, &mut room);
