@@ -7,7 +7,8 @@ use mathlib.Core.Path.{_≡_}
 use lib.IntN.{ℤ}
 use Rattle.message.specs.Answers.{result}
 use Rattle.signed.specs.Signed.{signed}
-use Rattle.hall.specs.Seats.{settingsOf, seatOf}
+use Rattle.hall.specs.declared.Settings.{Settings}
+use Rattle.hall.specs.Seats.{seatOf}
 use Rattle.identities.specs.Identity.{seatNamed}
 use Rattle.events.specs.declared.Event.the-variants.{Start, Stop, Media}
 use Rattle.timers.specs.Timers.{timerNamed, running}
@@ -32,8 +33,8 @@ VersionPromise answer = answer ≡ signed (result version)
 
 -- A DESK AND ITS SEATS
 
-abbrev pub MakePromise : (desk : List ℕ) (ssrc level limit c7 c20 duration : ℕ) (answer : ℤ) (desk′ : List ℕ) → Type 0
-MakePromise desk ssrc level limit c7 c20 duration answer desk′ = (answer, desk′) ≡ makeOn desk (settingsOf ssrc level limit c7 c20 duration)
+abbrev pub MakePromise : (desk : List ℕ) (settings : Settings) (answer : ℤ) (desk′ : List ℕ) → Type 0
+MakePromise desk settings answer desk′ = (answer, desk′) ≡ makeOn desk settings
 
 abbrev pub JoinPromise : (desk identity : List ℕ) (ssrc highest queueing receiveOnly : ℕ) (answer : ℤ) (desk′ : List ℕ) → Type 0
 JoinPromise desk identity ssrc highest queueing receiveOnly answer desk′ =

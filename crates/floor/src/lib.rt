@@ -5,6 +5,7 @@ use desk_making::WideSettings;
 use events::Event;
 use hall::Flags;
 use report_octets::Told;
+ghost use Rattle.hall.specs.Seats.{settingsOf};
 ghost use Rattle.floor.specs.Promises.{VersionPromise, MakePromise, JoinPromise, LeavePromise, StartPromise, StopPromise, PacketPromise, MediaPromise, TimerPromise, MessagePromise, ReadPromise, WritePromise, SavePromise, LoadPromise, ScreenPromise, PhasePromise, HolderPromise, HolderPriorityPromise, RunningPromise, SequencePromise, C7Promise, C20Promise, SeatsPromise, SeatBySsrcPromise, SeatByIdentityPromise, SeatPromise, SettingsPromise, StartsPromise, StopsPromise};
 
 // Which face this is. A header and an archive that answer the same number belong together.
@@ -92,7 +93,7 @@ pub extern "C" fn floor_make(
     c20: u32,
     duration: u32,
 ) -> i32
-    ensures { λ r. ⌜ MakePromise (now (desk .entry)) ssrc level limit c7 c20 duration r (now (desk .exit)) ⌝ }
+    ensures { λ r. ⌜ MakePromise (now (desk .entry)) (settingsOf ssrc level limit c7 c20 duration) r (now (desk .exit)) ⌝ }
 {
     desk_making::make_desk(
         desk,

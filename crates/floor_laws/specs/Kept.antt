@@ -135,17 +135,13 @@ did answer x = if isDone answer then x ∷ [] else []
 abbrev pub doings : Call → List Doing
 doings x = did (x .answer) (meant (x .act))
 
--- a desk is made with settings, in a room
-abbrev pub FloorMake : (room : List ℕ) (g : Settings) (answer : ℤ) (room′ : List ℕ) → Type 0
-FloorMake room g n room′ = MakePromise room (g .ssrc) (g .level) (g .limit) (g .c7) (g .c20) (g .duration) n room′
-
 -- "ALL REFUSALS LEAVE THE DESK UNCHANGED, WITH NO MESSAGE AND NO MARK" (proofs/Refusals): nothing is written, in the desk or in the report
 
 abbrev pub RefusalWritesNothing : Type 0
 RefusalWritesNothing = (d : List ℕ) (x : Call) → Promised d x → Refuses (x .answer) → (x .desk ≡ d) × (x .report ≡ x .room)
 
 abbrev pub NotMade : Type 0
-NotMade = (room : List ℕ) (g : Settings) (n : ℤ) (room′ : List ℕ) → FloorMake room g n room′ → Refuses n → room′ ≡ room
+NotMade = (room : List ℕ) (g : Settings) (n : ℤ) (room′ : List ℕ) → MakePromise room g n room′ → Refuses n → room′ ≡ room
 
 abbrev pub NotLoaded : Type 0
 NotLoaded = (room sheet : List ℕ) (n : ℤ) (room′ : List ℕ) → LoadPromise room sheet n room′ → Refuses n → room′ ≡ room
@@ -227,12 +223,12 @@ deskIn room = take deskSize room
 -- settings in their ranges and enough room make a fresh desk
 abbrev pub Makes : Type 0
 Makes =
-    (room : List ℕ) (g : Settings) (n : ℤ) (room′ : List ℕ) → FloorMake room g n room′ → settable g ≡ true → deskSize ≤ length room →
+    (room : List ℕ) (g : Settings) (n : ℤ) (room′ : List ℕ) → MakePromise room g n room′ → settable g ≡ true → deskSize ≤ length room →
     n ≡ signed (result 0)
 
 abbrev pub MadeInForm : Type 0
 MadeInForm =
-    (room : List ℕ) (g : Settings) (n : ℤ) (room′ : List ℕ) → FloorMake room g n room′ → Succeeds n → g .ssrc < 4294967296 →
+    (room : List ℕ) (g : Settings) (n : ℤ) (room′ : List ℕ) → MakePromise room g n room′ → Succeeds n → g .ssrc < 4294967296 →
     Settable g × Holds (deskIn room′) (made g)
 
 -- an accepted sheet leaves the fresh desk with its settings that its seats joined, one after the other

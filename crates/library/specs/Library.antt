@@ -36,8 +36,8 @@ use Rattle.demands.specs.Demands.{lineFrom, holderFrom, placeOf, inLine, reason
 use Rattle.desk_octets.specs.Form.{hallAt}
 use Rattle.desk_octets.specs.Columns.{column}
 use Rattle.report_octets_laws.specs.Reported.{reportIn}
-use Rattle.floor.specs.Promises.{LoadPromise, ScreenPromise, PhasePromise, HolderPromise}
-use Rattle.floor_laws.specs.Kept.{Holds, deskIn, FloorMake, Act, floorJoin, floorLeave, floorStart, floorStop, floorPacket, floorMedia}
+use Rattle.floor.specs.Promises.{MakePromise, LoadPromise, ScreenPromise, PhasePromise, HolderPromise}
+use Rattle.floor_laws.specs.Kept.{Holds, deskIn, Act, floorJoin, floorLeave, floorStart, floorStop, floorPacket, floorMedia}
 use Rattle.floor_laws.specs.Kept.{floorTimer, Call, Promised, ActFits, doings}
 
 -- A RUN AND ITS LOG
@@ -70,13 +70,13 @@ DoneIsARow = (d : List ℕ) (x : Call) → Promised d x → Succeeds (x .answer)
 -- `called` is join, leave, start, stop, packet, media and timer, each with its promise; the other functions only read a desk. Numbers from
 -- C are as its types hold them.
 pub data Ran : List ℕ → List Row → Type 0 where
-  made : (room : List ℕ) (g : Settings) (n : ℤ) (room′ : List ℕ) → FloorMake room g n room′ → Succeeds n → g .ssrc < 4294967296 →
+  made : (room : List ℕ) (g : Settings) (n : ℤ) (room′ : List ℕ) → MakePromise room g n room′ → Succeeds n → g .ssrc < 4294967296 →
       Ran (deskIn room′) []
   loaded : (room sheet : List ℕ) (n : ℤ) (room′ : List ℕ) → LoadPromise room sheet n room′ → Succeeds n → Octets sheet →
       Ran (deskIn room′) []
   called : {d : List ℕ} {rows : List Row} → Ran d rows → (x : Call) → Promised d x → ActFits (x .act) → Ran (x .desk) (rowsBy d x ++ rows)
   notMade : {d : List ℕ} {rows : List Row} → Ran d rows →
-      (g : Settings) (n : ℤ) (d′ : List ℕ) → FloorMake d g n d′ → Refuses n → Ran d′ rows
+      (g : Settings) (n : ℤ) (d′ : List ℕ) → MakePromise d g n d′ → Refuses n → Ran d′ rows
   notLoaded : {d : List ℕ} {rows : List Row} → Ran d rows →
       (sheet : List ℕ) (n : ℤ) (d′ : List ℕ) → LoadPromise d sheet n d′ → Refuses n → Ran d′ rows
 
