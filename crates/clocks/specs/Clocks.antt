@@ -49,8 +49,8 @@ unfoldable pub startsAnew : Running → Running → Timer → Bool → Running
 startsAnew before after fired given = timersWith (isStarted before after fired given)
 
 -- a timer stops if it ran and runs no more
-abbrev pub isEnded : Running → Running → Timer → Bool
-isEnded before after t = runs before t && not (runs after t)
+abbrev pub runsNoMore : Running → Running → Timer → Bool
+runsNoMore before after t = runs before t && not (runs after t)
 
 unfoldable pub stoppedTimers : Running → Running → Running
-stoppedTimers before after = timersWith (isEnded before after)
+stoppedTimers before after = timersWith (runsNoMore before after)

@@ -6,7 +6,7 @@ use Rattle.timers.specs.declared.Timer.{Timer}
 use Rattle.timers.specs.declared.Timer.the-variants.{T1, T2, T3, T4, T7, T8, T20, NoSuchTimer}
 use Rattle.timers.specs.declared.Running.{Running}
 use Rattle.timers.specs.Timers.{runs}
-use Rattle.clocks.specs.Clocks.{isTimer, runsForHolder, startsAgain, isStarted, isEnded, startsAnew, stoppedTimers}
+use Rattle.clocks.specs.Clocks.{isTimer, runsForHolder, startsAgain, isStarted, runsNoMore, startsAnew, stoppedTimers}
 use Rattle.clocks_laws.specs.Clockwork.{RunsOn, ComesToRun, FiresAndRuns, RunsForHolder}
 use Rattle.clocks_laws.specs.Clockwork.{StartedRuns, StoppedRunsNot, NotBoth, ClocksFollow}
 
@@ -23,7 +23,7 @@ module _ (before after : Running) where
   started fired given T20 = refl
   started fired given NoSuchTimer = refl
 
-  ended : (t : Timer) → runs (stoppedTimers before after) t ≡ isEnded before after t
+  ended : (t : Timer) → runs (stoppedTimers before after) t ≡ runsNoMore before after t
   unfolding stoppedTimers
   ended T1 = refl
   ended T2 = refl

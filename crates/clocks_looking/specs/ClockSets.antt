@@ -46,15 +46,15 @@ abbrev pub wasGiven : List ℕ → Bool
 wasGiven r = not (eqb (howGiven r) 0)
 
 -- 12: no report has this length, or this octet
-abbrev pub isReport : List ℕ → Bool
-isReport r = eqb (length r) reportSize && leb (howGiven r) 2
+abbrev pub saysHowGiven : List ℕ → Bool
+saysHowGiven r = eqb (length r) reportSize && leb (howGiven r) 2
 
 abbrev pub setStarted : ℕ → ℕ → ℕ → Bool → ℤ
 setStarted before after fired given =
     signed (result (timerSet (startsAnew (runningIn before) (runningIn after) (timerNamed fired) given)))
 
 unfoldable pub startsOn : ℕ → ℕ → ℕ → List ℕ → ℤ
-startsOn before after fired r = if isReport r then setStarted before after fired (wasGiven r) else signed (refused 12)
+startsOn before after fired r = if saysHowGiven r then setStarted before after fired (wasGiven r) else signed (refused 12)
 
 abbrev pub stopsOn : ℕ → ℕ → ℤ
 stopsOn before after = signed (result (timerSet (stoppedTimers (runningIn before) (runningIn after))))

@@ -12,7 +12,7 @@ use Rattle.words.specs.Choice.{if_then_else_, if-yes, if-no, by-test, by-if}
 use Rattle.words.specs.Table.{getD-fill}
 use Rattle.words.proofs.Tests.{clash, and-no, or-left, or-right}
 use Rattle.line.specs.declared.Entry.{Entry}
-use Rattle.line.specs.Line.{waiting, isIn, without, seatsOf, nobody as no-one, priorityOf, entryOf}
+use Rattle.line.specs.Line.{waiting, isIn, without, seatSet, noSeats, priorityOf, entryOf}
 use Rattle.hall.specs.declared.Hall.{Hall}
 use Rattle.hall.specs.Seats.{only, receivesOnly}
 use Rattle.steps.specs.declared.Core.{Core}
@@ -44,7 +44,7 @@ use Rattle.demands.proofs.Places.{placeIn, place-out, place-at, place-e
 abbrev pub NoneReceivesOnly : Desk → Type 0
 NoneReceivesOnly d = (s : ℕ) → isIn s (waiting (d .core .line)) ≡ true → receivesOnly (d .hall) s ≡ false
 
-pub without-none : (es : List Entry) → without no-one es ≡ es
+pub without-none : (es : List Entry) → without noSeats es ≡ es
 unfolding without
 without-none [] = refl
 without-none (e ∷ es) = if-no _ _ _ (getD-fill false 16 (e .seat)) ∙ ap (λ (l : List Entry). e ∷ l) (without-none es)
@@ -56,9 +56,9 @@ without-all seats (e ∷ es) f =
     if-yes _ _ _ (f (e .seat) (first-in e es))
     ∙ without-all seats es (λ s q. f s (behind-in s e es q))
 
-all-struck : (es : List Entry) → ((s : ℕ) → isIn s es ≡ true → s < 16) → without (seatsOf es) es ≡ []
-unfolding seatsOf
-all-struck es f = without-all (seatsOf es) es (λ s q. in-added s no-one es refl f ∙ rw q (or-true (getD no-one s false)))
+all-struck : (es : List Entry) → ((s : ℕ) → isIn s es ≡ true → s < 16) → without (seatSet es) es ≡ []
+unfolding seatSet
+all-struck es f = without-all (seatSet es) es (λ s q. in-added s noSeats es refl f ∙ rw q (or-true (getD noSeats s false)))
 
 -- a request that does not move
 module _ (d : Desk) (k : Sound d) (f : NoneReceivesOnly d) (t p : ℕ) where
@@ -228,16 +228,16 @@ module _ (d : Desk) (x : Doing) (new : Core) (m : Marks) where
     line-changed (closes y i l f e) = rw (e, stops-nobody (d .hall) x y, l) (all-struck before (fits d k .seats))
 
     -- 3: each seat's place afterwards
-    unstruck : (s : ℕ) → m .struck ≡ no-one → isStruck s m ≡ false
+    unstruck : (s : ℕ) → m .struck ≡ noSeats → isStruck s m ≡ false
     unstruck s q = ap (λ (b : List Bool). getD b s false) q ∙ getD-fill false 16 s
 
     struckOf : {z : Marks} → m ≡ z → m .struck ≡ z .struck
     struckOf e = ap (λ (y : Marks). y .struck) e
 
-    everyone : (s : ℕ) → m .struck ≡ seatsOf before → isStruck s m ≡ isIn s before
-    unfolding seatsOf
+    everyone : (s : ℕ) → m .struck ≡ seatSet before → isStruck s m ≡ isIn s before
+    unfolding seatSet
     everyone s q =
-        ap (λ (b : List Bool). getD b s false) q ∙ in-added s no-one before refl (fits d k .seats)
+        ap (λ (b : List Bool). getD b s false) q ∙ in-added s noSeats before refl (fits d k .seats)
         ∙ ap (λ (b : Bool). b || isIn s before) (getD-fill false 16 s)
 
     quiet-place : (s : ℕ) → what ≡ nobody → isStruck s m ≡ false → isGivenOut s m ≡ false → isPlaced s m ≡ false →
@@ -250,7 +250,7 @@ module _ (d : Desk) (x : Doing) (new : Core) (m : Marks) where
         place-stays s what m (placeIn s before) i j r ∙ ap (λ (y : Asking). askedAgain s y (placeIn s before)) a
         ∙ asked-still s t p before (ap (λ (b : Bool). b && moves t p before) z)
 
-    emptied : (s : ℕ) → what ≡ nobody → m .struck ≡ seatsOf before → isGivenOut s m ≡ false → isPlaced s m ≡ false →
+    emptied : (s : ℕ) → what ≡ nobody → m .struck ≡ seatSet before → isGivenOut s m ≡ false → isPlaced s m ≡ false →
         waiting (new .line) ≡ [] →
         placeAfter s what m (placeIn s before) ≡ placeIn s (waiting (new .line))
     emptied s a q i r l =

@@ -25,7 +25,7 @@ use Rattle.outgoing.specs.Outgoing.{outgoing, sending, sent}
 use Rattle.message_octets.specs.Held.{heldAt, readHeld, keptIn, writingOf, writtenOf}
 use Rattle.desk_octets.specs.Columns.{rows}
 use Rattle.desk_octets.specs.Form.{coreAt, hallAt, settingsAt, namesAt}
-use Rattle.report_octets.specs.Report.{particulars, messageIn}
+use Rattle.report_octets.specs.Report.{particulars, toldIn}
 use Rattle.report_octets.specs.declared.Told.{Told}
 use Rattle.report_octets.specs.declared.Told.the-variants.{Says, NoMessage}
 use Rattle.desk_test.specs.Lent.{formed}
@@ -94,7 +94,7 @@ tells d room NoMessage = answers (refused 12) room
 tells d room (Says k) = answers (sending (packetFor d k) (identityIn d k) (length room)) (sent (packetFor d k) (identityIn d k) room)
 
 abbrev pub messageOn : List ℕ → List ℕ → ℕ → List ℕ → ℤ × List ℕ
-messageOn d r which room = if formed d then tells d room (messageIn r which) else answers (refused 20) room
+messageOn d r which room = if formed d then tells d room (toldIn r which) else answers (refused 20) room
 
 -- a packet by itself: read into a message's 40 octets, and written out of them
 abbrev pub readOn : List ℕ → List ℕ → ℤ × List ℕ

@@ -21,22 +21,22 @@ use Rattle.identities.specs.declared.Names.{Names}
 use Rattle.identities.specs.Identity.{noNames}
 use Rattle.events.specs.Events.{fresh}
 use Rattle.seat_octets.specs.Layout.{SettingsFit}
-use Rattle.desk_octets.specs.Form.{octetsOf}
+use Rattle.desk_octets.specs.Form.{deskOctets}
 use Rattle.words.proofs.Tests.{and-five, five}
-use Rattle.desk_making.specs.Making.{written, inOctets, settable, makeOn}
+use Rattle.desk_making.specs.Making.{deskWritten, inOctets, settable, makeOn}
 
 module _ (room : List ℕ) (n k : ℕ) (c : Core) (h : Hall) (ns : Names) where
-  pub unwritten : eqb n 0 ≡ false → written room n k c h ns ≡ answers (refused n) room
-  unfolding written if_then_else_
+  pub unwritten : eqb n 0 ≡ false → deskWritten room n k c h ns ≡ answers (refused n) room
+  unfolding deskWritten if_then_else_
   unwritten e = rw e
 
-  pub too-short : eqb n 0 ≡ true → leb deskSize (length room) ≡ false → written room n k c h ns ≡ answers (refused 13) room
-  unfolding written if_then_else_
+  pub too-short : eqb n 0 ≡ true → leb deskSize (length room) ≡ false → deskWritten room n k c h ns ≡ answers (refused 13) room
+  unfolding deskWritten if_then_else_
   too-short e l = rw (e, l)
 
   pub written-so : eqb n 0 ≡ true → leb deskSize (length room) ≡ true →
-      written room n k c h ns ≡ answers (result k) (over room 0 (octetsOf c h ns))
-  unfolding written if_then_else_
+      deskWritten room n k c h ns ≡ answers (result k) (over room 0 (deskOctets c h ns))
+  unfolding deskWritten if_then_else_
   written-so e l = rw (e, l)
 
 -- settings that octets hold, as a test and as facts
@@ -64,13 +64,13 @@ module _ (s : Settings) where
 -- a desk is made by the answer to its settings
 module _ (room : List ℕ) (s : Settings) where
   made-by : (b : Bool)
-      → (if b then written room 0 0 fresh (emptyHall s) noNames else answers (refused (answerNumber OutsideRange)) room)
-      ≡ written room (answerNumber (if b then Done else OutsideRange)) 0 fresh (emptyHall s) noNames
-  unfolding written if_then_else_
+      → (if b then deskWritten room 0 0 fresh (emptyHall s) noNames else answers (refused (answerNumber OutsideRange)) room)
+      ≡ deskWritten room (answerNumber (if b then Done else OutsideRange)) 0 fresh (emptyHall s) noNames
+  unfolding deskWritten if_then_else_
   made-by true = refl
   made-by false = refl
 
-  pub made-so : inOctets s ≡ true → written room (answerNumber (settingsAnswer s)) 0 fresh (emptyHall s) noNames ≡ makeOn room s
+  pub made-so : inOctets s ≡ true → deskWritten room (answerNumber (settingsAnswer s)) 0 fresh (emptyHall s) noNames ≡ makeOn room s
   unfolding settable settingsAnswer
   made-so q = rw q (sym (made-by (inRange s)))
 

@@ -27,15 +27,15 @@ use Rattle.joining.specs.Join.{join}
 use Rattle.steps.specs.declared.Core.{Core}
 use Rattle.events.specs.Events.{fresh}
 use Rattle.loading.specs.Loading.{loading}
-use Rattle.desk_octets.specs.Form.{octetsOf, coreAt, hallAt, namesAt}
+use Rattle.desk_octets.specs.Form.{deskOctets, coreAt, hallAt, namesAt}
 use Rattle.desk_test.specs.Lent.{formed}
 use Rattle.desk_making.specs.declared.WideSettings.{WideSettings}
 
 -- a desk that is written, unless its number n refuses it: k is what is answered once it is done
-unfoldable pub written : List ℕ → (n k : ℕ) → Core → Hall → Names → ℤ × List ℕ
-written room n k c h ns =
+unfoldable pub deskWritten : List ℕ → (n k : ℕ) → Core → Hall → Names → ℤ × List ℕ
+deskWritten room n k c h ns =
     if eqb n 0
-    then (if leb deskSize (length room) then answers (result k) (over room 0 (octetsOf c h ns)) else answers (refused 13) room)
+    then (if leb deskSize (length room) then answers (result k) (over room 0 (deskOctets c h ns)) else answers (refused 13) room)
     else answers (refused n) room
 
 -- settings come as numbers of 32 bits: those that no octet holds are outside their range
@@ -49,10 +49,10 @@ unfoldable pub settable : Settings → Bool
 settable s = inOctets s && inRange s
 
 abbrev pub makeOn : List ℕ → Settings → ℤ × List ℕ
-makeOn room s = if settable s then written room 0 0 fresh (emptyHall s) noNames else answers (refused (answerNumber OutsideRange)) room
+makeOn room s = if settable s then deskWritten room 0 0 fresh (emptyHall s) noNames else answers (refused (answerNumber OutsideRange)) room
 
 abbrev pub loadOn : List ℕ → List ℕ → ℤ × List ℕ
-loadOn room sheet = written room (loading sheet .number) 0 (loading sheet .core) (loading sheet .hall) (loading sheet .names)
+loadOn room sheet = deskWritten room (loading sheet .number) 0 (loading sheet .core) (loading sheet .hall) (loading sheet .names)
 
 -- a flag from C: 0 for no, anything else for yes
 abbrev pub newcomer : ℕ → ℕ → ℕ → ℕ → Newcomer
@@ -66,7 +66,7 @@ seatTaken Nowhere = 0
 
 abbrev pub joinedOn : List ℕ → Joined → ℤ × List ℕ
 joinedOn d j =
-    if formed d then written d (answerNumber (j .answer)) (seatTaken (j .seat)) (coreAt d) (j .hall) (j .names)
+    if formed d then deskWritten d (answerNumber (j .answer)) (seatTaken (j .seat)) (coreAt d) (j .hall) (j .names)
     else answers (refused 20) d
 
 abbrev pub joinOn : List ℕ → List ℕ → Newcomer → ℤ × List ℕ

@@ -9,7 +9,7 @@ use identities::Names;
 use steps::Core;
 ghost use mathlib.Core.Path.{_≡_};
 ghost use mathlib.Core.Bool.{true};
-ghost use Rattle.desk_making.specs.Making.{written, narrowed, inOctets, makeOn, seatTaken};
+ghost use Rattle.desk_making.specs.Making.{deskWritten, narrowed, inOctets, makeOn, seatTaken};
 
 // Settings as C programs hand them over, each a number of 32 bits.
 pub struct WideSettings {
@@ -23,7 +23,7 @@ pub struct WideSettings {
 
 // Writes a desk, unless its number refuses it or the room is too short for it. What is done is answered by `done`.
 pub fn write_desk(desk: &mut [u8], n: u8, done: u8, core: Core, hall: Hall, names: Names) -> i32
-    ensures { λ r. ⌜ (r, now (desk .exit)) ≡ written (now (desk .entry)) n done core hall names ⌝ }
+    ensures { λ r. ⌜ (r, now (desk .exit)) ≡ deskWritten (now (desk .entry)) n done core hall names ⌝ }
 {
     if n != 0 {
         return signed::refusal(n);

@@ -11,7 +11,7 @@ use lib.ListN.{length, getD, drop, replicate, length-take, length-replicate, dro
 use lib.Seq.{drop-at}
 use borrow.Author.Tests.{eqb-true, le-leb}
 use Rattle.line.specs.Line.{entryOf}
-use Rattle.words.specs.Choice.{one as flag}
+use Rattle.words.specs.Choice.{one}
 use Rattle.octets.specs.Octets.{be16, be32, octets32, over, Octets, nthOctet}
 use Rattle.line.specs.Line.{waiting}
 use Rattle.hall.specs.declared.Flags.{Flags}
@@ -29,9 +29,9 @@ use Rattle.desk_octets.specs.Columns.{column, rows}
 use Rattle.seat_octets.specs.Layout.{flagsOctet, flagsOf, flagsTop, settingsSize, settingsOctets, zerosIn}
 use Rattle.seat_octets.proofs.Bits.{flags-forth}
 use Rattle.seat_octets.proofs.SettingsLaws.{settings-forth}
-use Rattle.desk_octets.specs.Form.{deskLetters, phaseOctets, lineOctets, coreOctets, boolOctets, seatOctets, seatFlagsOctets}
-use Rattle.desk_octets.specs.Form.{wordOctets}
-use Rattle.desk_octets.specs.Form.{hallOctets, lengthOctets, nameOctets, namesOctets, octetsOf, boolAt, entryAt, phaseAt}
+use Rattle.desk_octets.specs.Form.{deskLetters, phaseOctets, lineOctets, coreOctets, boolOctets, octetColumn, seatFlagsOctets}
+use Rattle.desk_octets.specs.Form.{wordColumn}
+use Rattle.desk_octets.specs.Form.{hallOctets, lengthOctets, nameOctets, namesOctets, deskOctets, boolAt, entryAt, phaseAt}
 use Rattle.desk_octets.specs.Form.{entriesAt, coreAt, boolsAt, octetsAt, wordsAt, seatFlagsAt, settingsAt, hallAt, nameIn, namesAt}
 use Rattle.desk_octets.specs.Form.{upTo, phaseFits, lettersFit, coreFits, hallFits, namesFit, canonical}
 use Rattle.desk_octets.proofs.Columns.{column-is, column-same, column-two, rows-same, length-column, getD-column}
@@ -53,13 +53,13 @@ from s at n = column (nthOctet s) at n
 bools-forth : (s : List ℕ) (at : ℕ) → upTo 1 s at 16 ≡ true → boolOctets (boolsAt s at) ≡ from s at 16
 unfolding boolOctets boolsAt
 bools-forth s at e =
-    column-same (λ i. flag (getD (column (boolAt s) at 16) i false)) (nthOctet s) 0 at 16
+    column-same (λ i. one (getD (column (boolAt s) at 16) i false)) (nthOctet s) 0 at 16
     (λ i k.
-    ap (λ (j : ℕ). flag (getD (column (boolAt s) at 16) j false)) (zero-add i) ∙ ap flag (getD-column (boolAt s) at 16 i false k)
+    ap (λ (j : ℕ). one (getD (column (boolAt s) at 16) j false)) (zero-add i) ∙ ap one (getD-column (boolAt s) at 16 i false k)
     ∙ flag-forth (nthOctet s (at + i)) (le-leb (nthOctet s (at + i)) 1 (up-to 1 s at 16 e i k)))
 
-octets-forth : (s : List ℕ) (at : ℕ) → seatOctets (octetsAt s at) ≡ from s at 16
-unfolding seatOctets octetsAt
+octets-forth : (s : List ℕ) (at : ℕ) → octetColumn (octetsAt s at) ≡ from s at 16
+unfolding octetColumn octetsAt
 octets-forth s at =
     column-same (λ i. getD (column (nthOctet s) at 16) i 0) (nthOctet s) 0 at 16
     (λ i k. ap (λ (j : ℕ). getD (column (nthOctet s) at 16) j 0) (zero-add i) ∙ getD-column (nthOctet s) at 16 i 0 k)
@@ -72,8 +72,8 @@ four-forth s at o =
     let c : at + 3 ≡ suc (suc (suc at)) = omega arith in
     octets32-forth s at o ∙ rw (a, b, c)
 
-words-forth : (s : List ℕ) (at : ℕ) → Octets s → wordOctets (wordsAt s at) ≡ from s at 64
-unfolding wordOctets wordsAt
+words-forth : (s : List ℕ) (at : ℕ) → Octets s → wordColumn (wordsAt s at) ≡ from s at 64
+unfolding wordColumn wordsAt
 words-forth s at o =
     rows-same (λ i. octets32 (getD (column (λ j. be32 s (at + 4 * j)) 0 16) i 0)) (λ i. column (nthOctet s) (at + 4 * i) 4) 0 16
     (λ i k.
@@ -219,8 +219,8 @@ letters-forth s e =
 whole : (s : List ℕ) → length s ≡ deskSize → from s 0 deskSize ≡ s
 whole s l = column-all s deskSize 0 l
 
-pub forth : (s : List ℕ) → Octets s → canonical s ≡ true → octetsOf (coreAt s) (hallAt s) (namesAt s) ≡ s
-unfolding octetsOf
+pub forth : (s : List ℕ) → Octets s → canonical s ≡ true → deskOctets (coreAt s) (hallAt s) (namesAt s) ≡ s
+unfolding deskOctets
 forth s o e =
     rw (
       core-forth s o (fits-core s e),
@@ -234,23 +234,23 @@ forth s o e =
     ∙ whole s (fits-whole s e))
 
 -- the core written into them leaves those of the desk with that core
-behind-core : (d : Core) (h : Hall) (ns : Names) → drop takenColumn (octetsOf d h ns) ≡ hallOctets h ++ namesOctets ns
-unfolding octetsOf
+behind-core : (d : Core) (h : Hall) (ns : Names) → drop takenColumn (deskOctets d h ns) ≡ hallOctets h ++ namesOctets ns
+unfolding deskOctets
 behind-core d h ns =
     rw (append-assoc (coreOctets d) (hallOctets h) (namesOctets ns))
     (drop-at (coreOctets d) (hallOctets h ++ namesOctets ns) 44 (length-core d))
 
-over-core : (c d : Core) (h : Hall) (ns : Names) → over (octetsOf d h ns) phasePlace (coreOctets c) ≡ octetsOf c h ns
-unfolding over octetsOf
+over-core : (c d : Core) (h : Hall) (ns : Names) → over (deskOctets d h ns) phasePlace (coreOctets c) ≡ deskOctets c h ns
+unfolding over deskOctets
 over-core c d h ns = rw (length-core c, behind-core d h ns, append-assoc (coreOctets c) (hallOctets h) (namesOctets ns))
 
 pub core-written : (s : List ℕ) → Octets s → canonical s ≡ true → (c : Core) →
-    over s phasePlace (coreOctets c) ≡ octetsOf c (hallAt s) (namesAt s)
+    over s phasePlace (coreOctets c) ≡ deskOctets c (hallAt s) (namesAt s)
 core-written s o e c =
     ap (λ (x : List ℕ). over x phasePlace (coreOctets c)) (sym (forth s o e)) ∙ over-core c (coreAt s) (hallAt s) (namesAt s)
 
 -- a whole desk written over one
-pub over-desk : (d : List ℕ) (c : Core) (h : Hall) (ns : Names) → length d ≡ deskSize → over d 0 (octetsOf c h ns) ≡ octetsOf c h ns
+pub over-desk : (d : List ℕ) (c : Core) (h : Hall) (ns : Names) → length d ≡ deskSize → over d 0 (deskOctets c h ns) ≡ deskOctets c h ns
 unfolding over
 over-desk d c h ns l =
-    let b : length d ≤ deskSize = omega (arith, l) in rw (length-octets c h ns, drop-of-length-le d b) (append-nil (octetsOf c h ns))
+    let b : length d ≤ deskSize = omega (arith, l) in rw (length-octets c h ns, drop-of-length-le d b) (append-nil (deskOctets c h ns))

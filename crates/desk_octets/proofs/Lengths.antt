@@ -11,9 +11,9 @@ use Rattle.steps.specs.declared.Core.{Core}
 use Rattle.desk_octets.specs.Places.{lengthsColumn, deskSize}
 use Rattle.desk_octets.specs.Columns.{column, rows}
 use Rattle.seat_octets.specs.Layout.{settingsOctets}
-use Rattle.desk_octets.specs.Form.{deskLetters, phaseOctets, lineOctets, coreOctets, boolOctets, seatOctets, seatFlagsOctets}
-use Rattle.desk_octets.specs.Form.{wordOctets}
-use Rattle.desk_octets.specs.Form.{hallOctets, lengthOctets, nameOctets, namesOctets, octetsOf}
+use Rattle.desk_octets.specs.Form.{deskLetters, phaseOctets, lineOctets, coreOctets, boolOctets, octetColumn, seatFlagsOctets}
+use Rattle.desk_octets.specs.Form.{wordColumn}
+use Rattle.desk_octets.specs.Form.{hallOctets, lengthOctets, nameOctets, namesOctets, deskOctets}
 use Rattle.desk_octets.proofs.Columns.{length-column, length-rows}
 use Rattle.desk_octets.proofs.Pieces.{length-name}
 
@@ -22,7 +22,7 @@ unfolding coreOctets phaseOctets octets16 lineOctets column
 length-core c = refl
 
 length-hall : (h : Hall) → length (hallOctets h) ≡ 144
-unfolding hallOctets boolOctets wordOctets seatOctets seatFlagsOctets settingsOctets octets16 octets32 column rows
+unfolding hallOctets boolOctets wordColumn octetColumn seatFlagsOctets settingsOctets octets16 octets32 column rows
 length-hall h = refl
 
 length-names : (ns : Names) → length (namesOctets ns) ≡ 1008
@@ -37,6 +37,6 @@ length-names ns =
 pub length-head : (c : Core) (h : Hall) → length (deskLetters ++ coreOctets c ++ hallOctets h) ≡ lengthsColumn
 length-head c h = simp (length-append, length-core c, length-hall h)
 
-pub length-octets : (c : Core) (h : Hall) (ns : Names) → length (octetsOf c h ns) ≡ deskSize
-unfolding octetsOf
+pub length-octets : (c : Core) (h : Hall) (ns : Names) → length (deskOctets c h ns) ≡ deskSize
+unfolding deskOctets
 length-octets c h ns = simp (length-append, length-core c, length-hall h, length-names ns)

@@ -24,7 +24,7 @@ use Rattle.desk_octets.specs.Columns.{column}
 use Rattle.seat_octets.specs.Layout.{settingsOctets}
 use Rattle.desk_octets.specs.Form.{kindOctet, timersOctet, holderIn, causeIn, phaseOctets, entrySeat, entryPriority, lineOctets}
 use Rattle.desk_octets.specs.Form.{coreOctets}
-use Rattle.desk_octets.specs.Form.{boolOctets, seatOctets, seatFlagsOctets, wordOctets, hallOctets, nameOctets, nameIn}
+use Rattle.desk_octets.specs.Form.{boolOctets, octetColumn, seatFlagsOctets, wordColumn, hallOctets, nameOctets, nameIn}
 use Rattle.desk_octets.specs.Form.{namesAt}
 use Rattle.desk_octets.proofs.Columns.{length-column, getD-column, column-is}
 
@@ -47,7 +47,7 @@ unfolding coreOctets
 core-whole c = simp append-assoc
 
 pub hall-whole : (h : Hall) →
-    (((((boolOctets (h .present) ++ wordOctets (h .ssrcs)) ++ seatOctets (h .highest)) ++ seatFlagsOctets (h .flags)) ++ replicate 16 0)
+    (((((boolOctets (h .present) ++ wordColumn (h .ssrcs)) ++ octetColumn (h .highest)) ++ seatFlagsOctets (h .flags)) ++ replicate 16 0)
     ++ settingsOctets (h .settings)) ++ replicate 4 0 ≡ hallOctets h
 unfolding hallOctets
 hall-whole h = simp append-assoc

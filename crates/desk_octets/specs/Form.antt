@@ -1,15 +1,15 @@
 -- The desk in lent octets (document 01, "The desk": "For C programs the desk rests in lent octets, their form fixed in docs/"), as
 -- docs/FORMS.md has it: what stands at each of the 1,200 places, in that page's order; then the desk that octets stand for; then when
 -- octets are in the form as far as the table says. That the desk keeps what every desk keeps that steps can reach (the line sorted, zeros
--- behind it, ..) is a question to the desk and not to its octets, and is asked in crates core_test and seated. The places have their names
--- in specs/Places. Assumes nothing.
+-- behind it, ..) is a question to the desk and not to its octets, and is asked in crates core_test and seats_test. The places have their
+-- names in specs/Places. Assumes nothing.
 use Prim.Native.Nat.{ℕ, _+_, _*_}
 use mathlib.Core.Bool.{Bool, false, _&&_}
 use mathlib.Core.List.{List, [], _∷_, _++_}
 use lib.Dec.{leb, eqb}
 use lib.ListN.{length, getD, replicate}
 use Rattle.line.specs.Line.{entryOf}
-use Rattle.words.specs.Choice.{if_then_else_, one as flag}
+use Rattle.words.specs.Choice.{if_then_else_, one}
 use Rattle.words.specs.Below.{allBelow}
 use Rattle.octets.specs.Octets.{be16, be32, octets16, octets32, nthOctet}
 use Rattle.line.specs.declared.Entry.{Entry}
@@ -55,7 +55,7 @@ alsoOctet T20 = 2
 
 abbrev pub timersOctet : Phase → ℕ
 timersOctet Stopped = 0
-timersOctet (Idle t7) = flag t7
+timersOctet (Idle t7) = one t7
 timersOctet (Taken e b) = alsoOctet b
 timersOctet (Revoking e n) = 0
 
@@ -92,21 +92,21 @@ coreOctets c = phaseOctets (c .phase) ++ octets16 (c .sequence) ++ (c .c7 ∷ c 
 
 -- columns of sixteen seats
 unfoldable pub boolOctets : List Bool → List ℕ
-boolOctets bs = column (λ i. flag (getD bs i false)) 0 16
+boolOctets bs = column (λ i. one (getD bs i false)) 0 16
 
 unfoldable pub seatFlagsOctets : List Flags → List ℕ
 seatFlagsOctets fs = column (λ i. flagsOctet (getD fs i noFlags)) 0 16
 
-unfoldable pub seatOctets : List ℕ → List ℕ
-seatOctets xs = column (λ i. getD xs i 0) 0 16
+unfoldable pub octetColumn : List ℕ → List ℕ
+octetColumn xs = column (λ i. getD xs i 0) 0 16
 
-unfoldable pub wordOctets : List ℕ → List ℕ
-wordOctets xs = rows (λ i. octets32 (getD xs i 0)) 0 16
+unfoldable pub wordColumn : List ℕ → List ℕ
+wordColumn xs = rows (λ i. octets32 (getD xs i 0)) 0 16
 
 -- 48 to 191
 unfoldable pub hallOctets : Hall → List ℕ
 hallOctets h =
-    boolOctets (h .present) ++ wordOctets (h .ssrcs) ++ seatOctets (h .highest) ++ seatFlagsOctets (h .flags) ++ replicate 16 0
+    boolOctets (h .present) ++ wordColumn (h .ssrcs) ++ octetColumn (h .highest) ++ seatFlagsOctets (h .flags) ++ replicate 16 0
     ++ settingsOctets (h .settings) ++ replicate 4 0
 
 -- 192 to 1,199: the sixteen lengths, then sixty-two octets for each seat
@@ -120,8 +120,8 @@ unfoldable pub namesOctets : Names → List ℕ
 namesOctets ns = lengthOctets ns ++ rows (λ s. nameOctets (nameAt ns s)) 0 16
 
 -- the whole desk
-unfoldable pub octetsOf : Core → Hall → Names → List ℕ
-octetsOf c h ns = deskLetters ++ coreOctets c ++ hallOctets h ++ namesOctets ns
+unfoldable pub deskOctets : Core → Hall → Names → List ℕ
+deskOctets c h ns = deskLetters ++ coreOctets c ++ hallOctets h ++ namesOctets ns
 
 -- THE DESK THAT OCTETS STAND FOR
 

@@ -17,8 +17,8 @@ use Rattle.desk_octets.specs.Columns.{column, rows}
 use Rattle.hall.specs.declared.Flags.{Flags}
 use Rattle.seat_octets.specs.Layout.{flagsOctet, flagsTop, settingsOctets}
 use Rattle.seat_octets.proofs.Bits.{flags-few}
-use Rattle.desk_octets.specs.Form.{causeIn, phaseOctets, lineOctets, coreOctets, boolOctets, seatOctets, seatFlagsOctets, wordOctets}
-use Rattle.desk_octets.specs.Form.{hallOctets, octetsOf, upTo, lettersFit, coreFits, hallFits, namesFit, canonical}
+use Rattle.desk_octets.specs.Form.{causeIn, phaseOctets, lineOctets, coreOctets, boolOctets, octetColumn, seatFlagsOctets, wordColumn}
+use Rattle.desk_octets.specs.Form.{hallOctets, deskOctets, upTo, lettersFit, coreFits, hallFits, namesFit, canonical}
 use Rattle.desk_octets.proofs.Tests.{all-below}
 use Rattle.desk_octets.proofs.Lengths.{length-octets}
 use Rattle.desk_octets_laws.specs.Forms.{Shaped, EveryDeskBack}
@@ -31,26 +31,26 @@ flags-fit : (f : Flags) → leb (flagsOctet f) flagsTop ≡ true
 flags-fit f = le-leb (flagsOctet f) flagsTop (flags-few f)
 
 module _ (c : Core) (h : Hall) (ns : Names) where
-  letters-there : lettersFit (octetsOf c h ns) ≡ true
-  unfolding lettersFit octetsOf
+  letters-there : lettersFit (deskOctets c h ns) ≡ true
+  unfolding lettersFit deskOctets
   letters-there = refl
 
-  core-there : length (waiting (c .line)) ≤ 15 → coreFits (octetsOf c h ns) ≡ true
-  unfolding coreFits octetsOf coreOctets phaseOctets octets16 be16 lineOctets column
+  core-there : length (waiting (c .line)) ≤ 15 → coreFits (deskOctets c h ns) ≡ true
+  unfolding coreFits deskOctets coreOctets phaseOctets octets16 be16 lineOctets column
   core-there k = rw (back16 (causeIn (c .phase)), phase-fits (c .phase), le-leb (length (waiting (c .line))) 15 k)
 
-  hall-there : hallFits (octetsOf c h ns) ≡ true
-  unfolding hallFits upTo octetsOf coreOctets phaseOctets octets16 octets32 lineOctets hallOctets boolOctets wordOctets seatOctets
+  hall-there : hallFits (deskOctets c h ns) ≡ true
+  unfolding hallFits upTo deskOctets coreOctets phaseOctets octets16 octets32 lineOctets hallOctets boolOctets wordColumn octetColumn
       seatFlagsOctets settingsOctets column rows
   hall-there = simp (flag-fits, flags-fit)
 
-  names-there : ((s : ℕ) → length (identity.octetsOf (nameAt ns s)) ≤ 62) → namesFit (octetsOf c h ns) ≡ true
+  names-there : ((s : ℕ) → length (identity.octetsOf (nameAt ns s)) ≤ 62) → namesFit (deskOctets c h ns) ≡ true
   unfolding namesFit upTo
   names-there k =
-      all-below (λ i. leb (getD (octetsOf c h ns) (lengthsColumn + i) 0) 62) 16
+      all-below (λ i. leb (getD (deskOctets c h ns) (lengthsColumn + i) 0) 62) 16
       (λ i b. rw (length-there c h ns i b) (le-leb (length (identity.octetsOf (nameAt ns i))) 62 (k i)))
 
-  fits : Shaped c h ns → canonical (octetsOf c h ns) ≡ true
+  fits : Shaped c h ns → canonical (deskOctets c h ns) ≡ true
   unfolding canonical
   fits s =
       rw (

@@ -7,7 +7,7 @@ use Rattle.octets.specs.Octets.{Octets}
 use Rattle.hall.specs.declared.Hall.{Hall}
 use Rattle.identities.specs.declared.Names.{Names}
 use Rattle.steps.specs.declared.Core.{Core}
-use Rattle.desk_octets.specs.Form.{octetsOf, canonical}
+use Rattle.desk_octets.specs.Form.{deskOctets, canonical}
 use Rattle.desk_octets.proofs.Forth.{forth, core-written}
 use Rattle.desk_octets_laws.specs.Forms.{StandsFor, EveryStringForth, OneString, CoreWritten}
 
@@ -15,7 +15,7 @@ pub every-string-forth : EveryStringForth
 every-string-forth = forth
 
 -- the octets that stand for a desk are that desk's
-its-octets : (s : List ℕ) → Octets s → canonical s ≡ true → (c : Core) (h : Hall) (ns : Names) → StandsFor s c h ns → s ≡ octetsOf c h ns
+its-octets : (s : List ℕ) → Octets s → canonical s ≡ true → (c : Core) (h : Hall) (ns : Names) → StandsFor s c h ns → s ≡ deskOctets c h ns
 its-octets s o e c h ns p = sym (forth s o e) ∙ rw (p .core, p .hall, p .names)
 
 pub one-string : OneString

@@ -13,7 +13,7 @@ use Rattle.identities.specs.declared.Names.{Names}
 use Rattle.identities.specs.Identity.{nameOf, nameAt, Sixteen}
 use Rattle.identities.specs.Identity as identity
 use Rattle.steps.specs.declared.Core.{Core}
-use Rattle.desk_octets.specs.Form.{coreOctets, octetsOf, coreAt, hallAt, namesAt, canonical}
+use Rattle.desk_octets.specs.Form.{coreOctets, deskOctets, coreAt, hallAt, namesAt, canonical}
 
 -- a desk of the right shape, as steps leave every desk: columns of sixteen, empty places behind those who wait, zeros behind an identity
 pub record Shaped (c : Core) (h : Hall) (ns : Names) : Type 0 where
@@ -29,15 +29,15 @@ pub record StandsFor (s : List ℕ) (c : Core) (h : Hall) (ns : Names) : Type 0 
 
 -- Back (proofs/Fits, on proofs/Back): the octets of a desk hold what the table says, and stand for that desk
 pub record Back (c : Core) (h : Hall) (ns : Names) : Type 0 where
-  pub stands : StandsFor (octetsOf c h ns) c h ns
-  pub holds : canonical (octetsOf c h ns) ≡ true
+  pub stands : StandsFor (deskOctets c h ns) c h ns
+  pub holds : canonical (deskOctets c h ns) ≡ true
 
 abbrev pub EveryDeskBack : Type 0
 EveryDeskBack = (c : Core) (h : Hall) (ns : Names) → Shaped c h ns → Back c h ns
 
 -- Forth (proofs/One): octets that hold what the table says are those of the desk that they stand for
 abbrev pub EveryStringForth : Type 0
-EveryStringForth = (s : List ℕ) → Octets s → canonical s ≡ true → octetsOf (coreAt s) (hallAt s) (namesAt s) ≡ s
+EveryStringForth = (s : List ℕ) → Octets s → canonical s ≡ true → deskOctets (coreAt s) (hallAt s) (namesAt s) ≡ s
 
 -- One (proofs/One): so two strings that stand for one desk are the same
 abbrev pub OneString : Type 0
@@ -49,4 +49,4 @@ OneString =
 -- Written (proofs/One): the core written into octets that hold what the table says leaves those of the desk with that core
 abbrev pub CoreWritten : Type 0
 CoreWritten =
-    (s : List ℕ) → Octets s → canonical s ≡ true → (c : Core) → over s phasePlace (coreOctets c) ≡ octetsOf c (hallAt s) (namesAt s)
+    (s : List ℕ) → Octets s → canonical s ≡ true → (c : Core) → over s phasePlace (coreOctets c) ≡ deskOctets c (hallAt s) (namesAt s)

@@ -9,12 +9,12 @@ use lib.IntN.{ℤ}
 use lib.ListN.{length}
 use Rattle.octets.specs.Octets.{over}
 use Rattle.desk_test.specs.Lent.{formed}
-use Rattle.desk_steps.specs.Steps.{leaves, refusal, finished, settles}
+use Rattle.desk_steps.specs.Steps.{stepLeaves, refusal, finished, settles}
 use Rattle.report_octets.specs.Places.{reportSize}
 
 -- an answer is handed on
-pub same-leaves : {a b : ℤ} {d r : List ℕ} → a ≡ b → leaves a d r ≡ leaves b d r
-same-leaves {d = d} {r = r} p = λ i. leaves (p i) d r
+pub same-leaves : {a b : ℤ} {d r : List ℕ} → a ≡ b → stepLeaves a d r ≡ stepLeaves b d r
+same-leaves {d = d} {r = r} p = λ i. stepLeaves (p i) d r
 
 module _ (d : List ℕ) (q : formed d ≡ true) where
   module _ (r : List ℕ) (n : ℕ) (desk report : List ℕ) where

@@ -18,7 +18,7 @@ use Rattle.events.specs.Events.{wholeDesk, outcome, step, leave}
 use Rattle.packet_events.specs.PacketEvents.{hears}
 use Rattle.events.specs.declared.Event.{Event}
 use Rattle.events.specs.declared.Event.the-variants.{Expiry}
-use Rattle.desk_octets.specs.Form.{octetsOf, coreAt, hallAt, namesAt}
+use Rattle.desk_octets.specs.Form.{deskOctets, coreAt, hallAt, namesAt}
 use Rattle.report_octets.specs.Report.{reportOctets}
 use Rattle.desk_test.specs.Lent.{formed}
 use Rattle.report_octets.specs.Places.{reportSize}
@@ -29,14 +29,14 @@ pub record Leaves : Type 0 where
   pub desk : List ℕ
   pub report : List ℕ
 
-abbrev pub leaves : ℤ → List ℕ → List ℕ → Leaves
-leaves n d r = record { answer = n; desk = d; report = r }
+abbrev pub stepLeaves : ℤ → List ℕ → List ℕ → Leaves
+stepLeaves n d r = record { answer = n; desk = d; report = r }
 
 abbrev pub refusal : ℕ → List ℕ → List ℕ → Leaves
-refusal n d r = leaves (signed (refused n)) d r
+refusal n d r = stepLeaves (signed (refused n)) d r
 
 abbrev pub finished : List ℕ → List ℕ → Leaves
-finished d r = leaves (signed (result 0)) d r
+finished d r = stepLeaves (signed (result 0)) d r
 
 -- a step to which the rules answer n, with the desk and the report it would write
 unfoldable pub settles : List ℕ → List ℕ → ℕ → List ℕ → List ℕ → Leaves
@@ -48,7 +48,7 @@ settles d r n desk report =
 -- what happens comes to an outcome: the whole desk afterwards, and the report
 unfoldable pub outcomeOn : List ℕ → List ℕ → Outcome → Leaves
 outcomeOn d r o =
-    settles d r (answerNumber (o .answer)) (octetsOf (o .desk .core) (o .desk .hall) (o .desk .names)) (reportOctets (o .report))
+    settles d r (answerNumber (o .answer)) (deskOctets (o .desk .core) (o .desk .hall) (o .desk .names)) (reportOctets (o .report))
 
 -- an event changes the core alone: seats, settings and identities are those that stood there
 unfoldable pub stepOn : List ℕ → List ℕ → Step → Leaves

@@ -6,12 +6,12 @@ use steps::Step;
 ghost use mathlib.Core.Path.{_≡_};
 ghost use mathlib.Core.Bool.{true};
 ghost use Rattle.desk_test.specs.Lent.{formed};
-ghost use Rattle.desk_steps.specs.Steps.{leaves, outcomeOn, stepOn, eventOn, seatNumbered};
+ghost use Rattle.desk_steps.specs.Steps.{stepLeaves, outcomeOn, stepOn, eventOn, seatNumbered};
 
 // Writes what a step brought about, unless it was refused or there is no room for its report.
 pub fn settle(desk: &mut [u8], report: &mut [u8], step: Step) -> i32
     requires { ⌜ formed (now desk) ≡ true ⌝ }
-    ensures { λ r. ⌜ leaves r (now (desk .exit)) (now (report .exit)) ≡ stepOn (now (desk .entry)) (now (report .entry)) step ⌝ }
+    ensures { λ r. ⌜ stepLeaves r (now (desk .exit)) (now (report .exit)) ≡ stepOn (now (desk .entry)) (now (report .entry)) step ⌝ }
 {
     let answer = step.answer;
     let n = hall::number_of(answer);
@@ -31,7 +31,7 @@ pub fn settle(desk: &mut [u8], report: &mut [u8], step: Step) -> i32
 // As settle, for a step that changed the seats too.
 pub fn settle_outcome(desk: &mut [u8], report: &mut [u8], outcome: Outcome) -> i32
     requires { ⌜ formed (now desk) ≡ true ⌝ }
-    ensures { λ r. ⌜ leaves r (now (desk .exit)) (now (report .exit)) ≡ outcomeOn (now (desk .entry)) (now (report .entry)) outcome ⌝ }
+    ensures { λ r. ⌜ stepLeaves r (now (desk .exit)) (now (report .exit)) ≡ outcomeOn (now (desk .entry)) (now (report .entry)) outcome ⌝ }
 {
     let answer = outcome.answer;
     let n = hall::number_of(answer);
@@ -52,7 +52,7 @@ pub fn settle_outcome(desk: &mut [u8], report: &mut [u8], outcome: Outcome) -> i
 }
 
 pub fn event_on(desk: &mut [u8], report: &mut [u8], event: Event) -> i32
-    ensures { λ r. ⌜ leaves r (now (desk .exit)) (now (report .exit)) ≡ eventOn (now (desk .entry)) (now (report .entry)) event ⌝ }
+    ensures { λ r. ⌜ stepLeaves r (now (desk .exit)) (now (report .exit)) ≡ eventOn (now (desk .entry)) (now (report .entry)) event ⌝ }
 {
     if desk_test::is_desk(desk) {
         let core = desk_reading::core_at(desk);

@@ -10,14 +10,14 @@ use Rattle.reach.specs.Sound.{Sound}
 use Rattle.desk_test.specs.Lent.{isSound}
 use Rattle.desk_test_laws.specs.Typed.{Typed}
 
-abbrev pub Passes : Desk → Type 0
-Passes d = isSound (d .core) (d .hall) (d .names) ≡ true
+abbrev pub PassesTest : Desk → Type 0
+PassesTest d = isSound (d .core) (d .hall) (d .names) ≡ true
 
 abbrev pub SoundTest : Type 0
-SoundTest = (d : Desk) → Typed d → Passes d → Sound d
+SoundTest = (d : Desk) → Typed d → PassesTest d → Sound d
 
 abbrev pub TestSound : Type 0
-TestSound = (d : Desk) → Sound d → Passes d
+TestSound = (d : Desk) → Sound d → PassesTest d
 
 -- what a desk's types give, every sound desk has
 abbrev pub SoundTyped : Type 0
@@ -25,8 +25,8 @@ SoundTyped = (d : Desk) → Sound d → Typed d
 
 -- every desk that can be reached passes
 abbrev pub ReachedPasses : Type 0
-ReachedPasses = (start : Desk) → Fresh start → (xs : List Doing) → Passes (afterAll start xs)
+ReachedPasses = (start : Desk) → Fresh start → (xs : List Doing) → PassesTest (afterAll start xs)
 
 -- and what passes goes on passing, whatever does
 abbrev pub PassesKept : Type 0
-PassesKept = (d : Desk) (x : Doing) → Typed d → Passes d → Passes (after d x)
+PassesKept = (d : Desk) (x : Doing) → Typed d → PassesTest d → PassesTest (after d x)

@@ -20,8 +20,8 @@ ghost use lib.ListN.{length};
 ghost use Rattle.octets.specs.Octets.{over};
 ghost use Rattle.identities.specs.Identity.{nameAt};
 ghost use Rattle.desk_octets.specs.Columns.{rows};
-ghost use Rattle.desk_octets.specs.Form.{boolOctets, seatOctets, seatFlagsOctets, wordOctets, hallOctets, lengthOctets, nameOctets, namesOctets};
-ghost use Rattle.desk_octets.specs.Form.{octetsOf};
+ghost use Rattle.desk_octets.specs.Form.{boolOctets, octetColumn, seatFlagsOctets, wordColumn, hallOctets, lengthOctets, nameOctets, namesOctets};
+ghost use Rattle.desk_octets.specs.Form.{deskOctets};
 ghost use Rattle.desk_octets.specs.Places.{takenColumn, lengthsColumn, identitiesColumn, deskSize};
 
 fn put_bools(room: &mut [u8], at: usize, bools: [bool; 16])
@@ -37,7 +37,7 @@ fn put_bools(room: &mut [u8], at: usize, bools: [bool; 16])
 
 fn put_octets(room: &mut [u8], at: usize, octets: [u8; 16])
     requires { ⌜ at + 16 ≤ length (now room) ⌝ }
-    ensures { λ _. ⌜ now (room .exit) ≡ over (now (room .entry)) at (seatOctets octets) ⌝ }
+    ensures { λ _. ⌜ now (room .exit) ≡ over (now (room .entry)) at (octetColumn octets) ⌝ }
 {
     let mut i = 0;
     while i < 16 {
@@ -48,7 +48,7 @@ fn put_octets(room: &mut [u8], at: usize, octets: [u8; 16])
 
 fn put_words(room: &mut [u8], at: usize, words: [u32; 16])
     requires { ⌜ at + 64 ≤ length (now room) ⌝ }
-    ensures { λ _. ⌜ now (room .exit) ≡ over (now (room .entry)) at (wordOctets words) ⌝ }
+    ensures { λ _. ⌜ now (room .exit) ≡ over (now (room .entry)) at (wordColumn words) ⌝ }
 {
     let mut i = 0;
     while i < 16 {
@@ -134,7 +134,7 @@ pub fn put_names(room: &mut [u8], names: Names)
 // Writes a whole desk into the first 1,200 octets of a room.
 pub fn put_desk(room: &mut [u8], core: Core, hall: Hall, names: Names)
     requires { ⌜ deskSize ≤ length (now room) ⌝ }
-    ensures { λ _. ⌜ now (room .exit) ≡ over (now (room .entry)) 0 (octetsOf core hall names) ⌝ }
+    ensures { λ _. ⌜ now (room .exit) ≡ over (now (room .entry)) 0 (deskOctets core hall names) ⌝ }
 {
     core_writing::put_letters(room);
     core_writing::put_core(room, core);

@@ -111,13 +111,13 @@ step c h (Other x) = otherFrom c (callerOf c h x)
 
 -- Leave asks only for a seat that is taken (22), in every phase. If it held the floor or waited, that ends first; what is then sent goes to
 -- those who stay, so the floor ends in the hall without the leaver.
-unfoldable pub leaves : Core → Hall → ℕ → Step
-leaves c h s =
+unfoldable pub leaveFloor : Core → Hall → ℕ → Step
+leaveFloor c h s =
     if holds (c .phase) s then floorEnds c (vacated h s) s
     else if waits c s then struckOff c s
     else done c
 
 unfoldable pub leave : Desk → ℕ → Outcome
 leave d s =
-    if isPresent (d .hall) s then outcome (leaves (d .core) (d .hall) s) (vacated (d .hall) s) (withName (d .names) s noName)
+    if isPresent (d .hall) s then outcome (leaveFloor (d .core) (d .hall) s) (vacated (d .hall) s) (withName (d .names) s noName)
     else outcome (refused (d .core) NoSuchSeat) (d .hall) (d .names)

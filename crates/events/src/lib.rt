@@ -13,7 +13,7 @@ use steps::Report;
 use steps::Step;
 use timers::Timer;
 ghost use mathlib.Core.Path.{_≡_};
-ghost use Rattle.events.specs.Events.{wholeDesk, fresh, starts, callerOf, struckOff, releases, asksPlace, talks, requestFrom, releaseFrom, placeFrom, mediaFrom, otherFrom, step, leaves, leave};
+ghost use Rattle.events.specs.Events.{wholeDesk, fresh, starts, callerOf, struckOff, releases, asksPlace, talks, requestFrom, releaseFrom, placeFrom, mediaFrom, otherFrom, step, leaveFloor, leave};
 
 // A seat's events come with its SSRC: Request, Release and Queue Position Request, any other packet, media.
 pub enum Event {
@@ -229,7 +229,7 @@ pub fn make_step(core: Core, hall: Hall, event: Event) -> Step
 // Leave.
 
 fn leave_floor(core: Core, hall: Hall, seat: u8) -> Step
-    ensures { λ r. ⌜ r ≡ leaves core hall seat ⌝ }
+    ensures { λ r. ⌜ r ≡ leaveFloor core hall seat ⌝ }
 {
     let phase = core.phase;
     if giving::is_holder(phase, seat) {

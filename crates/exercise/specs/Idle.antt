@@ -24,13 +24,13 @@ use Rattle.events.specs.Events.{fresh, outcome}
 use Rattle.events.specs.declared.Desk.{Desk}
 use Rattle.history.specs.Doing.{Doing, event, after, does, stepsOf}
 use Rattle.ways.specs.Refusals.{isDeny}
-use Rattle.exercise.specs.Thursday.{start, Seen, seen, Row, row-b, thursdayTable, events, outcomes, seenAll, thursday}
+use Rattle.exercise.specs.Thursday.{start, Seen, seen, TableRow, row-b, thursdayTable, events, outcomes, seenAll, thursday}
 
 abbrev pub Version : Type 0
 Version = Desk → Doing → Outcome
 
 -- row n of some rows, counted from 0, is kept
-abbrev pub keepsIn : Version → Desk → List Row → ℕ → Type 0
+abbrev pub keepsIn : Version → Desk → List TableRow → ℕ → Type 0
 keepsIn v d [] n = ⊥
 keepsIn v d (r ∷ rs) zero = seen (v d (r .happens)) ≡ r .comes
 keepsIn v d (r ∷ rs) (suc n) = keepsIn v (v d (r .happens) .desk) rs n
@@ -73,7 +73,7 @@ abbrev restOf : List Seen → List Seen
 restOf [] = []
 restOf (s ∷ ss) = ss
 
-keeps-in : (d : Desk) (rs : List Row) (n : ℕ) → n < length rs → seenAll (stepsOf d (events rs)) ≡ outcomes rs → keepsIn does d rs n
+keeps-in : (d : Desk) (rs : List TableRow) (n : ℕ) → n < length rs → seenAll (stepsOf d (events rs)) ≡ outcomes rs → keepsIn does d rs n
 keeps-in d [] n l e = absurd (omega (arith, l))
 keeps-in d (r ∷ rs) zero l e = ap firstOf e
 keeps-in d (r ∷ rs) (suc n) l e = keeps-in (after d (r .happens)) rs n (omega (arith, l)) (ap restOf e)
@@ -121,22 +121,22 @@ works-once v e f =
     )
 
 -- Marks that are invented. Those of a step that is the table's are the table's, at every row.
-abbrev pub marksAtRow : Version → Desk → List Row → ℕ → Marks
+abbrev pub marksAtRow : Version → Desk → List TableRow → ℕ → Marks
 marksAtRow v d [] n = noMarks
 marksAtRow v d (r ∷ rs) zero = v d (r .happens) .report .marks
 marksAtRow v d (r ∷ rs) (suc n) = marksAtRow v (v d (r .happens) .desk) rs n
 
-abbrev pub marksIn : List Row → ℕ → Marks
-marksIn [] n = noMarks
-marksIn (r ∷ rs) zero = r .comes .marks
-marksIn (r ∷ rs) (suc n) = marksIn rs n
+abbrev pub rowMarks : List TableRow → ℕ → Marks
+rowMarks [] n = noMarks
+rowMarks (r ∷ rs) zero = r .comes .marks
+rowMarks (r ∷ rs) (suc n) = rowMarks rs n
 
-invents-in : (v : Version) (d : Desk) (rs : List Row) (n : ℕ) → (marksAtRow v d rs n ≡ marksIn rs n → ⊥) → keepsIn v d rs n → ⊥
+invents-in : (v : Version) (d : Desk) (rs : List TableRow) (n : ℕ) → (marksAtRow v d rs n ≡ rowMarks rs n → ⊥) → keepsIn v d rs n → ⊥
 invents-in v d [] n f k = k
 invents-in v d (r ∷ rs) zero f k = f (ap (λ (s : Seen). s .marks) k)
 invents-in v d (r ∷ rs) (suc n) f k = invents-in v (v d (r .happens) .desk) rs n f k
 
-pub invents-marks : (v : Version) (n : ℕ) → (marksAtRow v start thursdayTable n ≡ marksIn thursdayTable n → ⊥) → Keeps v n → ⊥
+pub invents-marks : (v : Version) (n : ℕ) → (marksAtRow v start thursdayTable n ≡ rowMarks thursdayTable n → ⊥) → Keeps v n → ⊥
 invents-marks v n f k = invents-in v start thursdayTable n f k
 
 abbrev hasSeat : Mark → Bool

@@ -8,7 +8,7 @@ use mathlib.Core.List.{List, [], _∷_}
 use lib.ListN.{replicate}
 use Rattle.words.specs.Choice.{if_then_else_}
 use Rattle.line.specs.declared.Entry.{Entry}
-use Rattle.line.specs.Line.{waiting, lineOf, before, ahead, enter, anotherAtLeast, without, seatsOf, nobody as no-one, priorityOf, entryOf}
+use Rattle.line.specs.Line.{waiting, lineOf, before, ahead, enter, anotherAtLeast, without, seatSet, noSeats, priorityOf, entryOf}
 use Rattle.hall.specs.declared.Settings.{Settings}
 use Rattle.hall.specs.declared.Newcomer.{Newcomer}
 use Rattle.hall.specs.declared.Asked.the-variants.{Priority}
@@ -33,10 +33,10 @@ use Rattle.events.specs.declared.Event.the-variants.{Start, Expiry, Request, Re
 use Rattle.timers.specs.declared.Timer.the-variants as timer
 use Rattle.events.specs.declared.Outcome.{Outcome}
 use Rattle.firing.specs.Firing.{halted, stops, endsIn, revokesIn, idleAgain, revokesAgain, grantsOrEnds, grantsAgain, fires, expires}
-use Rattle.events.specs.Events.{fresh, starts, callerOf, struckOff, releases, asksPlace, talks, step, leaves, leave}
+use Rattle.events.specs.Events.{fresh, starts, callerOf, struckOff, releases, asksPlace, talks, step, leaveFloor, leave}
 use Rattle.ways.specs.Ways.{marks}
 use Rattle.events.specs.declared.Desk.{Desk}
-use Rattle.history.specs.Doing.{Doing, event, leaves as leaves-now, joins, made, does, afterAll, stepsOf}
+use Rattle.history.specs.Doing.{Doing, event, leaves, joins, made, does, afterAll, stepsOf}
 
 -- The paper's settings; four seats of highest priority 255, of which the last did not negotiate queueing.
 abbrev pub settings : Settings
@@ -90,7 +90,7 @@ seen l =
       marks = l .report .marks;
     }
 
-pub record Row : Type 0 where
+pub record TableRow : Type 0 where
   pub happens : Doing
   pub comes : Seen
 
@@ -99,7 +99,7 @@ infix 90 _at_
 abbrev _at_ : ℕ → ℕ → Entry
 s at p = entryOf s p
 
-abbrev row : Doing → Phase → ℕ → List Entry → Sending → Sending → Marks → Row
+abbrev row : Doing → Phase → ℕ → List Entry → Sending → Sending → Marks → TableRow
 row x p n l m₁ m₂ ms =
     record { happens = x; comes = record { phase = p; sequence = n; line = l; answer = Done; first = m₁; second = m₂; marks = ms } }
 
@@ -132,21 +132,21 @@ abbrev just-3 : List Bool
 just-3 = four false false false true
 
 -- b: 0 asks 5; given; Taken, sequence 2
-abbrev pub row-b : Row
+abbrev pub row-b : TableRow
 row-b =
     row (asks 0 5) (Taken (0 at 5) NoMore) 2 [] (say.Granted 5 ⇒ just-0) (say.Taken 0 2 ⇒ four false true true true)
-    (marks NoSeat no-one NoSeat (AtOnce 0))
+    (marks NoSeat noSeats NoSeat (AtOnce 0))
 
-abbrev pub thursdayTable : List Row
+abbrev pub thursdayTable : List TableRow
 thursdayTable =
     -- a: start; Idle, sequence 1
     row start-call (Idle true) 1 [] (say.Idle 1 ⇒ all-four) silence noMarks
     ∷ row-b
     -- c: 1 asks 5; place 1
-    ∷ row (asks 1 5) (Taken (0 at 5) NoMore) 2 (1 at 5 ∷ []) (say.Info 1 5 ⇒ just-1) silence (marks (Seat 1) no-one NoSeat NotGiven)
+    ∷ row (asks 1 5) (Taken (0 at 5) NoMore) 2 (1 at 5 ∷ []) (say.Info 1 5 ⇒ just-1) silence (marks (Seat 1) noSeats NoSeat NotGiven)
     -- d: 2 asks 6; place 1
     ∷ row (asks 2 6) (Taken (0 at 5) NoMore) 2 (2 at 6 ∷ 1 at 5 ∷ []) (say.Info 1 6 ⇒ just-2) silence
-    (marks (Seat 2) no-one NoSeat NotGiven)
+    (marks (Seat 2) noSeats NoSeat NotGiven)
     -- e: 1 asks 6; moved, place 2
     ∷ row (asks 1 6) (Taken (0 at 5) NoMore) 2 (2 at 6 ∷ 1 at 6 ∷ []) (say.Info 2 6 ⇒ just-1) silence noMarks
     -- f: 3 asks 199; Deny #1
@@ -157,23 +157,23 @@ thursdayTable =
     ∷ row (releases-it 2) (Taken (0 at 5) NoMore) 2 (1 at 6 ∷ []) silence silence (marks NoSeat just-2 NoSeat NotGiven)
     -- i: 3 asks 200; placed, Revoke #4 to 0, no Info
     ∷ row (asks 3 200) (Revoking (0 at 5) 4) 2 (3 at 200 ∷ 1 at 6 ∷ []) (say.Revoke 4 ⇒ just-0) silence
-    (marks (Seat 3) no-one NoSeat NotGiven)
+    (marks (Seat 3) noSeats NoSeat NotGiven)
     -- j: T3; 0 ended, 3 given, sequence 3
     ∷ row (event (Expiry timer.T3)) (Taken (3 at 200) T20) 3 (1 at 6 ∷ []) (say.Granted 200 ⇒ just-3)
-    (say.Taken 3 3 ⇒ four true true true false) (marks NoSeat no-one (Seat 0) (OutOfLine 3))
+    (say.Taken 3 3 ⇒ four true true true false) (marks NoSeat noSeats (Seat 0) (OutOfLine 3))
     -- k: T20 twice; Granted; then 3 ended, 1 given, sequence 4
     ∷ row (event (Expiry timer.T20)) (Taken (3 at 200) T20) 3 (1 at 6 ∷ []) (say.Granted 200 ⇒ just-3) silence noMarks
     ∷ row (event (Expiry timer.T20)) (Taken (1 at 6) T20) 4 [] (say.Granted 6 ⇒ just-1) (say.Taken 1 4 ⇒ four true false true true)
-    (marks NoSeat no-one (Seat 3) (OutOfLine 1))
+    (marks NoSeat noSeats (Seat 3) (OutOfLine 1))
     -- l: 1 leaves; 1 ended, Idle to 0, 2, 3, sequence 5
-    ∷ row (leaves-now 1) (Idle true) 5 [] (say.Idle 5 ⇒ four true false true true) silence (marks NoSeat no-one (Seat 1) NotGiven)
+    ∷ row (leaves 1) (Idle true) 5 [] (say.Idle 5 ⇒ four true false true true) silence (marks NoSeat noSeats (Seat 1) NotGiven)
     ∷ []
 
-abbrev pub events : List Row → List Doing
+abbrev pub events : List TableRow → List Doing
 events [] = []
 events (r ∷ rs) = r .happens ∷ events rs
 
-abbrev pub outcomes : List Row → List Seen
+abbrev pub outcomes : List TableRow → List Seen
 outcomes [] = []
 outcomes (r ∷ rs) = r .comes ∷ outcomes rs
 
@@ -183,11 +183,11 @@ seenAll (l ∷ ls) = seen l ∷ seenAll ls
 
 -- the statement: the rules, from the desk that was made and the four that joined it, give the table
 pub thursday : seenAll (stepsOf start (events thursdayTable)) ≡ outcomes thursdayTable
-unfolding if_then_else_ waiting lineOf before ahead enter anotherAtLeast without seatsOf emptyHall alone effective seatOf freeSeat withSeat
+unfolding if_then_else_ waiting lineOf before ahead enter anotherAtLeast without seatSet emptyHall alone effective seatOf freeSeat withSeat
     octetsOf nameOf noNames withName same seatNamed lengthAllowed ssrcTaken seated join next given givenAtOnce givenOutOfLine entersIdle
     passesOn floorEnds revokes waits priorityIn priorityOf full presses denied infoOf holderAsks informed pressed rule6 asksAgain placed
     request halted stops endsIn revokesIn idleAgain revokesAgain grantsOrEnds grantsAgain fires expires fresh starts callerOf struckOff
-    releases asksPlace talks step leaves leave does
+    releases asksPlace talks step leaveFloor leave does
 thursday = refl
 
 -- the four took the seats 0 to 3, each with answer 0

@@ -5,7 +5,7 @@ use mathlib.Core.List.{[]}
 use lib.Dec.{ltb}
 use Rattle.words.specs.Choice.{if_then_else_}
 use Rattle.line.specs.declared.Entry.{Entry}
-use Rattle.line.specs.Line.{waiting, lineOf, seatsOf}
+use Rattle.line.specs.Line.{waiting, lineOf, seatSet}
 use Rattle.hall.specs.declared.Hall.{Hall}
 use Rattle.hall.specs.declared.Answer.the-variants.{CallStopped, NotExpected}
 use Rattle.hall.specs.Seats.{only, everybody}
@@ -25,7 +25,7 @@ use Rattle.timers.specs.Timers.{running, runs, isStopped}
 
 -- Stop: whoever holds the floor has ended, the whole line is struck off, nothing is sent, and no timer runs any more.
 unfoldable pub halted : Core → Step
-halted c = done (c inPhase Stopped withLine lineOf []) marksStruck seatsOf (waiting (c .line))
+halted c = done (c inPhase Stopped withLine lineOf []) marksStruck seatSet (waiting (c .line))
 
 unfoldable pub stops : Core → Phase → Step
 stops c Stopped = refused c CallStopped

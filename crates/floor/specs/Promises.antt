@@ -14,7 +14,7 @@ use Rattle.events.specs.declared.Event.the-variants.{Start, Stop, Media}
 use Rattle.timers.specs.Timers.{timerNamed, running}
 use Rattle.desk_octets.specs.Form.{kindOctet, coreAt, hallAt, namesAt}
 use Rattle.report_octets.specs.Report.{maskOf}
-use Rattle.desk_steps.specs.Steps.{leaves, seatNumbered, leaveOn, eventOn, packetOn, firedOn}
+use Rattle.desk_steps.specs.Steps.{stepLeaves, seatNumbered, leaveOn, eventOn, packetOn, firedOn}
 use Rattle.desk_making.specs.Making.{makeOn, newcomer, joinOn, loadOn}
 use Rattle.desk_looking.specs.Looking.{messageOn, readOn, writeOn, saveOn, screenOn, looks, holderSeat, holderPriority}
 use Rattle.clocks_looking.specs.ClockSets.{timerSet}
@@ -25,11 +25,11 @@ use Rattle.clocks_looking.specs.ClockSets.{startsOn, stopsOn}
 -- THE FACE
 
 -- its number, which every change of a function that C programs see counts up
-abbrev pub version : ℕ
-version = 2
+abbrev pub faceVersion : ℕ
+faceVersion = 2
 
 abbrev pub VersionPromise : (answer : ℤ) → Type 0
-VersionPromise answer = answer ≡ signed (result version)
+VersionPromise answer = answer ≡ signed (result faceVersion)
 
 -- A DESK AND ITS SEATS
 
@@ -41,24 +41,24 @@ JoinPromise desk identity ssrc highest queueing receiveOnly answer desk′ =
     (answer, desk′) ≡ joinOn desk identity (newcomer ssrc highest queueing receiveOnly)
 
 abbrev pub LeavePromise : (desk : List ℕ) (seat : ℕ) (report : List ℕ) (answer : ℤ) (desk′ report′ : List ℕ) → Type 0
-LeavePromise desk seat report answer desk′ report′ = leaves answer desk′ report′ ≡ leaveOn desk report (seatNumbered seat)
+LeavePromise desk seat report answer desk′ report′ = stepLeaves answer desk′ report′ ≡ leaveOn desk report (seatNumbered seat)
 
 -- WHAT HAPPENS IN THE CALL
 
 abbrev pub StartPromise : (desk report : List ℕ) (answer : ℤ) (desk′ report′ : List ℕ) → Type 0
-StartPromise desk report answer desk′ report′ = leaves answer desk′ report′ ≡ eventOn desk report Start
+StartPromise desk report answer desk′ report′ = stepLeaves answer desk′ report′ ≡ eventOn desk report Start
 
 abbrev pub StopPromise : (desk report : List ℕ) (answer : ℤ) (desk′ report′ : List ℕ) → Type 0
-StopPromise desk report answer desk′ report′ = leaves answer desk′ report′ ≡ eventOn desk report Stop
+StopPromise desk report answer desk′ report′ = stepLeaves answer desk′ report′ ≡ eventOn desk report Stop
 
 abbrev pub PacketPromise : (desk packet report : List ℕ) (answer : ℤ) (desk′ report′ : List ℕ) → Type 0
-PacketPromise desk packet report answer desk′ report′ = leaves answer desk′ report′ ≡ packetOn desk report packet
+PacketPromise desk packet report answer desk′ report′ = stepLeaves answer desk′ report′ ≡ packetOn desk report packet
 
 abbrev pub MediaPromise : (desk : List ℕ) (ssrc : ℕ) (report : List ℕ) (answer : ℤ) (desk′ report′ : List ℕ) → Type 0
-MediaPromise desk ssrc report answer desk′ report′ = leaves answer desk′ report′ ≡ eventOn desk report (Media ssrc)
+MediaPromise desk ssrc report answer desk′ report′ = stepLeaves answer desk′ report′ ≡ eventOn desk report (Media ssrc)
 
 abbrev pub TimerPromise : (desk : List ℕ) (timer : ℕ) (report : List ℕ) (answer : ℤ) (desk′ report′ : List ℕ) → Type 0
-TimerPromise desk timer report answer desk′ report′ = leaves answer desk′ report′ ≡ firedOn desk report (timerNamed timer)
+TimerPromise desk timer report answer desk′ report′ = stepLeaves answer desk′ report′ ≡ firedOn desk report (timerNamed timer)
 
 -- WHAT IS SENT, AND PACKETS BY THEMSELVES
 

@@ -21,13 +21,13 @@ use Rattle.events.specs.Events.{fresh}
 use Rattle.words.specs.Choice.{if_then_else_, by-if}
 use Rattle.events.specs.declared.Desk.{Desk}
 use Rattle.history.specs.Doing.{made, does, afterAll, Fresh, justMade, andJoined}
-use Rattle.loading.specs.Loading.{Load, Seats, whole, fault, refused, ifSeated, joinAll, seatAll, settled, loading, whoIs, readSeat}
+use Rattle.loading.specs.Loading.{Load, Seats, whole, fault, notLoaded, ifSeated, joinAll, seatAll, settled, loading, whoIs, readSeat}
 use Rattle.loading.specs.Loading.{identityLength, afterSeat, laidOut, seatInfront, readSeats, zeros, settingsOn}
 use Rattle.words.proofs.Tests.{both, neither-left}
 use Rattle.message.specs.Answers.{result}
 use Rattle.signed.specs.Signed.{signed, Succeeds}
 use Rattle.desk_making.proofs.Making.{held-in-octets}
-use Rattle.desk_making.specs.Making.{inOctets, settable, written, loadOn}
+use Rattle.desk_making.specs.Making.{inOctets, settable, deskWritten, loadOn}
 use Rattle.floor.specs.Promises.{LoadPromise}
 use Rattle.floor_laws.specs.Kept.{Holds, Fits, AllFit, Settable, deskIn, joinsOf, seatedFrom, joinsOn, LoadedInForm}
 use Rattle.floor_laws.proofs.All.{all-take, all-drop, all-at, at-all}
@@ -49,7 +49,7 @@ empty h ns = record { core = fresh; hall = h; names = ns }
 
 -- who sits down does so by join
 if-seated : (f : Found) (l : Load) → ifSeated f l .number ≡ 0 → ifSeated f l ≡ l
-unfolding refused
+unfolding notLoaded
 if-seated (At s) l q = refl
 if-seated Nowhere l q = absurd (omega (arith, q))
 
@@ -65,7 +65,7 @@ joins-so h ns (x ∷ xs) q =
 
 seats-so : (h : Hall) (ns : Names) (s : Seats) → seatAll h ns s .number ≡ 0 →
     deskLoaded (seatAll h ns s) ≡ afterAll (empty h ns) (seatedFrom s)
-unfolding refused
+unfolding notLoaded
 seats-so h ns (whole xs) q = joins-so h ns xs q
 seats-so h ns fault q = absurd (omega (arith, q))
 
@@ -73,8 +73,8 @@ module _ (s : List ℕ) where
   abbrev IsLoaded : Load → Type 0
   IsLoaded l = l .number ≡ 0 → (inRange (settingsOn s) ≡ true) × (deskLoaded l ≡ afterAll (made (settingsOn s)) (joinsOn s))
 
-  not-loaded : (n : ℕ) → (n ≡ 0 → ⊥) → IsLoaded (refused n)
-  unfolding refused
+  not-loaded : (n : ℕ) → (n ≡ 0 → ⊥) → IsLoaded (notLoaded n)
+  unfolding notLoaded
   not-loaded n f q = absurd (f q)
 
   settled-so : IsLoaded (settled s)
@@ -156,7 +156,7 @@ pub loaded-in-form : LoadedInForm
 loaded-in-form room sheet m room′ p z o =
     record {
       settings = its-settings room sheet m room′ p z o;
-      joins = its-joins room sheet m room′ p z o;
+      fit = its-joins room sheet m room′ p z o;
       isFresh =
           seated-fresh (made (settingsOn sheet))
           (justMade (settingsOn sheet) (in-range (settingsOn sheet) (its-settings room sheet m room′ p z o)))
@@ -169,5 +169,5 @@ loaded-in-form room sheet m room′ p z o =
 
 -- an accepted sheet and enough room
 pub loads : (room sheet : List ℕ) → loading sheet .number ≡ 0 → deskSize ≤ length room → loadOn room sheet .0 ≡ signed (result 0)
-unfolding written if_then_else_
+unfolding deskWritten if_then_else_
 loads room sheet z b = rw (z, le-leb deskSize (length room) b)

@@ -18,7 +18,7 @@ use Rattle.hall.specs.declared.Settings.{Settings}
 use Rattle.events.specs.declared.Desk.{Desk}
 use Rattle.history.specs.Doing.{made}
 use Rattle.desk_octets.proofs.Lengths.{length-octets}
-use Rattle.desk_making.specs.Making.{written, settable, makeOn}
+use Rattle.desk_making.specs.Making.{deskWritten, settable, makeOn}
 use Rattle.floor_laws.specs.Kept.{octetsFor, Holds, Settable, deskIn, Makes, MadeInForm}
 use Rattle.floor_laws.proofs.Desks.{Right, right-made, has-octets}
 
@@ -32,8 +32,8 @@ first-written room d =
     ap (λ (n : ℕ). take n (over room 0 (octetsFor d))) (sym (length-octets (d .core) (d .hall) (d .names))) ∙ first-over room (octetsFor d)
 
 -- a room is written only where all is done
-pub done-only : (room : List ℕ) (n k : ℕ) (d : Desk) → Succeeds (written room n k (d .core) (d .hall) (d .names) .0) → n ≡ 0
-unfolding written
+pub done-only : (room : List ℕ) (n k : ℕ) (d : Desk) → Succeeds (deskWritten room n k (d .core) (d .hall) (d .names) .0) → n ≡ 0
+unfolding deskWritten
 done-only room n k d =
     by-if (λ (w : ℤ × List ℕ). Succeeds (w .0) → n ≡ 0) (eqb n 0) (λ e _. eqb-true n 0 e) (λ e z. clash z (not-done n e))
 
@@ -41,8 +41,8 @@ module _ (d : Desk) where
   abbrev pub Written : ℤ × List ℕ → Type 0
   Written w = Succeeds (w .0) → Holds (deskIn (w .1)) d
 
-  pub written-so : (room : List ℕ) (n k : ℕ) → (n ≡ 0 → Right d) → Written (written room n k (d .core) (d .hall) (d .names))
-  unfolding written
+  pub written-so : (room : List ℕ) (n k : ℕ) → (n ≡ 0 → Right d) → Written (deskWritten room n k (d .core) (d .hall) (d .names))
+  unfolding deskWritten
   written-so room n k right =
       by-if Written (eqb n 0)
       (λ e. by-if Written (leb deskSize (length room)) (λ _ _. rw (first-written room d) (has-octets d (right (eqb-true n 0 e))))
@@ -50,7 +50,7 @@ module _ (d : Desk) where
       (λ e z. clash z (not-done n e))
 
 pub makes : Makes
-unfolding written if_then_else_
+unfolding deskWritten if_then_else_
 makes room g n room′ p q l = ap (λ (w : ℤ × List ℕ). w .0) p ∙ rw (q, le-leb deskSize (length room) l)
 
 -- settings that are refused make none

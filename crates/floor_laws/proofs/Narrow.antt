@@ -18,7 +18,7 @@ use Rattle.hall.specs.Seats.{only, asked, effective}
 use Rattle.steps.specs.declared.Core.{Core}
 use Rattle.steps.specs.declared.Sending.{Sending}
 use Rattle.steps.specs.Words.{_withLine_}
-use Rattle.line.specs.Line.{entryOf as entry}
+use Rattle.line.specs.Line.{entryOf}
 use Rattle.events.specs.declared.Outcome.{Outcome}
 use Rattle.events.specs.declared.Desk.{Desk}
 use Rattle.history.specs.Doing.{Doing}
@@ -74,7 +74,7 @@ module _ (h : Hall) (top : (s : ℕ) → getD (h .highest) s 0 < 256) where
       let m = getD (h .highest) s 0 in
       by-if (λ (n : ℕ). n < 256) (leb (asked a) m) (λ q. let z : asked a ≤ m = leb-true (asked a) m q in omega (arith, top s)) (λ _. top s)
 
-  pub asker-small : (x : Doing) (t p : ℕ) → asking h x ≡ asks t p → Sits h t → Small (entry t p)
+  pub asker-small : (x : Doing) (t p : ℕ) → asking h x ≡ asks t p → Sits h t → Small (entryOf t p)
   asker-small x t p a s =
       let z = asked-effective h t p x a in
       (omega (arith, s .below), rw (z .is) (effective-small t (z .field)))
@@ -94,11 +94,11 @@ module _ (d : Desk) (x : Doing) (l : Outcome) (top : (s : ℕ) → getD (d .hall
   keeps-narrow (way.asksAgain t p f g a s w z m) = six-narrow o z
   keeps-narrow (way.moves t p f g a s b n w r z m) =
       let y = without (only t) (waiting (d .core .line)) in
-      six-narrow (relined (enter (entry t p) y)
-      (enter-small (entry t p) y (asker-small (d .hall) top x t p a s) (without-small (only t) (waiting (d .core .line)) there))) z
+      six-narrow (relined (enter (entryOf t p) y)
+      (enter-small (entryOf t p) y (asker-small (d .hall) top x t p a s) (without-small (only t) (waiting (d .core .line)) there))) z
   keeps-narrow (way.places t p f g a s b n r w u z m) =
-      six-narrow (relined (enter (entry t p) (waiting (d .core .line)))
-      (enter-small (entry t p) (waiting (d .core .line)) (asker-small (d .hall) top x t p a s) there)) z
+      six-narrow (relined (enter (entryOf t p) (waiting (d .core .line)))
+      (enter-small (entryOf t p) (waiting (d .core .line)) (asker-small (d .hall) top x t p a s) there)) z
   keeps-narrow (way.passes t e es a f n w q m) =
       let y : All Small (e ∷ es) = rw w at there in
       rw q (record { line = line-small (without (only (e .seat)) (e ∷ es)) (without-small (only (e .seat)) (e ∷ es) y); holder = y .0 })

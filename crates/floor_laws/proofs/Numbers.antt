@@ -11,7 +11,7 @@ use lib.Dec.{eqb}
 use lib.ListN.{length, getD, replicate}
 use borrow.Author.Tests.{eqb-true}
 use Rattle.line.specs.Line.{entryOf}
-use Rattle.words.specs.Choice.{by-test, by-if, one as flag}
+use Rattle.words.specs.Choice.{by-test, by-if, one}
 use Rattle.octets.specs.Octets.{be16, be32, octets16, octets32, Octets, nthOctet}
 use Rattle.line.specs.declared.Entry.{Entry}
 use Rattle.line.specs.declared.Line.{Line}
@@ -35,13 +35,13 @@ use Rattle.steps.specs.declared.Phase.the-variants.{Stopped, Idle, Taken, Revok
 use Rattle.events.specs.declared.Outcome.{Outcome}
 use Rattle.events.specs.Events.{fresh, leave}
 use Rattle.events.specs.declared.Desk.{Desk}
-use Rattle.history.specs.Doing.{Doing, event, packet, leaves as leaving, joins as joining, made, does, after}
+use Rattle.history.specs.Doing.{Doing, event, packet, leaves, joins, made, does, after}
 use Rattle.ways.proofs.Walk.{every-way}
 use Rattle.reach.specs.Sound.{Sound, causeOk}
 use Rattle.reach.proofs.Hall.{hall-ok}
 use Rattle.desk_octets.specs.Form.{deskLetters, kindOctet, alsoOctet, timersOctet, holderIn, causeIn, phaseOctets, entrySeat, entryPriority}
-use Rattle.desk_octets.specs.Form.{lineOctets, coreOctets, boolOctets, seatOctets, wordOctets, hallOctets, lengthOctets, nameOctets}
-use Rattle.desk_octets.specs.Form.{namesOctets, octetsOf, phaseOf, phaseAt, entryAt, entriesAt, coreAt, octetsAt, wordsAt, hallAt}
+use Rattle.desk_octets.specs.Form.{lineOctets, coreOctets, boolOctets, octetColumn, wordColumn, hallOctets, lengthOctets, nameOctets}
+use Rattle.desk_octets.specs.Form.{namesOctets, deskOctets, phaseOf, phaseAt, entryAt, entriesAt, coreAt, octetsAt, wordsAt, hallAt}
 use Rattle.desk_octets.specs.Form.{nameIn, namesAt, seatFlagsOctets}
 use Rattle.desk_octets.specs.Columns.{column, rows}
 use Rattle.desk_octets_laws.proofs.Back.{name-short}
@@ -122,11 +122,11 @@ hall-kept : (d : Desk) (x : Doing) → DoingFits x → NarrowSeats (d .hall) (d 
 unfolding does leave
 hall-kept d (event e) w k = k
 hall-kept d (packet o) w k = k
-hall-kept d (leaving t) w k =
+hall-kept d (leaves t) w k =
     by-if (λ (l : Outcome). NarrowSeats (l .desk .hall) (l .desk .names)) (isPresent (d .hall) t)
     (λ _. one-set (d .hall) (d .names) k t false noOne noName (omega arith) (omega arith) (all-same Octet 62 0 (omega arith)))
     (λ _. k)
-hall-kept d (joining o n) w k = join-kept (d .hall) (d .names) k o n w (join (d .hall) (d .names) o n) (every-join (d .hall) (d .names) o n)
+hall-kept d (joins o n) w k = join-kept (d .hall) (d .names) k o n w (join (d .hall) (d .names) o n) (every-join (d .hall) (d .names) o n)
 
 pub narrow-kept : (d : Desk) (x : Doing) → DoingFits x → NarrowDesk d → NarrowDesk (after d x)
 narrow-kept d x w k =
@@ -146,7 +146,7 @@ unfolding octets32
 all32 n k =
     all-both Octet (octets16 (n / 65536)) (octets16 (n % 65536)) (all16 (n / 65536) (omega (arith, k))) (all16 (n % 65536) (omega arith))
 
-flag-small : (b : Bool) → Octet (flag b)
+flag-small : (b : Bool) → Octet (one b)
 flag-small true = omega arith
 flag-small false = omega arith
 
@@ -185,23 +185,23 @@ line-octets l b k =
     let z : List ℕ = 0 ∷ [] in
     let s = column (entrySeat (l .entries)) 0 15 in
     let p = column (entryPriority (l .entries)) 0 15 in
-    let one : All Octet z = (omega arith, tt) in
+    let single : All Octet z = (omega arith, tt) in
     let at : (i : ℕ) → Small (getD (l .entries) i empty) = all-at Small empty none-small (l .entries) k in
     let front = all-both Octet a s (omega (arith, b), (omega arith, tt)) (all-column Octet (entrySeat (l .entries)) (λ i. at i .0) 0 15) in
-    let asz = all-both Octet (a ++ s) z front one in
+    let asz = all-both Octet (a ++ s) z front single in
     let aszp = all-both Octet (a ++ s ++ z) p asz (all-column Octet (entryPriority (l .entries)) (λ i. at i .1) 0 15) in
-    all-both Octet (a ++ s ++ z ++ p) z aszp one
+    all-both Octet (a ++ s ++ z ++ p) z aszp single
 
 bools-octets : (bs : List Bool) → All Octet (boolOctets bs)
 unfolding boolOctets
-bools-octets bs = all-column Octet (λ i. flag (getD bs i false)) (λ i. flag-small (getD bs i false)) 0 16
+bools-octets bs = all-column Octet (λ i. one (getD bs i false)) (λ i. flag-small (getD bs i false)) 0 16
 
-seats-octets : (xs : List ℕ) → All Octet xs → All Octet (seatOctets xs)
-unfolding seatOctets
+seats-octets : (xs : List ℕ) → All Octet xs → All Octet (octetColumn xs)
+unfolding octetColumn
 seats-octets xs k = all-column Octet (λ i. getD xs i 0) (all-at Octet 0 (omega arith) xs k) 0 16
 
-words-octets : (xs : List ℕ) → All Word xs → All Octet (wordOctets xs)
-unfolding wordOctets
+words-octets : (xs : List ℕ) → All Word xs → All Octet (wordColumn xs)
+unfolding wordColumn
 words-octets xs k = all-rows Octet (λ i. octets32 (getD xs i 0)) (λ i. all32 (getD xs i 0) (all-at Word 0 (omega arith) xs k i)) 0 16
 
 seat-flags-octets : (fs : List Flags) → All Octet (seatFlagsOctets fs)
@@ -213,8 +213,8 @@ hall-octets : (h : Hall) (ns : Names) → NarrowSeats h ns → All Octet (hallOc
 unfolding hallOctets
 hall-octets h ns k =
     let a = boolOctets (h .present) in
-    let b = wordOctets (h .ssrcs) in
-    let c = seatOctets (h .highest) in
+    let b = wordColumn (h .ssrcs) in
+    let c = octetColumn (h .highest) in
     let d = seatFlagsOctets (h .flags) in
     let e : List ℕ = replicate 16 0 in
     let f = settingsOctets (h .settings) in
@@ -255,7 +255,7 @@ module _ (d : Desk) (k : Sound d) (m : NarrowDesk d) where
       all-both Octet (x ++ y ++ z) (lineOctets (c .line)) xyz (line-octets (c .line) l (m .core .line))
 
   pub desk-octets : Octets (octetsFor d)
-  unfolding octetsOf
+  unfolding deskOctets
   desk-octets =
       let c = coreOctets (d .core) in
       let h = hallOctets (d .hall) in

@@ -23,12 +23,12 @@ use Rattle.hall.specs.declared.Newcomer.{Newcomer}
 use Rattle.hall.specs.declared.Hall.{Hall}
 use Rattle.identities.specs.declared.Names.{Names}
 use Rattle.steps.specs.declared.Core.{Core}
-use Rattle.history.specs.Doing.{Doing, joins as joining, does}
+use Rattle.history.specs.Doing.{Doing, joins, does}
 use Rattle.words.proofs.Tests.{clash}
 use Rattle.desk_octets.specs.Form.{hallAt, namesAt}
 use Rattle.desk_test.specs.Lent.{formed}
-use Rattle.desk_steps.specs.Steps.{Leaves, leaves, settles, outcomeOn}
-use Rattle.desk_making.specs.Making.{written, joinOn, settable, seatTaken}
+use Rattle.desk_steps.specs.Steps.{Leaves, stepLeaves, settles, outcomeOn}
+use Rattle.desk_making.specs.Making.{deskWritten, joinOn, settable, seatTaken}
 use Rattle.signed.specs.Signed.{signed, byNumber, answers, Refuses}
 use Rattle.seat_looking.specs.Showing.{seatShown, settingsShown}
 use Rattle.desk_looking.specs.Looking.{looks, screenOn, saveOn, messageOn}
@@ -63,8 +63,8 @@ module _ (room : List ℕ) where
   abbrev pub Unwritten : ℤ × List ℕ → Type 0
   Unwritten w = Refuses (w .0) → w .1 ≡ room
 
-  written-untouched : (n k : ℕ) (c : Core) (h : Hall) (ns : Names) → Unwritten (written room n k c h ns)
-  unfolding written
+  written-untouched : (n k : ℕ) (c : Core) (h : Hall) (ns : Names) → Unwritten (deskWritten room n k c h ns)
+  unfolding deskWritten
   written-untouched n k c h ns =
       by-if Unwritten (eqb n 0) (λ _. by-if Unwritten (leb deskSize (length room)) (λ _ z. clash refl z) (λ _ z. refl)) (λ _ z. refl)
 
@@ -72,7 +72,7 @@ join-untouched : (d o : List ℕ) (w : Newcomer) → Unwritten d (joinOn d o w)
 join-untouched d o w = by-if (Unwritten d) (formed d) (λ _. written-untouched d _ _ _ _ _) (λ _ y. refl)
 
 -- so of what is promised
-untouched-by : (a : Act) (d r : List ℕ) (n : ℤ) (d′ r′ : List ℕ) → PromisedBy a d r n d′ r′ → Untouched d r (leaves n d′ r′)
+untouched-by : (a : Act) (d r : List ℕ) (n : ℤ) (d′ r′ : List ℕ) → PromisedBy a d r n d′ r′ → Untouched d r (stepLeaves n d′ r′)
 untouched-by a d r n d′ r′ p =
     by-act (Untouched d r) a d r n d′ r′ p (λ o w _ z. (join-untouched d o w z, refl))
     (λ _. outcome-untouched d r (does (deskAt d) (meant a)))
@@ -168,8 +168,8 @@ module _ (d r : List ℕ) (q : formed d ≡ true) where
   unfolding outcomeOn
   outcome-answers o b = settles-answers d r (answerNumber (o .answer)) _ _ q b
 
-  written-answers : (n k : ℕ) (c : Core) (h : Hall) (ns : Names) → written d n k c h ns .0 ≡ signed (byNumber n k)
-  unfolding written if_then_else_
+  written-answers : (n k : ℕ) (c : Core) (h : Hall) (ns : Names) → deskWritten d n k c h ns .0 ≡ signed (byNumber n k)
+  unfolding deskWritten if_then_else_
   written-answers n k c h ns = by-test (eqb n 0) (λ e. rw (e, le-leb deskSize (length d) (has-room d q))) (λ e. rw e)
 
 -- who joins sits in the lowest free seat
@@ -198,11 +198,11 @@ module _ (d : List ℕ) (q : formed d ≡ true) (i : List ℕ) (w : Newcomer) wh
   abbrev joined : Joined
   joined = join (hallAt d) (namesAt d) i w
 
-  join-answers : joinOn d i w .0 ≡ signed (byNumber (answerNumber (joined .answer)) (doneBy (deskAt d) (joining i w)))
+  join-answers : joinOn d i w .0 ≡ signed (byNumber (answerNumber (joined .answer)) (doneBy (deskAt d) (joins i w)))
   join-answers =
-      by-if (λ (v : ℤ × List ℕ). v .0 ≡ signed (byNumber (answerNumber (joined .answer)) (doneBy (deskAt d) (joining i w)))) (formed d)
+      by-if (λ (v : ℤ × List ℕ). v .0 ≡ signed (byNumber (answerNumber (joined .answer)) (doneBy (deskAt d) (joins i w)))) (formed d)
       (λ _. written-answers d d q _ _ _ _ _
-      ∙ same-number (answerNumber (joined .answer)) (seatTaken (joined .seat)) (doneBy (deskAt d) (joining i w))
+      ∙ same-number (answerNumber (joined .answer)) (seatTaken (joined .seat)) (doneBy (deskAt d) (joins i w))
       (λ z. ap seatTaken (joins-lowest (hallAt d) (namesAt d) i w z)))
       (λ z. clash q z)
 

@@ -25,7 +25,7 @@ use Rattle.message_octets.specs.Places.{messageSize}
 use Rattle.message_octets.specs.Held.{Held, Is, Nothing, readNumber, keeping, readHeld, keptIn, writingOf, writtenOf, heldAt}
 use Rattle.report_octets.specs.declared.Told.{Told}
 use Rattle.report_octets.specs.declared.Told.the-variants.{Says, NoMessage}
-use Rattle.report_octets.specs.Report.{messageIn}
+use Rattle.report_octets.specs.Report.{toldIn}
 use Rattle.desk_octets.specs.Form.{coreAt, hallAt, namesAt, settingsAt}
 use Rattle.desk_test.specs.Lent.{formed}
 use Rattle.line.specs.Line.{waiting}
@@ -56,7 +56,7 @@ module _ (room : List ℕ) where
   tells-kept d (Says k) z = sent-kept (packetFor d k) (identityIn d k) z
 
   message-kept : (d r : List ℕ) (which : ℕ) → Unwritten room (messageOn d r which room)
-  message-kept d r which = by-if (Unwritten room) (formed d) (λ _. tells-kept d (messageIn r which)) (λ _ _. refl)
+  message-kept d r which = by-if (Unwritten room) (formed d) (λ _. tells-kept d (toldIn r which)) (λ _ _. refl)
 
   held-kept : (h : Held) (src : List ℕ) → Unwritten room (answers (writingOf h src (length room)) (writtenOf h src room))
   held-kept Nothing src z = refl

@@ -9,7 +9,7 @@ use borrow.Author.Tests.{ltb-true}
 use Rattle.words.specs.Choice.{by-if}
 use Rattle.line.specs.declared.Entry.{Entry}
 use Rattle.line.specs.declared.Line.{Line}
-use Rattle.line.specs.Line.{waiting, lineOf, empty, before, priorityOf, isIn, enter, without, added, seatsOf, nobody}
+use Rattle.line.specs.Line.{waiting, lineOf, empty, before, priorityOf, isIn, enter, without, added, seatSet, noSeats}
 use Rattle.marks.proofs.InLine.{first-in}
 use Rattle.hall.specs.declared.Hall.{Hall}
 use Rattle.hall.specs.Seats.{isPresent, queues, only, everybody, others}
@@ -19,7 +19,7 @@ use Rattle.steps.specs.declared.Kind.the-variants as say
 use Rattle.steps.specs.declared.Sending.{Sending}
 use Rattle.steps.specs.Words.{next, _⇒_, silence, noMarks}
 use Rattle.giving.specs.Floor.{holds}
-use Rattle.line.specs.Line.{entryOf as entry}
+use Rattle.line.specs.Line.{entryOf}
 use Rattle.request.specs.Request.{priorityIn, infoOf}
 use Rattle.events.specs.declared.Outcome.{Outcome}
 use Rattle.events.specs.declared.Desk.{Desk}
@@ -41,15 +41,15 @@ use Rattle.steps.specs.Causes.{mediaBurstTooLong, mediaBurstPreempted}
 
 -- sets
 only-sixteen : (s : ℕ) → length (only s) ≡ 16
-only-sixteen s = length-set nobody s true
+only-sixteen s = length-set noSeats s true
 
 added-length : (seats : List Bool) (es : List Entry) → length (added seats es) ≡ length seats
 added-length seats [] = refl
 added-length seats (e ∷ es) = added-length (set seats (e .seat) true) es ∙ length-set seats (e .seat) true
 
-line-sixteen : (es : List Entry) → length (seatsOf es) ≡ 16
-unfolding seatsOf
-line-sixteen es = added-length nobody es
+line-sixteen : (es : List Entry) → length (seatSet es) ≡ 16
+unfolding seatSet
+line-sixteen es = added-length noSeats es
 
 -- messages
 silent : MessageFits silence
@@ -111,7 +111,7 @@ module _ (d : Desk) (k : Right d) where
   short = omega (arith, k .sound .core .line .list .within, its-hall .limit)
 
   module _ (x : Doing) (l : Outcome) (whole : length (l .desk .hall .present) ≡ 16) where
-    small-asker : (t p : ℕ) → asking (d .hall) x ≡ asks t p → way.Sits (d .hall) t → Small (entry t p)
+    small-asker : (t p : ℕ) → asking (d .hall) x ≡ asks t p → way.Sits (d .hall) t → Small (entryOf t p)
     small-asker t p a s = asker-small (d .hall) (top (d .hall) (d .names) (k .narrow .seats)) x t p a s
 
     idles : (n : ℕ) → n < 65536 → MessageFits (say.Idle n ⇒ everybody (l .desk .hall))
@@ -137,15 +137,15 @@ module _ (d : Desk) (k : Right d) where
         let y = six-fits short there z in
         rw (m .1) (record { first = y .0; second = y .1; marks = unmarked })
     fits (way.moves t p f g a s b n w r z m) =
-        let es = enter (entry t p) (without (only t) (waiting (d .core .line))) in
+        let es = enter (entryOf t p) (without (only t) (waiting (d .core .line))) in
         let v : All Small es =
-        enter-small (entry t p) (without (only t) (waiting (d .core .line))) (small-asker t p a s)
+        enter-small (entryOf t p) (without (only t) (waiting (d .core .line))) (small-asker t p a s)
         (without-small (only t) (waiting (d .core .line)) there) in
         let y = six-fits (line-short es) (lined-small es v) z in
         rw (m .1) (record { first = y .0; second = y .1; marks = unmarked })
     fits (way.places t p f g a s b n r w u z m) =
-        let es = enter (entry t p) (waiting (d .core .line)) in
-        let v : All Small es = enter-small (entry t p) (waiting (d .core .line)) (small-asker t p a s) there in
+        let es = enter (entryOf t p) (waiting (d .core .line)) in
+        let v : All Small es = enter-small (entryOf t p) (waiting (d .core .line)) (small-asker t p a s) there in
         let y = six-fits (line-short es) (lined-small es v) z in
         rw (m .1) (record { first = y .0; second = y .1; marks = record { placed = s .below; struck = refl; ended = tt; given = tt } })
     fits (way.passes t e es a f n w q m) =

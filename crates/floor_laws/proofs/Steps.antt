@@ -15,11 +15,11 @@ use Rattle.hall.specs.declared.Newcomer.{Newcomer}
 use Rattle.joining.specs.declared.Joined.{Joined}
 use Rattle.joining.specs.Join.{join}
 use Rattle.events.specs.declared.Desk.{Desk}
-use Rattle.history.specs.Doing.{Doing, joins as joining, does, after, afterAll}
+use Rattle.history.specs.Doing.{Doing, joins, does, after, afterAll}
 use Rattle.desk_octets.specs.Form.{coreAt, hallAt, namesAt}
 use Rattle.desk_test.specs.Lent.{formed}
-use Rattle.desk_steps.specs.Steps.{Leaves, leaves, settles, outcomeOn}
-use Rattle.desk_making.specs.Making.{written, joinOn, seatTaken}
+use Rattle.desk_steps.specs.Steps.{Leaves, stepLeaves, settles, outcomeOn}
+use Rattle.desk_making.specs.Making.{deskWritten, joinOn, seatTaken}
 use Rattle.message.specs.Answers.{refused, result}
 use Rattle.signed.specs.Signed.{signed, answers}
 use Rattle.signed.proofs.Signed.{not-done}
@@ -61,31 +61,32 @@ module _ (d : List ℕ) (o : Octets d) (q : formed d ≡ true) (k : Right (deskA
 
   module _ (r : List ℕ) (i : List ℕ) (n : Newcomer) (w : Fits i n) where
     abbrev Seated : ℤ × List ℕ → Type 0
-    Seated z = Stands (joining i n) (leaves (z .0) (z .1) r)
+    Seated z = Stands (joins i n) (stepLeaves (z .0) (z .1) r)
 
-    joined-so : (k : ℕ) → Seated (answers (result k) (over d 0 (octetsFor (after (deskAt d) (joining i n)))))
+    joined-so : (k : ℕ) → Seated (answers (result k) (over d 0 (octetsFor (after (deskAt d) (joins i n)))))
     joined-so k =
-        let x = after (deskAt d) (joining i n) in
-        rw (over-desk d (x .core) (x .hall) (x .names) (fits-whole d (fits d q))) (done-so _ k (joining i n) (carried (joining i n) w))
+        let x = after (deskAt d) (joins i n) in
+        rw (over-desk d (x .core) (x .hall) (x .names) (fits-whole d (fits d q))) (done-so _ k (joins i n) (carried (joins i n) w))
 
     abbrev j : Joined
     j = join (hallAt d) (namesAt d) i n
 
-    written-so : Seated (written d (answerNumber (j .answer)) (seatTaken (j .seat)) (coreAt d) (j .hall) (j .names))
-    unfolding written does
+    written-so : Seated (deskWritten d (answerNumber (j .answer)) (seatTaken (j .seat)) (coreAt d) (j .hall) (j .names))
+    unfolding deskWritten does
     written-so =
         by-if Seated (eqb (answerNumber (j .answer)) 0)
-        (λ _. by-if Seated (leb deskSize (length d)) (λ _. joined-so (seatTaken (j .seat))) (λ _. refused-so 13 (joining i n) refl))
-        (λ e. refused-so (answerNumber (j .answer)) (joining i n) e)
+        (λ _. by-if Seated (leb deskSize (length d)) (λ _. joined-so (seatTaken (j .seat))) (λ _. refused-so 13 (joins i n) refl))
+        (λ e. refused-so (answerNumber (j .answer)) (joins i n) e)
 
     pub join-so : Seated (joinOn d i n)
-    join-so = by-if Seated (formed d) (λ _. written-so) (λ _. refused-so 20 (joining i n) refl)
+    join-so = by-if Seated (formed d) (λ _. written-so) (λ _. refused-so 20 (joins i n) refl)
 
   -- so of what is promised
-  pub call-so : (r : List ℕ) (n : ℤ) (d′ r′ : List ℕ) (a : Act) → PromisedBy a d r n d′ r′ → ActFits a → Stands (meant a) (leaves n d′ r′)
+  pub call-so : (r : List ℕ) (n : ℤ) (d′ r′ : List ℕ) (a : Act) → PromisedBy a d r n d′ r′ → ActFits a →
+      Stands (meant a) (stepLeaves n d′ r′)
   call-so r n d′ r′ a p w =
       by-act (Stands (meant a)) a d r n d′ r′ p
-      (λ i m e. subst (λ (x : Doing). Stands x (leaves (joinOn d i m .0) (joinOn d i m .1) r)) (sym e)
+      (λ i m e. subst (λ (x : Doing). Stands x (stepLeaves (joinOn d i m .0) (joinOn d i m .1) r)) (sym e)
       (join-so r i m (subst (λ (x : Doing). DoingFits x) e w)))
       (λ _. outcome-so r (meant a) w)
 

@@ -5,12 +5,12 @@ use lib.Dec.{leb}
 use lib.ListN.{length}
 use borrow.Author.Tests.{leb-true, leb-false, le-leb, lt-leb}
 use Rattle.words.specs.Choice.{if_then_else_, by-test}
-use Rattle.screen.specs.Screen.{answered}
+use Rattle.screen.specs.Screen.{listAnswer}
 use Rattle.desk_looking.specs.Looking.{screened}
 use Rattle.floor_laws.specs.Kept.{OneScreen}
 
 pub one-screen : OneScreen
-unfolding screened answered if_then_else_
+unfolding screened listAnswer if_then_else_
 one-screen es room =
     let n = length es in
     let m = length room in

@@ -16,7 +16,7 @@ use Rattle.words.specs.Choice.{if_then_else_}
 use Rattle.message.specs.Answers.{refused, result}
 use Rattle.signed.specs.Signed.{signed, byNumber, isDone, Succeeds, Refuses}
 use Rattle.line.specs.declared.Entry.{Entry}
-use Rattle.screen.specs.Screen.{answered}
+use Rattle.screen.specs.Screen.{listAnswer}
 use Rattle.hall.specs.Answers.{answerNumber}
 use Rattle.hall.specs.declared.Settings.{Settings}
 use Rattle.hall.specs.declared.Newcomer.{Newcomer}
@@ -25,12 +25,12 @@ use Rattle.events.specs.declared.Event.the-variants.{Start, Stop, Media, Expiry
 use Rattle.events.specs.declared.Desk.{Desk}
 use Rattle.events.specs.Events.{wholeDesk}
 use Rattle.timers.specs.Timers.{timerNamed}
-use Rattle.history.specs.Doing.{Doing, event, packet, leaves as leaving, joins as joining, made, does, afterAll, Fresh}
+use Rattle.history.specs.Doing.{Doing, event, packet, leaves, joins, made, does, afterAll, Fresh}
 use Rattle.sheet.specs.Layout.{Seat, seatsOf}
 use Rattle.sheet.specs.Framing.{seatCount}
 use Rattle.loading.specs.Loading.{Load, Seats, whole, fault, settingsOn, readSeats}
 use Rattle.sheet_laws.specs.Sheets.{IsDesk}
-use Rattle.desk_octets.specs.Form.{octetsOf, coreAt, hallAt, namesAt}
+use Rattle.desk_octets.specs.Form.{deskOctets, coreAt, hallAt, namesAt}
 use Rattle.report_octets_laws.specs.Reported.{ReportFits}
 use Rattle.desk_test.specs.Lent.{formed}
 use Rattle.desk_making.specs.Making.{newcomer, settable, seatTaken}
@@ -48,7 +48,7 @@ abbrev pub deskAt : List ℕ → Desk
 deskAt s = wholeDesk (coreAt s) (hallAt s) (namesAt s)
 
 abbrev pub octetsFor : Desk → List ℕ
-octetsFor d = octetsOf (d .core) (d .hall) (d .names)
+octetsFor d = deskOctets (d .core) (d .hall) (d .names)
 
 -- octets in the form, which stand for this desk
 pub record Holds (s : List ℕ) (d : Desk) : Type 0 where
@@ -89,8 +89,8 @@ Promised d x = PromisedBy (x .act) d (x .room) (x .answer) (x .desk) (x .report)
 
 -- what it is to the desk
 abbrev pub meant : Act → Doing
-meant (floorJoin o x h q l) = joining o (newcomer x h q l)
-meant (floorLeave s) = leaving (seatNumbered s)
+meant (floorJoin o x h q l) = joins o (newcomer x h q l)
+meant (floorLeave s) = leaves (seatNumbered s)
 meant floorStart = event Start
 meant floorStop = event Stop
 meant (floorPacket p) = packet p
@@ -105,8 +105,8 @@ ruled k a = answerNumber (does k (meant a) .answer)
 abbrev pub doneBy : Desk → Doing → ℕ
 doneBy k (event e) = 0
 doneBy k (packet p) = 0
-doneBy k (leaving s) = 0
-doneBy k (joining o n) = seatTaken (freeSeat (k .hall))
+doneBy k (leaves s) = 0
+doneBy k (joins o n) = seatTaken (freeSeat (k .hall))
 
 abbrev pub toldBy : Desk → Act → ℤ
 toldBy k a = signed (byNumber (ruled k a) (doneBy k (meant a)))
@@ -118,8 +118,8 @@ Fits o n = Octets o × (n .ssrc < 4294967296) × (n .highest < 256)
 abbrev pub DoingFits : Doing → Type 0
 DoingFits (event e) = Unit
 DoingFits (packet p) = Unit
-DoingFits (leaving s) = Unit
-DoingFits (joining o n) = Fits o n
+DoingFits (leaves s) = Unit
+DoingFits (joins o n) = Fits o n
 
 abbrev pub ActFits : Act → Type 0
 ActFits a = DoingFits (meant a)
@@ -147,15 +147,15 @@ abbrev pub NotLoaded : Type 0
 NotLoaded = (room sheet : List ℕ) (n : ℤ) (room′ : List ℕ) → LoadPromise room sheet n room′ → Refuses n → room′ ≡ room
 
 -- nor in the room of a function that writes into one (proofs/Rooms)
-abbrev pub Keeps : (Promise : List ℕ → ℤ → List ℕ → Type 0) → Type 0
-Keeps Promise = (room : List ℕ) (n : ℤ) (room′ : List ℕ) → Promise room n room′ → Refuses n → room′ ≡ room
+abbrev pub KeepsRoom : (Promise : List ℕ → ℤ → List ℕ → Type 0) → Type 0
+KeepsRoom Promise = (room : List ℕ) (n : ℤ) (room′ : List ℕ) → Promise room n room′ → Refuses n → room′ ≡ room
 
 abbrev pub RoomsKept : Type 0
 RoomsKept =
-    ((d report : List ℕ) (which : ℕ) → Keeps (MessagePromise d report which)) × ((packet : List ℕ) → Keeps (ReadPromise packet))
-    × ((message source : List ℕ) → Keeps (WritePromise message source)) × ((d : List ℕ) → Keeps (SavePromise d))
-    × ((d : List ℕ) → Keeps (ScreenPromise d)) × ((d : List ℕ) (seat : ℕ) → Keeps (SeatPromise d seat))
-    × ((d : List ℕ) → Keeps (SettingsPromise d))
+    ((d report : List ℕ) (which : ℕ) → KeepsRoom (MessagePromise d report which)) × ((packet : List ℕ) → KeepsRoom (ReadPromise packet))
+    × ((message source : List ℕ) → KeepsRoom (WritePromise message source)) × ((d : List ℕ) → KeepsRoom (SavePromise d))
+    × ((d : List ℕ) → KeepsRoom (ScreenPromise d)) × ((d : List ℕ) (seat : ℕ) → KeepsRoom (SeatPromise d seat))
+    × ((d : List ℕ) → KeepsRoom (SettingsPromise d))
 
 -- "OCTETS NOT IN THAT FORM GET 20, BEFORE ALL ELSE" (proofs/Refusals)
 
@@ -234,7 +234,7 @@ MadeInForm =
 -- an accepted sheet leaves the fresh desk with its settings that its seats joined, one after the other
 abbrev pub joinsOf : List Seat → List Doing
 joinsOf [] = []
-joinsOf (x ∷ xs) = joining (x .identity) (x .who) ∷ joinsOf xs
+joinsOf (x ∷ xs) = joins (x .identity) (x .who) ∷ joinsOf xs
 
 abbrev pub seatedFrom : Seats → List Doing
 seatedFrom (whole xs) = joinsOf xs
@@ -246,7 +246,7 @@ joinsOn sheet = seatedFrom (readSeats (seatCount sheet) sheet 0)
 -- "A loaded desk is fresh"
 pub record Loaded (s sheet : List ℕ) : Type 0 where
   pub settings : Settable (settingsOn sheet)
-  pub joins : AllFit (joinsOn sheet)
+  pub fit : AllFit (joinsOn sheet)
   pub isFresh : Fresh (afterAll (made (settingsOn sheet)) (joinsOn sheet))
   pub holds : Holds s (afterAll (made (settingsOn sheet)) (joinsOn sheet))
 
@@ -280,4 +280,4 @@ SavedIsLoaded =
 -- answers
 
 abbrev pub OneScreen : Type 0
-OneScreen = (es : List Entry) (room : List ℕ) → screened es room .0 ≡ signed (answered es (length room / 2))
+OneScreen = (es : List Entry) (room : List ℕ) → screened es room .0 ≡ signed (listAnswer es (length room / 2))

@@ -21,7 +21,7 @@ use Rattle.report_octets.specs.Report.{reportOctets}
 use Rattle.report_octets_laws.specs.Reported.{reportIn}
 use Rattle.report_octets_laws.proofs.Reported.{says-the-report, twenty-four}
 use Rattle.desk_test.specs.Lent.{formed}
-use Rattle.desk_steps.specs.Steps.{Leaves, leaves, settles, outcomeOn, stepOn}
+use Rattle.desk_steps.specs.Steps.{Leaves, stepLeaves, settles, outcomeOn, stepOn}
 use Rattle.floor_laws.specs.Kept.{deskAt, Act, floorJoin, floorLeave, floorStart, floorStop, floorPacket, floorMedia, floorTimer, Call}
 use Rattle.floor_laws.specs.Kept.{Promised, PromisedBy, DoingFits, meant, doings}
 use Rattle.floor_laws.proofs.Shape.{step-fits}
@@ -52,7 +52,7 @@ module _ (d : List ℕ) (r : List ℕ) where
       (λ _ z. clash z refl)
 
   module _ (o : Octets d) (q : formed d ≡ true) (n : ℤ) (d′ r′ : List ℕ) (z : Succeeds n) where
-    says : (y : Doing) → DoingFits y → leaves n d′ r′ ≡ outcomeOn d r (does (deskAt d) y) →
+    says : (y : Doing) → DoingFits y → stepLeaves n d′ r′ ≡ outcomeOn d r (does (deskAt d) y) →
         reportIn (take reportSize r′) ≡ does (deskAt d) y .report
     says y w p =
         let e = subst (λ (l : Leaves). Reported (does (deskAt d) y) l) (sym p) (settled (does (deskAt d) y)) z in

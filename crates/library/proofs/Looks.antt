@@ -18,7 +18,7 @@ use Rattle.line.specs.Line.{waiting, empty}
 use Rattle.steps.specs.declared.Phase.{Phase}
 use Rattle.steps.specs.declared.Phase.the-variants.{Stopped, Idle, Taken, Revoking}
 use Rattle.giving.specs.Floor.{holds}
-use Rattle.line.specs.Line.{entryOf as entry}
+use Rattle.line.specs.Line.{entryOf}
 use Rattle.timers.specs.Timers.{isStopped}
 use Rattle.marks.specs.Marks.{isSeat}
 use Rattle.reach.proofs.Hall.{hall-ok}
@@ -47,7 +47,7 @@ module _ (es : List Entry) (rest : List ℕ) where
       let r = pair-at n (suc at) i (omega arith) in
       rw (e, f, ← shift at i) r
 
-same-entry : {a b a′ b′ : ℕ} → a ≡ a′ → b ≡ b′ → entry a b ≡ entry a′ b′
+same-entry : {a b a′ b′ : ℕ} → a ≡ a′ → b ≡ b′ → entryOf a b ≡ entryOf a′ b′
 same-entry p q = cc
 
 entries-back : (es : List Entry) (room : List ℕ) → entriesIn (over room 0 (pairs es)) (length es) ≡ es

@@ -26,7 +26,7 @@ use Rattle.steps.specs.declared.Given.the-variants.{OutOfLine}
 use Rattle.steps.specs.declared.Marks.{Marks}
 use Rattle.steps.specs.declared.Report.{Report}
 use Rattle.steps.specs.Words.{noMarks, emptyReport}
-use Rattle.line.specs.Line.{entryOf as entry}
+use Rattle.line.specs.Line.{entryOf}
 use Rattle.events.specs.declared.Desk.{Desk}
 use Rattle.history.specs.Doing.{Doing, does, Fresh}
 use Rattle.history.specs.Asking.{asking}
@@ -104,7 +104,7 @@ pub record Look (d : List ℕ) : Type 0 where
 
 -- two octets an entry; the holder's seat, or less than 0
 abbrev pub entriesIn : List ℕ → ℕ → List Entry
-entriesIn s n = column (λ i. entry (getD s (2 * i) 0) (getD s (2 * i + 1) 0)) 0 n
+entriesIn s n = column (λ i. entryOf (getD s (2 * i) 0) (getD s (2 * i + 1) 0)) 0 n
 
 abbrev pub seatAnswered : ℤ → Mark
 seatAnswered (pos n) = Seat n

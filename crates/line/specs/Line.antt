@@ -71,12 +71,12 @@ without seats [] = []
 without seats (e ∷ es) = if getD seats (e .seat) false then without seats es else e ∷ without seats es
 
 -- the seats in line, as a set
-abbrev pub nobody : List Bool
-nobody = replicate 16 false
+abbrev pub noSeats : List Bool
+noSeats = replicate 16 false
 
 abbrev pub added : List Bool → List Entry → List Bool
 added seats [] = seats
 added seats (e ∷ es) = added (set seats (e .seat) true) es
 
-unfoldable pub seatsOf : List Entry → List Bool
-seatsOf es = added nobody es
+unfoldable pub seatSet : List Entry → List Bool
+seatSet es = added noSeats es

@@ -5,7 +5,7 @@ ghost use Prim.Native.Nat.{_≤_, _<_};
 ghost use mathlib.Core.List.{_++_, _∷_, []};
 ghost use mathlib.Core.Bool.{true, false};
 ghost use lib.ListN.{length, take, drop, getD, set};
-ghost use Rattle.line.specs.Line.{entryOf, waiting, lineOf, empty, before, ahead, enter, otherAtLeast, anotherAtLeast, without, seatsOf};
+ghost use Rattle.line.specs.Line.{entryOf, waiting, lineOf, empty, before, ahead, enter, otherAtLeast, anotherAtLeast, without, seatSet};
 
 // A seat in line, and the holder of the floor: who, and the effective priority that it waits at, or was given the floor at.
 pub struct Entry {
@@ -200,7 +200,7 @@ fn add(seats: &mut [bool], seat: u8)
 
 // The seats in line, as a set.
 pub fn seats_of(line: Line) -> Seats
-    ensures { λ r. ⌜ r ≡ seatsOf (waiting line) ⌝ }
+    ensures { λ r. ⌜ r ≡ seatSet (waiting line) ⌝ }
 {
     let n = count(line);
     let mut seats = [false; 16];

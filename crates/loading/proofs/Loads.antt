@@ -20,7 +20,7 @@ use Rattle.joining.specs.Join.{join}
 use Rattle.sheet.specs.Layout.{Seat, seatHead}
 use Rattle.sheet.specs.Framing.{settingsPlace, seatCount, verdictNumber, framing}
 use Rattle.loading.specs.declared.Turn.{Turn}
-use Rattle.loading.specs.Loading.{loaded, refused, settingsOn, zeros, identityLength, whoIs, readSeat, afterSeat, laidOut, Seats}
+use Rattle.loading.specs.Loading.{loaded, notLoaded, settingsOn, zeros, identityLength, whoIs, readSeat, afterSeat, laidOut, Seats}
 use Rattle.loading.specs.Loading.{whole, fault, seatInfront, readSeats, ifSeated, joinAll, seatAll, settled, loading}
 use Rattle.loading.specs.Walk.{turnAt}
 
@@ -30,16 +30,16 @@ module _ (s : List ℕ) where
   unfolding loading if_then_else_
   loads-framed h = rw (eq-eqb (verdictNumber (framing s)) 0 h)
 
-  pub loads-refused : (n : ℕ) → n ≡ verdictNumber (framing s) → (n ≡ 0 → ⊥) → loading s ≡ refused n
+  pub loads-refused : (n : ℕ) → n ≡ verdictNumber (framing s) → (n ≡ 0 → ⊥) → loading s ≡ notLoaded n
   unfolding loading if_then_else_
   loads-refused n e h = rw (← e, ne-eqb n 0 h)
 
-  pub settles-range : inRange (settingsOn s) ≡ false → settled s ≡ refused 44
+  pub settles-range : inRange (settingsOn s) ≡ false → settled s ≡ notLoaded 44
   unfolding if_then_else_
   settles-range e = rw e
 
   module _ (r : inRange (settingsOn s) ≡ true) where
-    pub settles-zeros : (zeros s ≡ 0 → ⊥) → settled s ≡ refused 44
+    pub settles-zeros : (zeros s ≡ 0 → ⊥) → settled s ≡ notLoaded 44
     unfolding if_then_else_
     settles-zeros h = rw (r, ne-eqb (zeros s) 0 h)
 
@@ -54,7 +54,7 @@ unfolding laidOut
 laid-fits s at e = leb-true (afterSeat s at) (settingsPlace s) (and-left _ _ e)
 
 -- a seat read before others
-still-refused : (f : Found) → refused 45 ≡ ifSeated f (refused 45)
+still-refused : (f : Found) → notLoaded 45 ≡ ifSeated f (notLoaded 45)
 still-refused (At s) = refl
 still-refused Nowhere = refl
 
@@ -82,7 +82,7 @@ module _ (h : Hall) (ns : Names) where
         ap (λ (n : ℕ). seatAll h ns (readSeats n s at)) one ∙ turns (left - 1) s at
         ∙ ap (λ (u : Turn). ifSeated (u .seat) (seatAll (u .hall) (u .names) (readSeats (left - 1) s (u .next)))) (sym is)
 
-    pub turn-fault : t .seat ≡ Nowhere → seatAll h ns (readSeats left s at) ≡ refused 45
+    pub turn-fault : t .seat ≡ Nowhere → seatAll h ns (readSeats left s at) ≡ notLoaded 45
     turn-fault e = one-turn ∙ ap (λ (f : Found). ifSeated f (seatAll (t .hall) (t .names) (readSeats (left - 1) s (t .next)))) e
 
     pub turn-on : (k : ℕ) → t .seat ≡ At k →
@@ -100,6 +100,6 @@ module _ (h : Hall) (ns : Names) where
   unfolding readSeats joinAll if_then_else_
   loads-end s at e = rw (eq-eqb at (settingsPlace s) e)
 
-  pub loads-gap : (s : List ℕ) (at : ℕ) → (at ≡ settingsPlace s → ⊥) → seatAll h ns (readSeats 0 s at) ≡ refused 45
+  pub loads-gap : (s : List ℕ) (at : ℕ) → (at ≡ settingsPlace s → ⊥) → seatAll h ns (readSeats 0 s at) ≡ notLoaded 45
   unfolding readSeats if_then_else_
   loads-gap s at e = rw (ne-eqb at (settingsPlace s) e)

@@ -38,8 +38,8 @@ loaded h ns = record { number = 0; core = fresh; hall = h; names = ns }
 abbrev pub noSettings : Settings
 noSettings = settingsOf 0 0 0 0 0 0
 
-unfoldable pub refused : ℕ → Load
-refused n = record { number = n; core = fresh; hall = emptyHall noSettings; names = noNames }
+unfoldable pub notLoaded : ℕ → Load
+notLoaded n = record { number = n; core = fresh; hall = emptyHall noSettings; names = noNames }
 
 -- the settings of a sheet, and what stands where their zeros are
 abbrev pub settingsOn : List ℕ → Settings
@@ -81,7 +81,7 @@ readSeats (suc n) s at = if laidOut s at then seatInfront (readSeat s at) (readS
 -- 45, join's rules: the seats join one after the other, in sheet order
 abbrev pub ifSeated : Found → Load → Load
 ifSeated (At s) l = l
-ifSeated Nowhere l = refused 45
+ifSeated Nowhere l = notLoaded 45
 
 unfoldable pub joinAll : Hall → Names → List Seat → Load
 joinAll h ns [] = loaded h ns
@@ -91,17 +91,17 @@ joinAll h ns (x ∷ xs) =
 
 abbrev pub seatAll : Hall → Names → Seats → Load
 seatAll h ns (whole xs) = joinAll h ns xs
-seatAll h ns fault = refused 45
+seatAll h ns fault = notLoaded 45
 
 -- 44 and 45, once the trailer is in order
 abbrev pub settled : List ℕ → Load
 settled s =
-    if not (inRange (settingsOn s)) || not (eqb (zeros s) 0) then refused 44
+    if not (inRange (settingsOn s)) || not (eqb (zeros s) 0) then notLoaded 44
     else seatAll (emptyHall (settingsOn s)) noNames (readSeats (seatCount s) s 0)
 
 -- 41, 42 and 43, and then these
 unfoldable pub loading : List ℕ → Load
-loading s = if eqb (verdictNumber (framing s)) 0 then settled s else refused (verdictNumber (framing s))
+loading s = if eqb (verdictNumber (framing s)) 0 then settled s else notLoaded (verdictNumber (framing s))
 
 -- loading's answer in the paper's numbers
 abbrev pub loadingAnswer : Loading → Load

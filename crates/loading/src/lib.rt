@@ -13,7 +13,7 @@ ghost use Rattle.hall.specs.Seats.{emptyHall};
 ghost use Rattle.identities.specs.Identity.{noNames};
 ghost use Rattle.sheet.specs.Layout.{seatHead, tailSize};
 ghost use Rattle.sheet.specs.Framing.{verdictNumber};
-ghost use Rattle.loading.specs.Loading.{loadingAnswer, refused, loaded, whoIs, laidOut, readSeats, seatAll, settled, Loads};
+ghost use Rattle.loading.specs.Loading.{loadingAnswer, notLoaded, loaded, whoIs, laidOut, readSeats, seatAll, settled, Loads};
 ghost use Rattle.loading.specs.Walk.{turnAt};
 
 // The verdict, and the desk: fresh, and empty with zeros for its settings where the sheet was refused.
@@ -47,7 +47,7 @@ fn accept(hall: Hall, names: Names) -> Loading
 }
 
 fn refuse(verdict: Verdict) -> Loading
-    ensures { λ r. ⌜ loadingAnswer r ≡ refused (verdictNumber verdict) ⌝ }
+    ensures { λ r. ⌜ loadingAnswer r ≡ notLoaded (verdictNumber verdict) ⌝ }
 {
     let settings = hall::settings_of(0, 0, 0, 0, 0, 0);
     let core = events::fresh_core();

@@ -12,7 +12,7 @@ use Rattle.words.specs.Choice.{one}
 use Rattle.words.specs.Table.{getD-fill}
 use Rattle.words.proofs.Tests.{clash}
 use Rattle.line.specs.declared.Entry.{Entry}
-use Rattle.line.specs.Line.{waiting, isIn, without, seatsOf, nobody, entryOf}
+use Rattle.line.specs.Line.{waiting, isIn, without, seatSet, noSeats, entryOf}
 use Rattle.hall.specs.Seats.{only}
 use Rattle.steps.specs.declared.Core.{Core}
 use Rattle.steps.specs.declared.Marks.{Marks}
@@ -61,10 +61,10 @@ module _ (d : Desk) (x : Doing) (new : Core) (m : Marks) (f : Fit (d .core) (d .
   also : (t : ℕ) (b : Bool) → isIn t line ≡ b → eqb t s ≡ true → isIn s line ≡ b
   also t b w q = ap (λ (n : ℕ). isIn n line) (sym (eqb-true t s q)) ∙ w
 
-  emptied : waiting (new .line) ≡ [] → one (isIn s line) + 0 ≡ one (isIn s (waiting (new .line))) + one (getD (seatsOf line) s false) + 0
-  unfolding seatsOf
+  emptied : waiting (new .line) ≡ [] → one (isIn s line) + 0 ≡ one (isIn s (waiting (new .line))) + one (getD (seatSet line) s false) + 0
+  unfolding seatSet
   emptied k =
-      rw (k, in-nil s, in-added s nobody line refl (f .seats)) (all-struck (isIn s line) (getD nobody s false) (getD-fill false 16 s))
+      rw (k, in-nil s, in-added s noSeats line refl (f .seats)) (all-struck (isIn s line) (getD noSeats s false) (getD-fill false 16 s))
 
   pub line-counts : Did d x new m → LineCounts (d .core) new m s
   unfolding waits

@@ -9,7 +9,7 @@ use lib.ListN.{length}
 use borrow.Author.Tests.{leb-false}
 use Rattle.line.specs.declared.Entry.{Entry}
 use Rattle.line.specs.declared.Line.{Line}
-use Rattle.line.specs.Line.{waiting, lineOf, isIn, enter, without, seatsOf, nobody as no-one, priorityOf, entryOf}
+use Rattle.line.specs.Line.{waiting, lineOf, isIn, enter, without, seatSet, noSeats, priorityOf, entryOf}
 use Rattle.line.proofs.Laws.{waiting-lineOf, without-le, enter-length}
 use Rattle.hall.specs.Seats.{only, receivesOnly}
 use Rattle.steps.specs.declared.Phase.{Phase}
@@ -40,10 +40,10 @@ pub data Did (d : Desk) (x : Doing) (new : Core) (m : Marks) : Type 0 where
   rests : ((t p : ℕ) → asking (d .hall) x ≡ asks t p → Unmoved (d .core) (d .hall) t p) → waiting (new .line) ≡ waiting (d .core .line) →
       ((s : ℕ) → holds (new .phase) s ≡ holds (d .core .phase) s) → m ≡ noMarks → Did d x new m
   gives : (t p : ℕ) → asking (d .hall) x ≡ asks t p → isIdle (d .core .phase) ≡ true → waiting (new .line) ≡ waiting (d .core .line) →
-      ((s : ℕ) → holds (new .phase) s ≡ eqb t s) → m ≡ marks NoSeat no-one NoSeat (AtOnce t) → Did d x new m
+      ((s : ℕ) → holds (new .phase) s ≡ eqb t s) → m ≡ marks NoSeat noSeats NoSeat (AtOnce t) → Did d x new m
   places : (t p : ℕ) → asking (d .hall) x ≡ asks t p → isIn t (waiting (d .core .line)) ≡ false → receivesOnly (d .hall) t ≡ false →
       waiting (new .line) ≡ enter (entryOf t p) (waiting (d .core .line)) → ((s : ℕ) → holds (new .phase) s ≡ holds (d .core .phase) s) →
-      m ≡ marks (Seat t) no-one NoSeat NotGiven → Did d x new m
+      m ≡ marks (Seat t) noSeats NoSeat NotGiven → Did d x new m
   shifts : (t p : ℕ) → t < 16 → asking (d .hall) x ≡ asks t p → isIn t (waiting (d .core .line)) ≡ true →
       (priorityOf t (waiting (d .core .line)) ≡ p → ⊥) →
       waiting (new .line) ≡ enter (entryOf t p) (without (only t) (waiting (d .core .line))) →
@@ -55,14 +55,14 @@ pub data Did (d : Desk) (x : Doing) (new : Core) (m : Marks) : Type 0 where
   passes : (t : ℕ) (e : Entry) (es : List Entry) → asking (d .hall) x ≡ nobody → holds (d .core .phase) t ≡ true → e .seat < 16 →
       waiting (d .core .line) ≡ e ∷ es → waiting (new .line) ≡ without (only (e .seat)) (e ∷ es) →
       ((s : ℕ) → holds (new .phase) s ≡ eqb (e .seat) s) →
-      m ≡ marks NoSeat no-one (Seat t) (OutOfLine (e .seat)) → Did d x new m
+      m ≡ marks NoSeat noSeats (Seat t) (OutOfLine (e .seat)) → Did d x new m
   frees : (t : ℕ) → asking (d .hall) x ≡ nobody → holds (d .core .phase) t ≡ true → waiting (d .core .line) ≡ [] →
       waiting (new .line) ≡ [] →
-      ((s : ℕ) → holds (new .phase) s ≡ false) → m ≡ marks NoSeat no-one (Seat t) NotGiven → Did d x new m
+      ((s : ℕ) → holds (new .phase) s ≡ false) → m ≡ marks NoSeat noSeats (Seat t) NotGiven → Did d x new m
   halts : (t : ℕ) → stopsCall x ≡ true → holds (d .core .phase) t ≡ true → waiting (new .line) ≡ [] → new .phase ≡ Stopped →
-      m ≡ marks NoSeat (seatsOf (waiting (d .core .line))) (Seat t) NotGiven → Did d x new m
+      m ≡ marks NoSeat (seatSet (waiting (d .core .line))) (Seat t) NotGiven → Did d x new m
   closes : stopsCall x ≡ true → isIdle (d .core .phase) ≡ true → waiting (new .line) ≡ [] → new .phase ≡ Stopped →
-      m ≡ marks NoSeat (seatsOf (waiting (d .core .line))) NoSeat NotGiven → Did d x new m
+      m ≡ marks NoSeat (seatSet (waiting (d .core .line))) NoSeat NotGiven → Did d x new m
 
 module _ (d : Desk) (x : Doing) (l : Outcome) (f : Fit (d .core) (d .hall)) where
   abbrev line : List Entry

@@ -5,7 +5,7 @@ use mathlib.Core.Bool.{Bool}
 use mathlib.Core.Path.{_≡_, refl}
 use Rattle.words.specs.Choice.{if_then_else_}
 use Rattle.message.specs.Message.{required, hasAll}
-use Rattle.message.specs.Asked.{given}
+use Rattle.message.specs.Asked.{hasId}
 use Rattle.message.specs.declared.Has.{Has}
 use Rattle.message.specs.declared.MessageType.{MessageType}
 use Rattle.message.specs.declared.MessageType.the-variants.{Request, Granted, Taken, Deny, Release, Idle, Revoke}
@@ -22,8 +22,8 @@ pub record Tells (h : Has) (f : ℕ → Bool) : Type 0 where
   pub source : h .source ≡ f 10
   pub «message_type» : h .«message_type» ≡ f 12
 
-pub required-by : (h : Has) (f : ℕ → Bool) → Tells h f → (k : MessageType) → hasAll (given h) (required k) ≡ hasAll f (required k)
-unfolding hasAll given if_then_else_
+pub required-by : (h : Has) (f : ℕ → Bool) → Tells h f → (k : MessageType) → hasAll (hasId h) (required k) ≡ hasAll f (required k)
+unfolding hasAll hasId if_then_else_
 required-by h f t Request = refl
 required-by h f t Granted = rw (t .duration)
 required-by h f t Taken = rw (t .granted)

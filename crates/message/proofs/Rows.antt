@@ -10,7 +10,7 @@ use lib.ListN.{getD}
 use borrow.Author.Tests.{eqb-true, ne-eqb, ltb-true, lt-ltb, le-ltb}
 use Rattle.words.specs.Below.{below, and-left, and-right}
 use Rattle.words.specs.Choice.{if_then_else_, if-no, by-test}
-use Rattle.message.specs.Table.{Row, table, rowIn, rowOf, listedIn, listed, skipped, against, atFault}
+use Rattle.message.specs.Table.{FieldRow, table, rowIn, rowOf, listedIn, listed, skipped, against, atFault}
 
 -- the table as the code holds it: an ID that is skipped has a mark in the place of its greatest L
 abbrev mark : ℕ
@@ -34,18 +34,18 @@ unfolding markedGreatest listedIn rowIn if_then_else_
 greatest-is i h = eqb-true (getD greatests i 0) (markedGreatest i) (below (λ k. eqb (getD greatests k 0) (markedGreatest k)) 16 refl i h)
 
 -- an ID that the table does not have is skipped
-skips : (rows : List Row) (i : ℕ) → listedIn rows i ≡ false → rowIn rows i ≡ skipped i
+skips : (rows : List FieldRow) (i : ℕ) → listedIn rows i ≡ false → rowIn rows i ≡ skipped i
 unfolding listedIn rowIn if_then_else_
 skips [] i e = refl
 skips (r ∷ rows) i e =
     by-test (eqb i (r .id)) (λ t. let q : _≡_ {A = Bool} true false = rw t at e in cc) (λ t. rw t (skips rows i (rw t at e)))
 
 -- and so is every ID from 16 on
-under : List Row → Bool
+under : List FieldRow → Bool
 under [] = true
 under (r ∷ rows) = ltb (r .id) 16 && under rows
 
-unlisted : (rows : List Row) (i : ℕ) → under rows ≡ true → 16 ≤ i → listedIn rows i ≡ false
+unlisted : (rows : List FieldRow) (i : ℕ) → under rows ≡ true → 16 ≤ i → listedIn rows i ≡ false
 unfolding under listedIn
 unlisted [] i e h = refl
 unlisted (r ∷ rows) i e h =

@@ -6,8 +6,8 @@ use lib.Dec.{eqb}
 use Rattle.words.specs.Choice.{if_then_else_}
 use Rattle.message.specs.declared.Has.{Has}
 
-unfoldable pub given : Has → ℕ → Bool
-given h i =
+unfoldable pub hasId : Has → ℕ → Bool
+hasId h i =
     if eqb i 1 then h .duration
     else if eqb i 2 then h .cause
     else if eqb i 3 then h .queue

@@ -7,17 +7,17 @@ use lib.Dec.{ltb, eqb}
 use lib.ListN.{length}
 use Rattle.words.specs.Choice.{if_then_else_}
 
-pub record Row : Type 0 where
+pub record FieldRow : Type 0 where
   pub id : ℕ
   pub least : ℕ
   pub greatest : ℕ
   pub spare : ℕ
 
-abbrev pub row : ℕ → ℕ → ℕ → ℕ → Row
+abbrev pub row : ℕ → ℕ → ℕ → ℕ → FieldRow
 row i l g s = record { id = i; least = l; greatest = g; spare = s }
 
 --            ID  L least .. greatest, spare
-abbrev pub table : List Row
+abbrev pub table : List FieldRow
 table =
     row 0 2 2 1  -- Floor Priority: priority, spare
     ∷ row 1 2 2 0  -- Duration: seconds
@@ -34,18 +34,18 @@ table =
     ∷ []
 
 -- "Every other ID below 192 is skipped by its length": any length will do
-abbrev pub skipped : ℕ → Row
+abbrev pub skipped : ℕ → FieldRow
 skipped i = row i 0 255 0
 
 -- the row of an ID, and whether the table has one
-unfoldable pub rowIn : List Row → ℕ → Row
+unfoldable pub rowIn : List FieldRow → ℕ → FieldRow
 rowIn [] i = skipped i
 rowIn (r ∷ rows) i = if eqb i (r .id) then r else rowIn rows i
 
-abbrev pub rowOf : ℕ → Row
+abbrev pub rowOf : ℕ → FieldRow
 rowOf i = rowIn table i
 
-unfoldable pub listedIn : List Row → ℕ → Bool
+unfoldable pub listedIn : List FieldRow → ℕ → Bool
 listedIn [] i = false
 listedIn (r ∷ rows) i = if eqb i (r .id) then true else listedIn rows i
 

@@ -7,7 +7,7 @@ ghost use Rattle.message.specs.Table.{listed, atFault, against, padded, 
 ghost use lib.Dec.{ltb};
 ghost use Rattle.message.specs.Answers.{refusalNumber};
 ghost use Rattle.message.specs.Message.{ofOctet, ofWord, ofCause, ofQueue, ofPart, isThere, said, required, hasAll, complete};
-ghost use Rattle.message.specs.Asked.{given};
+ghost use Rattle.message.specs.Asked.{hasId};
 
 // The ten types.
 pub enum MessageType {
@@ -294,7 +294,7 @@ pub struct Has {
 
 // Whether every field that a type requires is there: the one place that knows which these are.
 pub fn has_required(kind: MessageType, has: Has) -> bool
-    ensures { λ r. ⌜ r ≡ hasAll (given has) (required kind) ⌝ }
+    ensures { λ r. ⌜ r ≡ hasAll (hasId has) (required kind) ⌝ }
 {
     match kind {
         MessageType::Request => true,

@@ -5,21 +5,21 @@ use native.Mathlib.Omega.{arith}
 use mathlib.Core.Bool.{Bool, true, false}
 use mathlib.Core.List.{[]}
 use mathlib.Core.Path.{_≡_, refl, sym, ap, _∙_}
-use Rattle.words.specs.Choice.{if_then_else_, one as flag}
+use Rattle.words.specs.Choice.{if_then_else_, one}
 use lib.Dec.{eqb}
 use Rattle.message.specs.Message.{fieldsOf, isThere, ofOctet, ofWord, ofNumber, ofQueue, ofPart, ofCause, has}
 use Rattle.message.specs.declared.Message.{Message}
 use Rattle.message_octets.specs.Held.{bits, worthIf, which, isSet}
 
-worth-is : (b : Bool) (worth : ℕ) → worthIf b worth ≡ worth * flag b
+worth-is : (b : Bool) (worth : ℕ) → worthIf b worth ≡ worth * one b
 worth-is true worth = sym (mul-one worth)
 worth-is false worth = sym (mul-zero worth)
 
 in-order : (b₀ b₁ b₂ b₃ b₄ b₅ b₆ b₈ b₁₀ b₁₂ b₁₃ b₁₄ : Bool) →
     worthIf b₀ 1 + worthIf b₁ 2 + worthIf b₂ 4 + worthIf b₃ 8 + worthIf b₄ 16 + worthIf b₅ 32 + worthIf b₆ 64 + worthIf b₈ 256
     + worthIf b₁₀ 1024 + worthIf b₁₂ 4096 + worthIf b₁₃ 8192 + worthIf b₁₄ 16384
-    ≡ flag b₀ + 2 * (flag b₁ + 2 * (flag b₂ + 2 * (flag b₃ + 2 * (flag b₄ + 2 * (flag b₅ + 2 * (flag b₆ + 2 * (0 + 2 * (flag b₈ + 2 * (0
-    + 2 * (flag b₁₀ + 2 * (0 + 2 * (flag b₁₂ + 2 * (flag b₁₃ + 2 * (flag b₁₄ + 2 * (0 + 2 * 0)))))))))))))))
+    ≡ one b₀ + 2 * (one b₁ + 2 * (one b₂ + 2 * (one b₃ + 2 * (one b₄ + 2 * (one b₅ + 2 * (one b₆ + 2 * (0 + 2 * (one b₈ + 2 * (0
+    + 2 * (one b₁₀ + 2 * (0 + 2 * (one b₁₂ + 2 * (one b₁₃ + 2 * (one b₁₄ + 2 * (0 + 2 * 0)))))))))))))))
 in-order b₀ b₁ b₂ b₃ b₄ b₅ b₆ b₈ b₁₀ b₁₂ b₁₃ b₁₄ =
     rw (
       worth-is b₀ 1,
@@ -53,15 +53,15 @@ which-is m =
     (isThere (ofNumber (m .«ssrc_field»)))
 
 -- the lowest bit, and what is left above it
-lowest : (b : Bool) (n : ℕ) → (flag b + 2 * n) % 2 ≡ flag b
+lowest : (b : Bool) (n : ℕ) → (one b + 2 * n) % 2 ≡ one b
 lowest true n = omega arith
 lowest false n = omega arith
 
-above : (b : Bool) (n : ℕ) → (flag b + 2 * n) / 2 ≡ n
+above : (b : Bool) (n : ℕ) → (one b + 2 * n) / 2 ≡ n
 above true n = omega arith
 above false n = omega arith
 
-pub flag-back : (b : Bool) → eqb (flag b) 1 ≡ b
+pub flag-back : (b : Bool) → eqb (one b) 1 ≡ b
 flag-back true = refl
 flag-back false = refl
 
@@ -69,10 +69,10 @@ flag-back false = refl
 bit-back : (f : ℕ → Bool) (i n k : ℕ) → k < n → isSet (bits f i n) k ≡ f (i + k)
 bit-back f i zero k h = absurd (not-suc-le-zero h)
 bit-back f i (suc n) zero h =
-    ap (λ (x : ℕ). eqb (x % 2) 1) (div-one (flag (f i) + 2 * bits f (suc i) n)) ∙ ap (λ (x : ℕ). eqb x 1) (lowest (f i) (bits f (suc i) n))
+    ap (λ (x : ℕ). eqb (x % 2) 1) (div-one (one (f i) + 2 * bits f (suc i) n)) ∙ ap (λ (x : ℕ). eqb x 1) (lowest (f i) (bits f (suc i) n))
     ∙ flag-back (f i) ∙ ap f (sym (add-zero i))
 bit-back f i (suc n) (suc k) h =
-    let w : ℕ = flag (f i) + 2 * bits f (suc i) n in
+    let w : ℕ = one (f i) + 2 * bits f (suc i) n in
     let halved : w / 2 ^ suc k ≡ bits f (suc i) n / 2 ^ k =
     ap (λ (d : ℕ). w / d) (pow-succ' 2 k) ∙ sym (div-div-eq-div-mul w 2 (2 ^ k))
     ∙ ap (λ (x : ℕ). x / 2 ^ k) (above (f i) (bits f (suc i) n)) in

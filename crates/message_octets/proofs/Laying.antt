@@ -13,7 +13,7 @@ use mathlib.Core.List.{List, [], _∷_, _++_, append-assoc}
 use lib.Dec.{eqb}
 use lib.ListN.{length, take, drop, replicate, length-append, length-drop, length-replicate, take-append-drop, replicate-append-replicate}
 use lib.Seq.{take-at, drop-at, take-take, take-add, drop-drop, length-take-le}
-use Rattle.words.specs.Choice.{one as flag}
+use Rattle.words.specs.Choice.{one}
 use Rattle.octets.specs.Octets.{be32, over, part, octets16, octets32}
 use Rattle.octets.proofs.Over.{length-over, head-length, over-two, over-before}
 use Rattle.message.specs.Types.{typeNumber}
@@ -107,7 +107,7 @@ worth-most : (b : Bool) (w : ℕ) → worthIf b w ≤ w
 worth-most true w = omega arith
 worth-most false w = omega arith
 
-flag-bit : (n : ℕ) → n < 2 → flag (eqb n 1) ≡ n
+flag-bit : (n : ℕ) → n < 2 → one (eqb n 1) ≡ n
 flag-bit zero h = refl
 flag-bit (suc zero) h = refl
 flag-bit (suc (suc n)) h = absurd (omega arith)

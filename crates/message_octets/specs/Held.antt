@@ -6,8 +6,8 @@ use mathlib.Core.Bool.{Bool, true, false, not, _||_}
 use mathlib.Core.List.{List, [], _∷_, _++_}
 use lib.Dec.{ltb, eqb}
 use lib.ListN.{length}
-use Rattle.message.specs.Message.{countOf as countIn, fieldsOf, has}
-use Rattle.words.specs.Choice.{if_then_else_, one as flag}
+use Rattle.message.specs.Message.{countOf, fieldsOf, has}
+use Rattle.words.specs.Choice.{if_then_else_, one}
 use Rattle.octets.specs.Octets.{be16, be32, octets16, octets32, over, nthOctet}
 use Rattle.message.specs.Types.{typed, typeNumber}
 use Rattle.message.specs.Answers.{Answer, refused, result}
@@ -24,8 +24,10 @@ use Rattle.message.specs.declared.Message.{Message}
 use Rattle.reading.specs.Reading.{reading}
 use Rattle.writing.specs.Writing.{writing, written, Tells}
 use Rattle.writing.specs.declared.Writing.{Writing}
-use Rattle.message_octets.specs.Places.{typePlace, ackPlace, fieldsPlace, ssrcPlace, priorityPlace, messageTypePlace, durationPlace}
-use Rattle.message_octets.specs.Places.{causePlace, queuePlace, permissionPlace, sequencePlace, sourcePlace, indicatorPlace}
+use Rattle.message_octets.specs.Places.{typePlace, ackPlace, fieldsPlace, messageSsrcPlace, priorityPlace, messageTypePlace}
+use Rattle.message_octets.specs.Places.{durationPlace}
+use Rattle.message_octets.specs.Places.{messageCausePlace, queuePlace, permissionPlace, messageSequencePlace, sourcePlace}
+use Rattle.message_octets.specs.Places.{indicatorPlace}
 use Rattle.message_octets.specs.Places.{ssrcFieldPlace, phrasePlace, grantedPlace, userPlace, messageSize}
 
 -- WHAT A MESSAGE IS HELD AS
@@ -33,7 +35,7 @@ use Rattle.message_octets.specs.Places.{ssrcFieldPlace, phrasePlace, gra
 -- the number of n bits, the lowest of which is f i, the next f (i + 1), and so on
 abbrev pub bits : (ℕ → Bool) → ℕ → ℕ → ℕ
 bits f i zero = 0
-bits f i (suc n) = flag (f i) + 2 * bits f (suc i) n
+bits f i (suc n) = one (f i) + 2 * bits f (suc i) n
 
 -- "bit i for ID i, the lowest bit for ID 0"; whether a message has a field is the same for every source
 unfoldable pub which : Message → ℕ
@@ -79,7 +81,7 @@ partStart (Part.At from count) = from
 
 -- 0 to 7: type, Ack bit, which fields it has, SSRC
 unfoldable pub headOctets : Message → List ℕ
-headOctets m = typeNumber (m .kind) ∷ flag (m .ack) ∷ octets16 (which m) ++ octets32 (m .ssrc)
+headOctets m = typeNumber (m .kind) ∷ one (m .ack) ∷ octets16 (which m) ++ octets32 (m .ssrc)
 
 -- 8 to 15: Floor Priority, Message Type, Duration, the cause, Queue Info
 unfoldable pub firstOctets : Message → List ℕ
@@ -95,7 +97,7 @@ nextOctets m =
 
 -- where a part starts in the source and how many octets it has, each in 16 bits
 unfoldable pub placeOctets : Part → List ℕ
-placeOctets p = octets16 (partStart p % 65536) ++ octets16 (countIn p % 65536)
+placeOctets p = octets16 (partStart p % 65536) ++ octets16 (countOf p % 65536)
 
 -- 28 to 39: the phrase, Granted Party's Identity, User ID
 unfoldable pub partOctets : Message → List ℕ
@@ -149,15 +151,15 @@ messageWith k s fields =
     record {
       kind = k;
       ack = eqb (nthOctet s ackPlace) 1;
-      ssrc = be32 s ssrcPlace;
+      ssrc = be32 s messageSsrcPlace;
       priority = octetIf (isSet fields 0) (nthOctet s priorityPlace);
       duration = wordIf (isSet fields 1) (be16 s durationPlace);
-      cause = causeIf (isSet fields 2) (be16 s causePlace) (be16 s phrasePlace) (be16 s (phrasePlace + 2));
+      cause = causeIf (isSet fields 2) (be16 s messageCausePlace) (be16 s phrasePlace) (be16 s (phrasePlace + 2));
       queue = queueIf (isSet fields 3) (nthOctet s queuePlace) (nthOctet s (queuePlace + 1));
       granted = partIf (isSet fields 4) (be16 s grantedPlace) (be16 s (grantedPlace + 2));
       permission = wordIf (isSet fields 5) (be16 s permissionPlace);
       user = partIf (isSet fields 6) (be16 s userPlace) (be16 s (userPlace + 2));
-      sequence = wordIf (isSet fields 8) (be16 s sequencePlace);
+      sequence = wordIf (isSet fields 8) (be16 s messageSequencePlace);
       source = wordIf (isSet fields 10) (be16 s sourcePlace);
       «message_type» = octetIf (isSet fields 12) (nthOctet s messageTypePlace);
       indicator = wordIf (isSet fields 13) (be16 s indicatorPlace);

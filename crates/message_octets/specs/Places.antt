@@ -12,8 +12,8 @@ ackPlace = 1
 abbrev pub fieldsPlace : ℕ
 fieldsPlace = 2
 
-abbrev pub ssrcPlace : ℕ
-ssrcPlace = 4
+abbrev pub messageSsrcPlace : ℕ
+messageSsrcPlace = 4
 
 -- the fields that hold numbers: Floor Priority, Message Type, Duration, the cause of Reject Cause, Queue Info, Permission to Request,
 -- Message Sequence-Number, Source, Floor Indicator, SSRC
@@ -26,8 +26,8 @@ messageTypePlace = 9
 abbrev pub durationPlace : ℕ
 durationPlace = 10
 
-abbrev pub causePlace : ℕ
-causePlace = 12
+abbrev pub messageCausePlace : ℕ
+messageCausePlace = 12
 
 abbrev pub queuePlace : ℕ
 queuePlace = 14
@@ -35,8 +35,8 @@ queuePlace = 14
 abbrev pub permissionPlace : ℕ
 permissionPlace = 16
 
-abbrev pub sequencePlace : ℕ
-sequencePlace = 18
+abbrev pub messageSequencePlace : ℕ
+messageSequencePlace = 18
 
 abbrev pub sourcePlace : ℕ
 sourcePlace = 20

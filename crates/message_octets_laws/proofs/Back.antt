@@ -5,8 +5,8 @@ use native.Mathlib.Omega.{arith}
 use mathlib.Core.Bool.{Bool, true, false}
 use mathlib.Core.List.{[]}
 use mathlib.Core.Path.{_≡_, refl, ap, _∙_}
-use Rattle.message.specs.Message.{countOf as countIn, isThere, ofOctet, ofWord, ofNumber, ofQueue, ofPart, ofCause, has}
-use Rattle.words.specs.Choice.{if_then_else_, one as flag}
+use Rattle.message.specs.Message.{countOf, isThere, ofOctet, ofWord, ofNumber, ofQueue, ofPart, ofCause, has}
+use Rattle.words.specs.Choice.{if_then_else_, one}
 use Rattle.octets.specs.Octets.{be16, be32, octets16, octets32}
 use Rattle.octets.proofs.Numbers.{be16-of, be32-back}
 use Rattle.message.proofs.Types.{type-back}
@@ -31,7 +31,7 @@ use Rattle.message_octets.specs.Places.{fieldsPlace}
 place-there : (n : ℕ) → n < 65536 → be16 (octets16 (n % 65536)) 0 ≡ n
 place-there n h = be16-of (n % 65536) ∙ mod-eq-of-lt h
 
-flag-small : (b : Bool) → flag b ≤ 1
+flag-small : (b : Bool) → one b ≤ 1
 flag-small true = omega arith
 flag-small false = omega arith
 
@@ -52,12 +52,12 @@ queue-back : (w : Queue) (b : Bool) → b ≡ isThere (ofQueue w) → queueIf b 
 queue-back Queue.Absent b e = rw e
 queue-back (Queue.Is position priority) b e = rw e
 
-part-back : (p : Part) (b : Bool) (n k : ℕ) → b ≡ isThere (ofPart [] p) → n ≡ partStart p → k ≡ countIn p → partIf b n k ≡ p
+part-back : (p : Part) (b : Bool) (n k : ℕ) → b ≡ isThere (ofPart [] p) → n ≡ partStart p → k ≡ countOf p → partIf b n k ≡ p
 part-back Part.Absent b n k e q r = rw e
 part-back (Part.At from count) b n k e q r = rw (e, q, r)
 
 cause-back : (c : Cause) (b : Bool) (m n k : ℕ) → b ≡ isThere (ofCause [] c) → m ≡ rejectCauseIn c → n ≡ partStart (phraseIn c)
-    → k ≡ countIn (phraseIn c) → causeIf b m n k ≡ c
+    → k ≡ countOf (phraseIn c) → causeIf b m n k ≡ c
 cause-back Cause.Absent b m n k e o q r = rw e
 cause-back (Cause.Is cause from count) b m n k e o q r = rw (e, o, q, r)
 
@@ -78,15 +78,15 @@ module _ (m : Message) where
     cause =
         cause-back (m .cause) _ _ _ _ (is-set m 2 (omega arith)) (be16-of (rejectCauseIn (m .cause)))
         (place-there (partStart (phraseIn (m .cause))) (near .phrase .start))
-        (place-there (countIn (phraseIn (m .cause))) (near .phrase .count)) i;
+        (place-there (countOf (phraseIn (m .cause))) (near .phrase .count)) i;
     queue = queue-back (m .queue) _ (is-set m 3 (omega arith)) i;
     granted =
         part-back (m .granted) _ _ _ (is-set m 4 (omega arith)) (place-there (partStart (m .granted)) (near .granted .start))
-        (place-there (countIn (m .granted)) (near .granted .count)) i;
+        (place-there (countOf (m .granted)) (near .granted .count)) i;
     permission = word-back (m .permission) _ _ (is-set m 5 (omega arith)) (be16-of (wordIn (m .permission))) i;
     user =
         part-back (m .user) _ _ _ (is-set m 6 (omega arith)) (place-there (partStart (m .user)) (near .user .start))
-        (place-there (countIn (m .user)) (near .user .count)) i;
+        (place-there (countOf (m .user)) (near .user .count)) i;
     sequence = word-back (m .sequence) _ _ (is-set m 8 (omega arith)) (be16-of (wordIn (m .sequence))) i;
     source = word-back (m .source) _ _ (is-set m 10 (omega arith)) (be16-of (wordIn (m .source))) i;
     «message_type» = octet-back (m .«message_type») _ _ (is-set m 12 (omega arith)) refl i;

@@ -6,7 +6,7 @@ use mathlib.Core.Path.{_≡_}
 use lib.ListN.{length, take}
 use Rattle.octets.specs.Octets.{over}
 use Rattle.message.specs.Answers.{result}
-use Rattle.message.specs.Message.{said, countOf as countIn}
+use Rattle.message.specs.Message.{said, countOf}
 use Rattle.message.specs.declared.Part.{Part}
 use Rattle.message.specs.declared.Message.{Message}
 use Rattle.reading.specs.Reading.{reading}
@@ -17,7 +17,7 @@ use Rattle.message_octets.specs.Places.{messageSize}
 -- A message whose places are below 65,536 is held in octets that hold it, and no other (proofs/Back).
 pub record NearPart (p : Part) : Type 0 where
   pub start : partStart p < 65536
-  pub count : countIn p < 65536
+  pub count : countOf p < 65536
 
 pub record Near (m : Message) : Type 0 where
   pub phrase : NearPart (phraseIn (m .cause))

@@ -34,26 +34,26 @@ use Rattle.writing.proofs.Whole.{refused-12}
 use Rattle.message_octets.specs.Held.{Held, Is, Nothing, isSet, octetIf, wordIf, numberIf, queueIf, partIf, causeIf, messageWith}
 use Rattle.message_octets.specs.Held.{unlistedField, heldOfType, heldAt, writingOf, writtenOf}
 use Rattle.message_octets.proofs.Answers.{held-is}
-use Rattle.message_writing.specs.Writes.{kindOf, messageIn, hasRequired, readableIn, fourIf, shortSize}
+use Rattle.message_writing.specs.Writes.{typeOf, messageIn, hasRequired, readableIn, fourIf, shortSize}
 use Rattle.header.specs.Header.{headerSize}
-use Rattle.message_octets.specs.Places.{typePlace, ackPlace, fieldsPlace, priorityPlace, messageTypePlace, durationPlace, causePlace}
-use Rattle.message_octets.specs.Places.{queuePlace, permissionPlace, sequencePlace, sourcePlace, indicatorPlace, ssrcFieldPlace}
+use Rattle.message_octets.specs.Places.{typePlace, ackPlace, fieldsPlace, priorityPlace, messageTypePlace, durationPlace, messageCausePlace}
+use Rattle.message_octets.specs.Places.{queuePlace, permissionPlace, messageSequencePlace, sourcePlace, indicatorPlace, ssrcFieldPlace}
 use Rattle.message_octets.specs.Places.{phrasePlace, grantedPlace, messageSize}
 
-pub type-small : (s : List ℕ) → typed (nthOctet s typePlace) ≡ Listed (kindOf (typed (nthOctet s typePlace))) → nthOctet s typePlace ≤ 10
+pub type-small : (s : List ℕ) → typed (nthOctet s typePlace) ≡ Listed (typeOf (typed (nthOctet s typePlace))) → nthOctet s typePlace ≤ 10
 type-small s e =
     omega (
       arith,
-      type-named (nthOctet s typePlace) (kindOf (typed (nthOctet s typePlace))) e,
-      small (kindOf (typed (nthOctet s typePlace))),
+      type-named (nthOctet s typePlace) (typeOf (typed (nthOctet s typePlace))) e,
+      small (typeOf (typed (nthOctet s typePlace))),
     )
 
-pub first-is : (s : List ℕ) (fields : ℕ) → typed (nthOctet s typePlace) ≡ Listed (kindOf (typed (nthOctet s typePlace))) →
+pub first-is : (s : List ℕ) (fields : ℕ) → typed (nthOctet s typePlace) ≡ Listed (typeOf (typed (nthOctet s typePlace))) →
     nthOctet s ackPlace ≤ 1
     → 128 + 16 * nthOctet s ackPlace + nthOctet s typePlace ≡ firstOctet (messageIn s fields .kind) (messageIn s fields .ack)
 unfolding messageIn messageWith firstOctet if_then_else_
 first-is s fields e h =
-    let n = type-named (nthOctet s typePlace) (kindOf (typed (nthOctet s typePlace))) e in
+    let n = type-named (nthOctet s typePlace) (typeOf (typed (nthOctet s typePlace))) e in
     by-test (eqb (nthOctet s ackPlace) 1) (λ t. let q = eqb-true (nthOctet s ackPlace) 1 t in rw t (omega arith))
     (λ t. let q = eqb-false (nthOctet s ackPlace) 1 t in rw t (omega arith))
 
@@ -88,11 +88,11 @@ complete-is Request s src fields = refl
 complete-is Granted s src fields = one-of (word-given (isSet fields 1) (be16 s durationPlace))
 complete-is Taken s src fields = one-of (part-given src (isSet fields 4) (be16 s grantedPlace) (be16 s (grantedPlace + 2)))
 complete-is Deny s src fields =
-    one-of (cause-given src (isSet fields 2) (be16 s causePlace) (be16 s phrasePlace) (be16 s (phrasePlace + 2)))
+    one-of (cause-given src (isSet fields 2) (be16 s messageCausePlace) (be16 s phrasePlace) (be16 s (phrasePlace + 2)))
 complete-is Release s src fields = refl
-complete-is Idle s src fields = one-of (word-given (isSet fields 8) (be16 s sequencePlace))
+complete-is Idle s src fields = one-of (word-given (isSet fields 8) (be16 s messageSequencePlace))
 complete-is Revoke s src fields =
-    one-of (cause-given src (isSet fields 2) (be16 s causePlace) (be16 s phrasePlace) (be16 s (phrasePlace + 2)))
+    one-of (cause-given src (isSet fields 2) (be16 s messageCausePlace) (be16 s phrasePlace) (be16 s (phrasePlace + 2)))
 complete-is QueuePositionRequest s src fields = refl
 complete-is QueuePositionInfo s src fields = one-of (queue-given (isSet fields 3) (nthOctet s queuePlace) (nthOctet s (queuePlace + 1)))
 complete-is Ack s src fields =
@@ -148,7 +148,7 @@ nothing-unlisted s l a u = simp (eq-eqb _ _ l, le-ltb _ _ a, u)
 
 -- octets that a reader would accept hold the message of their type
 pub record Holds (s src : List ℕ) (fields : ℕ) : Type 0 where
-  pub type : typed (nthOctet s typePlace) ≡ Listed (kindOf (typed (nthOctet s typePlace)))
+  pub type : typed (nthOctet s typePlace) ≡ Listed (typeOf (typed (nthOctet s typePlace)))
   pub ack : nthOctet s ackPlace ≤ 1
   pub is : heldAt s ≡ Is (messageIn s fields)
   pub accepted : readable (messageIn s fields) src ≡ true
@@ -199,7 +199,7 @@ size-is s fields =
       word-four (isSet fields 1) (be16 s durationPlace),
       queue-four (isSet fields 3) (nthOctet s queuePlace) (nthOctet s (queuePlace + 1)),
       word-four (isSet fields 5) (be16 s permissionPlace),
-      word-four (isSet fields 8) (be16 s sequencePlace),
+      word-four (isSet fields 8) (be16 s messageSequencePlace),
       word-four (isSet fields 10) (be16 s sourcePlace),
       octet-four (isSet fields 12) (nthOctet s messageTypePlace),
       word-four (isSet fields 13) (be16 s indicatorPlace),

@@ -13,23 +13,23 @@ use Rattle.message.specs.declared.Cause.{Cause}
 use Rattle.message.specs.declared.Message.{Message}
 use Rattle.readable.specs.Readable.{readable}
 use Rattle.message_octets.specs.Held.{Held, Is, Nothing, bitOf, isSet, partIf, causeIf, messageWith}
-use Rattle.message_octets.specs.Places.{typePlace, causePlace, phrasePlace}
+use Rattle.message_octets.specs.Places.{typePlace, messageCausePlace, phrasePlace}
 
 -- the type that an octet names, and any where it names none
-abbrev pub kindOf : Typed → MessageType
-kindOf Unlisted = MessageType.Request
-kindOf (Listed k) = k
+abbrev pub typeOf : Typed → MessageType
+typeOf Unlisted = MessageType.Request
+typeOf (Listed k) = k
 
 -- the message that octets hold, if they hold one, by the bits of the fields that it has
 unfoldable pub messageIn : List ℕ → ℕ → Message
-messageIn s fields = messageWith (kindOf (typed (nthOctet s typePlace))) s fields
+messageIn s fields = messageWith (typeOf (typed (nthOctet s typePlace))) s fields
 
 -- what the octets have of an identity, by the worth of its bit and its place, and of the cause
-abbrev pub partAt : List ℕ → ℕ → ℕ → ℕ → Part
-partAt s fields worth at = partIf (bitOf fields worth) (be16 s at) (be16 s (at + 2))
+abbrev pub partHeld : List ℕ → ℕ → ℕ → ℕ → Part
+partHeld s fields worth at = partIf (bitOf fields worth) (be16 s at) (be16 s (at + 2))
 
-abbrev pub causeAt : List ℕ → ℕ → Cause
-causeAt s fields = causeIf (bitOf fields 4) (be16 s causePlace) (be16 s phrasePlace) (be16 s (phrasePlace + 2))
+abbrev pub causeHeld : List ℕ → ℕ → Cause
+causeHeld s fields = causeIf (bitOf fields 4) (be16 s messageCausePlace) (be16 s phrasePlace) (be16 s (phrasePlace + 2))
 
 -- the bits of all fields are set that a listed type requires
 abbrev pub hasRequired : Typed → ℕ → Bool

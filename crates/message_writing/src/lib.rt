@@ -50,13 +50,13 @@ ghost use Rattle.message.specs.Types.{typed};
 ghost use Rattle.message.specs.Table.{rowOf};
 ghost use Rattle.message.specs.Message.{required, hasAll, ofOctet, ofWord, ofNumber, ofQueue, ofPart, ofCause, partLies, phraseLies, lies, countOf, phraseCount};
 ghost use Rattle.field_writing.specs.Wire.{optional, body};
-ghost use Rattle.readable.specs.Fitting.{Short, Held, phraseFits, identityFits, contentFits, fitting};
+ghost use Rattle.readable.specs.Fitting.{Short, FieldsFit, phraseFits, identityFits, contentFits, fitting};
 ghost use Rattle.writing.specs.Puts.{frontFields, restFields, frontSize, restSize};
 ghost use Rattle.field_writing.specs.Puts.{partSize, causeSize};
 ghost use Rattle.header.specs.Header.{headerSize};
 ghost use Rattle.message_octets.specs.Places.{fieldsPlace, queuePlace, ssrcFieldPlace, messageSize};
 ghost use Rattle.message_octets.specs.Held.{bitOf, isSet, octetIf, wordIf, numberIf, queueIf, causeIf, unlistedField, heldAt, WritesOf};
-ghost use Rattle.message_writing.specs.Writes.{partAt, causeAt, messageIn, hasRequired, readableIn, fourIf, shortSize};
+ghost use Rattle.message_writing.specs.Writes.{partHeld, causeHeld, messageIn, hasRequired, readableIn, fourIf, shortSize};
 
 // What octets hold of a field, if the bit of this worth says that the message has it.
 
@@ -121,7 +121,7 @@ fn place_at(s: &[u8], at: usize) -> usize
 
 fn part_in(s: &[u8], fields: u16, worth: u16, at: usize) -> Part
     requires { ⌜ (0 < worth) × (at + 4 ≤ length (now s)) ⌝ }
-    ensures { λ r. ⌜ r ≡ partAt (now (s .entry)) fields worth at ⌝ }
+    ensures { λ r. ⌜ r ≡ partHeld (now (s .entry)) fields worth at ⌝ }
 {
     if is_set(fields, worth) {
         Part::At(place_at(s, at), place_at(s, at + 2))
@@ -183,7 +183,7 @@ fn has_required(number: u8, fields: u16) -> bool
 
 fn part_fits(s: &[u8], fields: u16, worth: u16, at: usize, src: &[u8]) -> bool
     requires { ⌜ (0 < worth) × (at + 4 ≤ length (now s)) ⌝ }
-    ensures { λ r. ⌜ r ≡ (partLies (now (src .entry)) (partAt (now (s .entry)) fields worth at) && identityFits (partAt (now (s .entry)) fields worth at)) ⌝ }
+    ensures { λ r. ⌜ r ≡ (partLies (now (src .entry)) (partHeld (now (s .entry)) fields worth at) && identityFits (partHeld (now (s .entry)) fields worth at)) ⌝ }
 {
     let p = part_in(s, fields, worth, at);
     readable::part_lies(p, src) && readable::identity_fits(p)
@@ -191,7 +191,7 @@ fn part_fits(s: &[u8], fields: u16, worth: u16, at: usize, src: &[u8]) -> bool
 
 fn cause_fits(s: &[u8], fields: u16, src: &[u8]) -> bool
     requires { ⌜ messageSize ≤ length (now s) ⌝ }
-    ensures { λ r. ⌜ r ≡ (phraseLies (now (src .entry)) (causeAt (now (s .entry)) fields) && phraseFits (causeAt (now (s .entry)) fields)) ⌝ }
+    ensures { λ r. ⌜ r ≡ (phraseLies (now (src .entry)) (causeHeld (now (s .entry)) fields) && phraseFits (causeHeld (now (s .entry)) fields)) ⌝ }
 {
     let c = cause_in(s, fields, HAS_CAUSE, CAUSE, PHRASE);
     readable::phrase_lies(c, src) && readable::phrase_fits(c)
@@ -263,8 +263,8 @@ fn short_size(fields: u16) -> usize
 
 fn part_size(s: &[u8], fields: u16, worth: u16, at: usize) -> usize
     requires { ⌜ (0 < worth) × (at + 4 ≤ length (now s)) ⌝ }
-    requires { ⌜ countOf (partAt (now s) fields worth at) ≤ 62 ⌝ }
-    ensures { λ r. ⌜ r ≡ partSize (partAt (now (s .entry)) fields worth at) ⌝ }
+    requires { ⌜ countOf (partHeld (now s) fields worth at) ≤ 62 ⌝ }
+    ensures { λ r. ⌜ r ≡ partSize (partHeld (now (s .entry)) fields worth at) ⌝ }
 {
     let p = part_in(s, fields, worth, at);
     field_writing::part_size(p)
@@ -272,8 +272,8 @@ fn part_size(s: &[u8], fields: u16, worth: u16, at: usize) -> usize
 
 fn cause_size(s: &[u8], fields: u16) -> usize
     requires { ⌜ messageSize ≤ length (now s) ⌝ }
-    requires { ⌜ phraseCount (causeAt (now s) fields) ≤ 253 ⌝ }
-    ensures { λ r. ⌜ r ≡ causeSize (causeAt (now (s .entry)) fields) ⌝ }
+    requires { ⌜ phraseCount (causeHeld (now s) fields) ≤ 253 ⌝ }
+    ensures { λ r. ⌜ r ≡ causeSize (causeHeld (now (s .entry)) fields) ⌝ }
 {
     let c = cause_in(s, fields, HAS_CAUSE, CAUSE, PHRASE);
     field_writing::cause_size(c)
@@ -363,10 +363,10 @@ fn put_identity(
 ) -> usize
     requires { ⌜ (0 < worth) × (place + 4 ≤ length (now s)) ⌝ }
     requires { ⌜ rowOf id .spare ≡ 0 ⌝ }
-    requires { ⌜ countOf (partAt (now s) fields worth place) ≤ 62 ⌝ }
-    requires { ⌜ partLies (now src) (partAt (now s) fields worth place) ≡ true ⌝ }
-    requires { ⌜ at + length (optional id (ofPart (now src) (partAt (now s) fields worth place))) ≤ length (now room) ⌝ }
-    ensures { λ r. ⌜ Laid (now (room .entry)) at (optional id (ofPart (now (src .entry)) (partAt (now (s .entry)) fields worth place))) (now (room .exit)) r ⌝ }
+    requires { ⌜ countOf (partHeld (now s) fields worth place) ≤ 62 ⌝ }
+    requires { ⌜ partLies (now src) (partHeld (now s) fields worth place) ≡ true ⌝ }
+    requires { ⌜ at + length (optional id (ofPart (now src) (partHeld (now s) fields worth place))) ≤ length (now room) ⌝ }
+    ensures { λ r. ⌜ Laid (now (room .entry)) at (optional id (ofPart (now (src .entry)) (partHeld (now (s .entry)) fields worth place))) (now (room .exit)) r ⌝ }
 {
     let p = part_in(s, fields, worth, place);
     field_writing::put_identity(room, at, src, id, p)
@@ -374,10 +374,10 @@ fn put_identity(
 
 fn put_cause(room: &mut [u8], at: usize, src: &[u8], s: &[u8], fields: u16) -> usize
     requires { ⌜ messageSize ≤ length (now s) ⌝ }
-    requires { ⌜ phraseCount (causeAt (now s) fields) ≤ 253 ⌝ }
-    requires { ⌜ phraseLies (now src) (causeAt (now s) fields) ≡ true ⌝ }
-    requires { ⌜ at + length (optional 2 (ofCause (now src) (causeAt (now s) fields))) ≤ length (now room) ⌝ }
-    ensures { λ r. ⌜ Laid (now (room .entry)) at (optional 2 (ofCause (now (src .entry)) (causeAt (now (s .entry)) fields))) (now (room .exit)) r ⌝ }
+    requires { ⌜ phraseCount (causeHeld (now s) fields) ≤ 253 ⌝ }
+    requires { ⌜ phraseLies (now src) (causeHeld (now s) fields) ≡ true ⌝ }
+    requires { ⌜ at + length (optional 2 (ofCause (now src) (causeHeld (now s) fields))) ≤ length (now room) ⌝ }
+    ensures { λ r. ⌜ Laid (now (room .entry)) at (optional 2 (ofCause (now (src .entry)) (causeHeld (now (s .entry)) fields))) (now (room .exit)) r ⌝ }
 {
     let c = cause_in(s, fields, HAS_CAUSE, CAUSE, PHRASE);
     field_writing::put_cause(room, at, src, c)
@@ -386,7 +386,7 @@ fn put_cause(room: &mut [u8], at: usize, src: &[u8], s: &[u8], fields: u16) -> u
 // Lays the fields 0 to 5, in ascending order.
 fn put_front(room: &mut [u8], at: usize, src: &[u8], s: &[u8], fields: u16) -> usize
     requires { ⌜ messageSize ≤ length (now s) ⌝ }
-    requires { ⌜ Held (messageIn (now s) fields) (now src) ⌝ }
+    requires { ⌜ FieldsFit (messageIn (now s) fields) (now src) ⌝ }
     requires { ⌜ at + length (body (frontFields (messageIn (now s) fields) (now src))) ≤ length (now room) ⌝ }
     ensures { λ r. ⌜ Laid (now (room .entry)) at (body (frontFields (messageIn (now (s .entry)) fields) (now (src .entry)))) (now (room .exit)) r ⌝ }
 {
@@ -401,7 +401,7 @@ fn put_front(room: &mut [u8], at: usize, src: &[u8], s: &[u8], fields: u16) -> u
 // Lays the fields 6 to 14, in ascending order.
 fn put_rest(room: &mut [u8], at: usize, src: &[u8], s: &[u8], fields: u16) -> usize
     requires { ⌜ messageSize ≤ length (now s) ⌝ }
-    requires { ⌜ Held (messageIn (now s) fields) (now src) ⌝ }
+    requires { ⌜ FieldsFit (messageIn (now s) fields) (now src) ⌝ }
     requires { ⌜ at + length (body (restFields (messageIn (now s) fields) (now src))) ≤ length (now room) ⌝ }
     ensures { λ r. ⌜ Laid (now (room .entry)) at (body (restFields (messageIn (now (s .entry)) fields) (now (src .entry)))) (now (room .exit)) r ⌝ }
 {

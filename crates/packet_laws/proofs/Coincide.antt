@@ -7,7 +7,7 @@ use Rattle.message.specs.declared.Message.{Message}
 use Rattle.header.specs.declared.Opening.{Opening}
 use Rattle.header.specs.declared.Opening.the-variants.{Of}
 use Rattle.field.specs.Fields.{Fields, whole, fault, fieldsIn}
-use Rattle.walk.specs.Walk.{Noted, Leaves, faultNumber}
+use Rattle.walk.specs.Walk.{Noted, WholeAnswer, faultNumber}
 use Rattle.walk.proofs.Reaches.{differ}
 use Rattle.message.specs.Answers.{Answer, refused, result}
 use Rattle.message.proofs.Answers.{number-one, refusal-one}
@@ -80,6 +80,6 @@ fault-one AgainstTheTable AgainstTheTable n n′ e = refl
 pub walks-coincide : WalksCoincide
 walks-coincide s w w′ starts starts′ l l′ = go (fieldsIn s) l l′
   where
-    go : (fields : Fields) → Leaves fields w starts → Leaves fields w′ starts′ → (w ≡ w′) × (starts ≡ starts′)
+    go : (fields : Fields) → WholeAnswer fields w starts → WholeAnswer fields w′ starts′ → (w ≡ w′) × (starts ≡ starts′)
     go (whole fs) k k′ = (k .0 ∙ sym (k′ .0), same-notes (whole fs) starts starts′ (k .1) (k′ .1))
     go (fault n) k k′ = (fault-one w w′ (k .1) (k′ .1) (k .0 ∙ sym (k′ .0)), k .2 ∙ sym (k′ .2))

@@ -21,7 +21,7 @@ use Rattle.writing.specs.declared.Writing.the-variants.{Written}
 use Rattle.writing.specs.Wire.{wire}
 use Rattle.readable.specs.Readable.{readable}
 use Rattle.writing.specs.Writing.{writing, written, writingAnswer}
-use Rattle.packet_laws.specs.Again.{ReadsAs, IsRead, WriteThenRead, RefusalWritesNothing, RestUntouched, ReadThenWrite}
+use Rattle.packet_laws.specs.Again.{ReadsAs, IsRead, WriteThenRead, RefusedLeavesRoom, RestUntouched, ReadThenWrite}
 use Rattle.header.proofs.Openings.{passed}
 use Rattle.packet_laws.proofs.Back.{read-back}
 use Rattle.packet_laws.proofs.Again.{read-is-written}
@@ -61,7 +61,7 @@ write-then-read m src room room′ r n q p e z =
     let t : take n room′ ≡ wire (said m src) = ap (take n) (p .1) ∙ w .octets in
     rw t (is-read (wire (said m src)) (said m src) q (read-back m src (w .accepted)) (rw t at z))
 
-pub refusal-writes-nothing : RefusalWritesNothing
+pub refusal-writes-nothing : RefusedLeavesRoom
 unfolding written
 refusal-writes-nothing m src room room′ r why p e =
     let told : writing m src (length room) ≡ refused (refusalNumber why) = sym (p .0) ∙ ap writingAnswer e in

@@ -25,7 +25,7 @@ use Rattle.writing.specs.Writing.{Tells, Writes}
 use Rattle.header.specs.Header.{headerSize}
 use Rattle.header.specs.Opening.{Opens}
 use Rattle.walk.specs.declared.Walk.{Walk}
-use Rattle.walk.specs.Walk.{Leaves}
+use Rattle.walk.specs.Walk.{WholeAnswer}
 
 -- reading these octets gives a message, and it says this
 pub record ReadsAs (s : List ℕ) (what : Said) : Type 0 where
@@ -72,8 +72,8 @@ WriteThenRead =
     → Reads (take n room′) q → IsRead (take n room′) q (said m src)
 
 -- "A refusal returns its number only and writes nothing; a result leaves the room past its end untouched"
-abbrev pub RefusalWritesNothing : Type 0
-RefusalWritesNothing =
+abbrev pub RefusedLeavesRoom : Type 0
+RefusedLeavesRoom =
     (m : Message) (src room room′ : List ℕ) (r : Writing) (why : Refusal) → Writes m src room r room′ → r ≡ Writing.Refused why
     → room′ ≡ room
 
@@ -131,5 +131,5 @@ OpeningsCoincide = (s : List ℕ) (r r′ : Opening) → Opens s r → Opens s r
 
 abbrev pub WalksCoincide : Type 0
 WalksCoincide =
-    (s : List ℕ) (w w′ : Walk) (starts starts′ : List ℕ) → Leaves (fieldsIn s) w starts → Leaves (fieldsIn s) w′ starts′
+    (s : List ℕ) (w w′ : Walk) (starts starts′ : List ℕ) → WholeAnswer (fieldsIn s) w starts → WholeAnswer (fieldsIn s) w′ starts′
     → (w ≡ w′) × (starts ≡ starts′)

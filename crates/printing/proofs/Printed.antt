@@ -12,21 +12,21 @@ use borrow.Author.Tests.{leb-true, leb-false}
 use Rattle.bytes.specs.Bytes.{indexOf, slice}
 use Rattle.io.specs.Digits.{Fewest}
 use Rattle.words.specs.Choice.{by-test}
-use Rattle.printing.specs.Printed.{start, Pieces, seatsOf, PiecesCoincide, DigitsCoincide}
+use Rattle.printing.specs.Printed.{pieceStart, Pieces, countIn, PiecesCoincide, DigitsCoincide}
 
 module _ (mark : ℕ) (s : List ℕ) where
   -- behind the mark that is found from where piece k begins, the next one begins
-  pub next-begins : (k from end : ℕ) → from ≡ start mark s k → end ≡ from + indexOf mark (slice from (length s) s)
-      → end + 1 ≡ start mark s (k + 1)
-  unfolding start
+  pub next-begins : (k from end : ℕ) → from ≡ pieceStart mark s k → end ≡ from + indexOf mark (slice from (length s) s)
+      → end + 1 ≡ pieceStart mark s (k + 1)
+  unfolding pieceStart
   next-begins k from end p q = rw (add-one k, q, p)
 
-  later : (k d : ℕ) → start mark s k ≤ start mark s (k + d)
-  unfolding start
+  later : (k d : ℕ) → pieceStart mark s k ≤ pieceStart mark s (k + d)
+  unfolding pieceStart
   later k zero = rw (add-zero k) (omega arith)
   later k (suc d) = let h = later k d in rw (add-suc k d) (omega arith)
 
-  pub in-order : (k j : ℕ) → k ≤ j → start mark s k ≤ start mark s j
+  pub in-order : (k j : ℕ) → k ≤ j → pieceStart mark s k ≤ pieceStart mark s j
   in-order k j h =
       let e : k + (j - k) ≡ j = omega arith in
       rw e at (later k (j - k))
@@ -38,13 +38,13 @@ pub pieces-coincide : PiecesCoincide
 pieces-coincide mark s m n p q = omega (arith, not-more mark s m n p q, not-more mark s n m q p)
 
 -- the next seat is counted, or it is not
-module _ (set : List Bool) (i count : ℕ) (so-far : count ≡ seatsOf set i) where
-  pub seat-more : getD set i false ≡ true → count + 1 ≡ seatsOf set (i + 1)
-  unfolding seatsOf
+module _ (set : List Bool) (i count : ℕ) (so-far : count ≡ countIn set i) where
+  pub seat-more : getD set i false ≡ true → count + 1 ≡ countIn set (i + 1)
+  unfolding countIn
   seat-more e = rw (add-one i, e, so-far)
 
-  pub none-more : getD set i false ≡ false → count ≡ seatsOf set (i + 1)
-  unfolding seatsOf
+  pub none-more : getD set i false ≡ false → count ≡ countIn set (i + 1)
+  unfolding countIn
   none-more e = rw (add-one i, e, so-far) (omega arith)
 
 -- more digits than hold a number are not the fewest

@@ -18,19 +18,19 @@ rowMark = 94
 
 -- Some octets are cut into pieces: a mark ends each, and the last may be without. Where piece k begins, counted from 0: the first with the
 -- octets, each other behind the mark that ends the one before. Where there is no such piece, it is no place of theirs.
-unfoldable pub start : ℕ → List ℕ → ℕ → ℕ
-start mark s zero = 0
-start mark s (suc k) = start mark s k + indexOf mark (slice (start mark s k) (length s) s) + 1
+unfoldable pub pieceStart : ℕ → List ℕ → ℕ → ℕ
+pieceStart mark s zero = 0
+pieceStart mark s (suc k) = pieceStart mark s k + indexOf mark (slice (pieceStart mark s k) (length s) s) + 1
 
 -- they have so many pieces: each of these begins among them, and none behind these
 pub record Pieces (mark : ℕ) (s : List ℕ) (count : ℕ) : Type 0 where
-  pub begin : (k : ℕ) → k < count → start mark s k < length s
-  pub end : length s ≤ start mark s count
+  pub begin : (k : ℕ) → k < count → pieceStart mark s k < length s
+  pub end : length s ≤ pieceStart mark s count
 
 -- how many of the first so many seats are in a set
-unfoldable pub seatsOf : List Bool → ℕ → ℕ
-seatsOf set zero = 0
-seatsOf set (suc i) = seatsOf set i + one (getD set i false)
+unfoldable pub countIn : List Bool → ℕ → ℕ
+countIn set zero = 0
+countIn set (suc i) = countIn set i + one (getD set i false)
 
 -- "any two results it would allow are proved to coincide" (proofs/Printed): the two promises that are no equations allow one answer each
 abbrev pub PiecesCoincide : Type 0

@@ -6,7 +6,7 @@ ghost use lib.Dec.{ltb};
 ghost use lib.ListN.{length};
 ghost use Rattle.io.specs.Digits.{Fewest};
 ghost use Rattle.octets.specs.Octets.{part as part·of};
-ghost use Rattle.printing.specs.Printed.{start, Pieces, numberMark, rowMark, seatsOf};
+ghost use Rattle.printing.specs.Printed.{pieceStart, Pieces, numberMark, rowMark, countIn};
 
 // So many octets from a place on, as far as there are any: none from the end on.
 pub fn part(s: &[u8], from: usize, count: usize) -> &[u8]
@@ -86,7 +86,7 @@ const ROW_MARK: u8 = b'^';
 
 // One of several forms, which end with a `^` each; nothing past the last. Whether there is such a row.
 pub fn row(forms: &[u8], k: usize, numbers: [u64; 4]) -> bool
-    ensures { λ r. ⌜ r ≡ ltb (start rowMark (now (forms .entry)) k) (length (now (forms .entry))) ⌝ }
+    ensures { λ r. ⌜ r ≡ ltb (pieceStart rowMark (now (forms .entry)) k) (length (now (forms .entry))) ⌝ }
 {
     let mut from = 0;
     let mut i = 0;
@@ -149,7 +149,7 @@ pub fn letters(s: &[u8]) -> usize
 
 // The seats of a set, a space before each, or nobody; how many they are.
 pub fn seats(set: [bool; 16]) -> usize
-    ensures { λ r. ⌜ r ≡ seatsOf set 16 ⌝ }
+    ensures { λ r. ⌜ r ≡ countIn set 16 ⌝ }
 {
     let mut count = 0;
     let mut i = 0;

@@ -27,7 +27,7 @@ use Rattle.message.specs.declared.Part.{Part}
 use Rattle.message.specs.declared.Cause.{Cause}
 use Rattle.message.specs.declared.Message.{Message}
 use Rattle.readable.specs.Readable.{fits, allFit, readable}
-use Rattle.readable.specs.Fitting.{Short, Held, phraseFits, identityFits, contentFits, fitting}
+use Rattle.readable.specs.Fitting.{Short, FieldsFit, phraseFits, identityFits, contentFits, fitting}
 use Rattle.message.proofs.Parts.{part-lies, phrase-lies}
 
 -- a field of one length and of any content is never against the table
@@ -151,7 +151,7 @@ short-by m h =
       phrase = phrase-short (m .cause) (and-left p g h₂);
     }
 
-pub held-by : (m : Message) (src : List ℕ) → readable m src ≡ true → Held m src
+pub held-by : (m : Message) (src : List ℕ) → readable m src ≡ true → FieldsFit m src
 held-by m src r =
     let h : (lies m src && fitting m) ≡ true = and-left (lies m src && fitting m) (complete (said m src)) (rw (readable-by m src) at r) in
     let l = lying m src (and-left (lies m src) (fitting m) h) in

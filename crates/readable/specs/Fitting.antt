@@ -18,9 +18,8 @@ pub record Short (m : Message) : Type 0 where
   pub user : countOf (m .user) ≤ 62
   pub phrase : phraseCount (m .cause) ≤ 253
 
--- what a readable message gives to the functions that lay its fields; `Held` of crate message_octets is something else, the message that 40
--- octets hold
-pub record Held (m : Message) (src : List ℕ) : Type 0 where
+-- what a readable message gives to the functions that lay its fields
+pub record FieldsFit (m : Message) (src : List ℕ) : Type 0 where
   pub short : Short m
   pub granted : partLies src (m .granted) ≡ true
   pub user : partLies src (m .user) ≡ true

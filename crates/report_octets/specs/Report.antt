@@ -92,7 +92,7 @@ abbrev pub saidAt : List ℕ → ℕ → Told
 saidAt r at = saidBy (particularsAt r at) (getD r (at + zeroWithin) 0)
 
 -- message 0 or 1 of a report; there is no third
-unfoldable pub messageIn : List ℕ → ℕ → Told
-messageIn r which =
+unfoldable pub toldIn : List ℕ → ℕ → Told
+toldIn r which =
     if not (eqb (length r) reportSize) then NoMessage else if eqb which 0 then saidAt r firstPlace
     else if eqb which 1 then saidAt r secondPlace else Says say.Nothing

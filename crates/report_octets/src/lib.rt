@@ -11,7 +11,7 @@ ghost use lib.ListN.{length};
 ghost use Rattle.octets.specs.Octets.{over};
 ghost use Rattle.words.specs.Choice.{one};
 ghost use Rattle.report_octets.specs.Places.{reportSize, firstPlace, sentSize};
-ghost use Rattle.report_octets.specs.Report.{maskOf, seatOctet, givenOctet, howOctet, with, particulars, messageOctets, marksOctets, reportOctets, particularsAt, kindOf, alike, saidBy, saidAt, messageIn};
+ghost use Rattle.report_octets.specs.Report.{maskOf, seatOctet, givenOctet, howOctet, with, particulars, messageOctets, marksOctets, reportOctets, particularsAt, kindOf, alike, saidBy, saidAt, toldIn};
 
 // The places of a report and of its messages; specs/Places.antt has the same names.
 pub const REPORT_SIZE: usize = 24;
@@ -229,7 +229,7 @@ fn said_at(r: &[u8], at: usize) -> Told
 
 // Message 0 or 1 of a report.
 pub fn message_in(r: &[u8], which: u32) -> Told
-    ensures { λ t. ⌜ t ≡ messageIn (now (r .entry)) which ⌝ }
+    ensures { λ t. ⌜ t ≡ toldIn (now (r .entry)) which ⌝ }
 {
     if r.len() != REPORT_SIZE {
         return Told::NoMessage;

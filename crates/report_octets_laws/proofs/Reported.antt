@@ -25,10 +25,10 @@ use Rattle.report_octets.specs.Places.{firstPlace, secondPlace, seatWithin, num
 use Rattle.report_octets.specs.declared.Particulars.{Particulars}
 use Rattle.report_octets.specs.declared.Told.the-variants.{Says}
 use Rattle.report_octets.specs.Report.{maskOf, seatOctet, givenOctet, howOctet, with, particulars, messageOctets, marksOctets, reportOctets}
-use Rattle.report_octets.specs.Report.{particularsAt, kindOf, alike, saidBy, messageIn}
-use Rattle.report_octets_laws.specs.Reported.{seatsIn, setOf, markOf, givenOf, marksIn, messageAt, reportIn, isMark, isHow, areMarks}
+use Rattle.report_octets.specs.Report.{particularsAt, kindOf, alike, saidBy, toldIn}
+use Rattle.report_octets_laws.specs.Reported.{seatsIn, setOf, markOf, givenOf, marksIn, sendingAt, reportIn, isMark, isHow, areMarks}
 use Rattle.report_octets_laws.specs.Reported.{isMessage, isMessageAt, isReport, MarkFits, GivenFits, KindFits, MessageFits, MarksFit}
-use Rattle.report_octets_laws.specs.Reported.{ReportFits, SaysTheReport, WrittenBack, HasOctets, SaysAReport, SameMessages}
+use Rattle.report_octets_laws.specs.Reported.{ReportFits, SaysTheReport, ReportWrittenBack, HasOctets, SaysAReport, SameMessages}
 use Rattle.steps.specs.declared.Report.{Report}
 use Rattle.octets.proofs.Numbers.{back16}
 use Rattle.report_octets.proofs.Masks.{mask-fits}
@@ -103,8 +103,8 @@ given-back (OutOfLine s) = refl
 
 message-back : (m : Sending) → MessageFits m → (r : List ℕ) (at : ℕ) → particularsAt r at ≡ particulars (m .kind) →
     be16 r (at + maskWithin) ≡ maskOf (m .to)
-    → messageAt r at ≡ m
-unfolding messageAt
+    → sendingAt r at ≡ m
+unfolding sendingAt
 message-back m k r at p q = rw (p, q, kind-back (m .kind) (k .kind), set-is (m .to) (k .to))
 
 marks-back : (m : Marks) → MarksFit m →
@@ -118,13 +118,13 @@ marks-back m k =
     rw (mark-back (m .placed) (k .placed), mark-back (m .ended) (k .ended), set-is (m .struck) (k .struck), given-back (m .given))
 
 module _ (p : Report) (k : ReportFits p) where
-  first-back : messageAt (reportOctets p) firstPlace ≡ p .first
+  first-back : sendingAt (reportOctets p) firstPlace ≡ p .first
   unfolding reportOctets messageOctets marksOctets octets16 particularsAt be16
   first-back =
       message-back (p .first) (k .first) (reportOctets p) firstPlace (rw (back16 (particulars (p .first .kind) .number)))
       (back16 (maskOf (p .first .to)))
 
-  second-back : messageAt (reportOctets p) secondPlace ≡ p .second
+  second-back : sendingAt (reportOctets p) secondPlace ≡ p .second
   unfolding reportOctets messageOctets marksOctets octets16 particularsAt be16
   second-back =
       message-back (p .second) (k .second) (reportOctets p) secondPlace (rw (back16 (particulars (p .second .kind) .number)))
@@ -212,10 +212,10 @@ is-message q behind e =
     record { same = alike-same q p (a .0); alike = a .0; seat = ltb-true (q .seat) 16 (a .1); zero-behind = eqb-true behind 0 (a .2) }
 
 module _ (r : List ℕ) (o : Octets r) where
-  message-forth : (at : ℕ) → isMessageAt r at ≡ true → messageOctets (messageAt r at)
+  message-forth : (at : ℕ) → isMessageAt r at ≡ true → messageOctets (sendingAt r at)
       ≡ getD r at 0 ∷ getD r (at + seatWithin) 0 ∷ getD r (at + numberWithin) 0 ∷ getD r (at + numberWithin + 1) 0
       ∷ getD r (at + priorityWithin) 0 ∷ getD r (at + zeroWithin) 0 ∷ getD r (at + maskWithin) 0 ∷ getD r (at + maskWithin + 1) 0 ∷ []
-  unfolding messageOctets messageAt particularsAt
+  unfolding messageOctets sendingAt particularsAt
   message-forth at e =
       let m = is-message (particularsAt r at) (getD r (at + zeroWithin) 0) e in
       rw (m .same, m .zero-behind, number-forth r o (at + numberWithin), set-forth-at r o (at + maskWithin))
@@ -250,7 +250,7 @@ is-report r e =
     let a = and-four (eqb (length r) reportSize) (areMarks r) (isMessageAt r firstPlace) (isMessageAt r secondPlace) e in
     record { whole = eqb-true (length r) reportSize (a .0); marks = a .1; first = a .2; second = a .3 }
 
-pub written-back : WrittenBack
+pub written-back : ReportWrittenBack
 unfolding reportOctets reportIn
 written-back r o e =
     let a = is-report r e in
@@ -413,8 +413,8 @@ module _ (r : List ℕ) (o : Octets r) where
   unfolding particularsAt
   priority-at at = o (at + priorityWithin)
 
-  message-fits : (at : ℕ) → isMessageAt r at ≡ true → MessageFits (messageAt r at)
-  unfolding messageAt
+  message-fits : (at : ℕ) → isMessageAt r at ≡ true → MessageFits (sendingAt r at)
+  unfolding sendingAt
   message-fits at e =
       record {
         kind =
@@ -445,14 +445,14 @@ says-a-report r o e =
 -- THE MESSAGES THAT ARE WRITTEN AS PACKETS
 
 said-so : (r : List ℕ) (at : ℕ) → isMessageAt r at ≡ true →
-    saidBy (particularsAt r at) (getD r (at + zeroWithin) 0) ≡ Says (messageAt r at .kind)
-unfolding saidBy messageAt if_then_else_
+    saidBy (particularsAt r at) (getD r (at + zeroWithin) 0) ≡ Says (sendingAt r at .kind)
+unfolding saidBy sendingAt if_then_else_
 said-so r at e =
     let m = is-message (particularsAt r at) (getD r (at + zeroWithin) 0) e in
     rw (m .alike, m .zero-behind)
 
 pub same-messages : SameMessages
-unfolding messageIn reportIn if_then_else_
+unfolding toldIn reportIn if_then_else_
 same-messages r e =
     let a = is-report r e in
     let l : eqb (length r) reportSize ≡ true = eq-eqb (length r) reportSize (a .whole) in

@@ -21,7 +21,7 @@ use Rattle.report_octets.specs.Places.{reportSize, struckPlace, struckZero, pla
 use Rattle.report_octets.specs.Places.{firstPlace, secondPlace, zeroWithin, maskWithin}
 use Rattle.report_octets.specs.declared.Particulars.{Particulars}
 use Rattle.report_octets.specs.declared.Told.the-variants.{Says}
-use Rattle.report_octets.specs.Report.{reportOctets, particulars, particularsAt, kindOf, alike, messageIn}
+use Rattle.report_octets.specs.Report.{reportOctets, particulars, particularsAt, kindOf, alike, toldIn}
 
 -- WHAT OCTETS SAY
 
@@ -48,11 +48,11 @@ marksIn r =
       given = givenOf (getD r givenPlace 0) (getD r howPlace 0);
     }
 
-unfoldable pub messageAt : List ℕ → ℕ → Sending
-messageAt r at = record { kind = kindOf (particularsAt r at); to = setOf (be16 r (at + maskWithin)) }
+unfoldable pub sendingAt : List ℕ → ℕ → Sending
+sendingAt r at = record { kind = kindOf (particularsAt r at); to = setOf (be16 r (at + maskWithin)) }
 
 unfoldable pub reportIn : List ℕ → Report
-reportIn r = record { first = messageAt r firstPlace; second = messageAt r secondPlace; marks = marksIn r }
+reportIn r = record { first = sendingAt r firstPlace; second = sendingAt r secondPlace; marks = marksIn r }
 
 -- WHICH OCTETS ARE A REPORT'S, by the two tables
 
@@ -119,8 +119,8 @@ abbrev pub SaysTheReport : Type 0
 SaysTheReport = (p : Report) → ReportFits p → reportIn (reportOctets p) ≡ p
 
 -- octets that are a report's are written back octet for octet
-abbrev pub WrittenBack : Type 0
-WrittenBack = (r : List ℕ) → Octets r → isReport r ≡ true → reportOctets (reportIn r) ≡ r
+abbrev pub ReportWrittenBack : Type 0
+ReportWrittenBack = (r : List ℕ) → Octets r → isReport r ≡ true → reportOctets (reportIn r) ≡ r
 
 -- the first are always such octets, and the second always say such a report
 abbrev pub HasOctets : Type 0
@@ -132,4 +132,4 @@ SaysAReport = (r : List ℕ) → Octets r → isReport r ≡ true → ReportFits
 -- a report's messages are those that are written as packets
 abbrev pub SameMessages : Type 0
 SameMessages = (r : List ℕ) → isReport r ≡ true →
-    (messageIn r 0 ≡ Says (reportIn r .first .kind)) × (messageIn r 1 ≡ Says (reportIn r .second .kind))
+    (toldIn r 0 ≡ Says (reportIn r .first .kind)) × (toldIn r 1 ≡ Says (reportIn r .second .kind))

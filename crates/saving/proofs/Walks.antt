@@ -15,7 +15,7 @@ use Rattle.identities.specs.declared.Names.{Names}
 use Rattle.seat_octets.specs.Layout.{settingsSize, settingsOctets}
 use Rattle.seat_octets.proofs.SettingsLaws.{settings-long}
 use Rattle.sheet.specs.Layout.{Seat, seatsOctets, seatsFrom, seatsOf, trailer, sheet, sheetOf}
-use Rattle.seat_saving.specs.Seat.{octetsAt}
+use Rattle.seat_saving.specs.Seat.{octetsAtSeat}
 use Rattle.saving.specs.Walk.{countAt}
 
 pub over-front : (room xs ys : List ℕ) → over (over room 0 xs) (length xs) ys ≡ over room 0 (xs ++ ys)
@@ -24,8 +24,8 @@ over-front room xs ys =
 
 module _ (h : Hall) (ns : Names) where
   module _ (n s : ℕ) where
-    one-octets : seatsOctets (seatsFrom h ns (suc n) s) ≡ octetsAt h ns s ++ seatsOctets (seatsFrom h ns n (suc s))
-    unfolding octetsAt seatsOctets if_then_else_
+    one-octets : seatsOctets (seatsFrom h ns (suc n) s) ≡ octetsAtSeat h ns s ++ seatsOctets (seatsFrom h ns n (suc s))
+    unfolding octetsAtSeat seatsOctets if_then_else_
     one-octets = by-test (isPresent h s) (λ e. rw e) (λ e. rw e)
 
     one-count : length (seatsFrom h ns (suc n) s) ≡ countAt h s + length (seatsFrom h ns n (suc s))
@@ -38,10 +38,10 @@ module _ (h : Hall) (ns : Names) where
   abbrev pub rest : ℕ → List Seat
   rest s = seatsFrom h ns (16 - s) s
 
-  pub octets-on : (s : ℕ) → s < 16 → seatsOctets (rest s) ≡ octetsAt h ns s ++ seatsOctets (rest (s + 1))
+  pub octets-on : (s : ℕ) → s < 16 → seatsOctets (rest s) ≡ octetsAtSeat h ns s ++ seatsOctets (rest (s + 1))
   octets-on s l =
       ap (λ (n : ℕ). seatsOctets (seatsFrom h ns n s)) (left-one s l) ∙ one-octets (16 - (s + 1)) s
-      ∙ ap (λ (t : ℕ). octetsAt h ns s ++ seatsOctets (seatsFrom h ns (16 - (s + 1)) t)) (sym (add-one s))
+      ∙ ap (λ (t : ℕ). octetsAtSeat h ns s ++ seatsOctets (seatsFrom h ns (16 - (s + 1)) t)) (sym (add-one s))
 
   pub count-on : (s : ℕ) → s < 16 → length (rest s) ≡ countAt h s + length (rest (s + 1))
   count-on s l =
@@ -71,18 +71,18 @@ module _ (h : Hall) (ns : Names) where
   put-starts room = record { done = []; ends = refl; is = sym (over-none room 0); all = refl }
 
   pub put-fits : (room₀ room : List ℕ) (at s : ℕ) → s < 16 → Put room₀ room at s
-      → at + length (octetsAt h ns s) ≤ length (seatsOctets (seatsOf h ns))
+      → at + length (octetsAtSeat h ns s) ≤ length (seatsOctets (seatsOf h ns))
   put-fits room₀ room at s l p =
       omega (arith, p .ends, simp length-append at (ap length (p .all)), simp length-append at (ap length (octets-on s l)))
 
   pub put-on : (room₀ room : List ℕ) (at s : ℕ) → s < 16 → Put room₀ room at s
-      → Put room₀ (over room at (octetsAt h ns s)) (at + length (octetsAt h ns s)) (s + 1)
+      → Put room₀ (over room at (octetsAtSeat h ns s)) (at + length (octetsAtSeat h ns s)) (s + 1)
   put-on room₀ room at s l p =
       record {
-        done = p .done ++ octetsAt h ns s;
-        ends = simp length-append (ap (λ (n : ℕ). n + length (octetsAt h ns s)) (p .ends));
-        is = rw (p .is, p .ends) (over-front room₀ (p .done) (octetsAt h ns s));
-        all = append-assoc (p .done) (octetsAt h ns s) (seatsOctets (rest (s + 1)))
+        done = p .done ++ octetsAtSeat h ns s;
+        ends = simp length-append (ap (λ (n : ℕ). n + length (octetsAtSeat h ns s)) (p .ends));
+        is = rw (p .is, p .ends) (over-front room₀ (p .done) (octetsAtSeat h ns s));
+        all = append-assoc (p .done) (octetsAtSeat h ns s) (seatsOctets (rest (s + 1)))
             ∙ ap (λ (o : List ℕ). p .done ++ o) (sym (octets-on s l)) ∙ p .all;
       }
 

@@ -15,7 +15,7 @@ use Rattle.line.specs.declared.Line.{Line}
 use Rattle.line.specs.Line.{waiting, empty}
 use Rattle.screen.specs.declared.Shown.{Shown}
 use Rattle.screen.specs.declared.Shown.the-variants.{All, NoRoom}
-use Rattle.screen.specs.Screen.{shownIn, answered, shownAnswer, over, left, listing}
+use Rattle.screen.specs.Screen.{shownIn, listAnswer, shownAnswer, overFirst, filled, listing}
 
 -- the first i entries of the line over the room's
 abbrev pub upTo : List Entry → List Entry → ℕ → List Entry
@@ -45,12 +45,12 @@ pub shown-none : (es : List Entry) (places : ℕ) → places < length es → sho
 unfolding shownIn if_then_else_
 shown-none es places h = rw (lt-leb (length es) places h)
 
-pub answered-all : (es : List Entry) (places : ℕ) → length es ≤ places → answered es places ≡ result (length es)
-unfolding answered if_then_else_
+pub answered-all : (es : List Entry) (places : ℕ) → length es ≤ places → listAnswer es places ≡ result (length es)
+unfolding listAnswer if_then_else_
 answered-all es places h = rw (le-leb (length es) places h)
 
-pub answered-none : (es : List Entry) (places : ℕ) → places < length es → answered es places ≡ refused 13
-unfolding answered if_then_else_
+pub answered-none : (es : List Entry) (places : ℕ) → places < length es → listAnswer es places ≡ refused 13
+unfolding listAnswer if_then_else_
 answered-none es places h = rw (lt-leb (length es) places h)
 
 -- the answer in the paper's numbers determines the answer, so any two answers that a promise here allows coincide
@@ -71,8 +71,8 @@ shown-in-room es places =
     (λ t. rw (shown-none es places (leb-false (length es) places t)) (omega arith))
 
 -- once as many are written as are shown, the room holds what it is to hold
-pub upto-left : (es room : List Entry) → upTo es room (shownIn es (length room)) ≡ left es room
-unfolding left
+pub upto-left : (es room : List Entry) → upTo es room (shownIn es (length room)) ≡ filled es room
+unfolding filled
 upto-left es room =
     by-test (leb (length es) (length room))
     (λ t. rw (shown-all es (length room) (leb-true (length es) (length room) t), if-yes _ _ _ t, take-all (length es) es (omega arith)))
@@ -83,8 +83,8 @@ pub waiting-fits : (l : Line) → length (l .entries) ≡ 15 → length (waiting
 unfolding waiting
 waiting-fits l e = rw (length-take (l .len) (l .entries)) (omega (arith, e))
 
-pub listed-all : (l : Line) → length (l .entries) ≡ 15 → left (waiting l) (replicate 15 empty) ≡ listing (waiting l)
-unfolding left listing
+pub listed-all : (l : Line) → length (l .entries) ≡ 15 → filled (waiting l) (replicate 15 empty) ≡ listing (waiting l)
+unfolding filled listing
 listed-all l e = if-yes _ _ _ (le-leb (length (waiting l)) 15 (waiting-fits l e))
 
 past-empties : (n m k : ℕ) → getD (drop n (replicate m empty)) k empty ≡ empty
@@ -101,5 +101,5 @@ listed-at es i =
     by-test (ltb i (length es)) (λ t. List·getD-append es _ empty i (ltb-true i (length es) t))
     (λ t. let h : length es ≤ i = ltb-false i (length es) t in
     let e : i ≡ length es + (i - length es) = omega (arith, h) in
-    subst (λ (k : ℕ). getD (over es (replicate 15 empty)) k empty ≡ empty) (sym e)
+    subst (λ (k : ℕ). getD (overFirst es (replicate 15 empty)) k empty ≡ empty) (sym e)
     (getD-append-add es _ (i - length es) empty ∙ past-empties (length es) 15 (i - length es)) ∙ sym (List·getD-eq-default es empty h))

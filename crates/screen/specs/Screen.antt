@@ -20,17 +20,17 @@ abbrev pub shownAnswer : Shown → Answer ℕ
 shownAnswer (All n) = result n
 shownAnswer NoRoom = refused 13
 
-unfoldable pub answered : List Entry → ℕ → Answer ℕ
-answered es places = if leb (length es) places then result (length es) else refused 13
+unfoldable pub listAnswer : List Entry → ℕ → Answer ℕ
+listAnswer es places = if leb (length es) places then result (length es) else refused 13
 
 -- these entries over a room's first ones
-abbrev pub over : List Entry → List Entry → List Entry
-over es room = es ++ drop (length es) room
+abbrev pub overFirst : List Entry → List Entry → List Entry
+overFirst es room = es ++ drop (length es) room
 
 -- what the room holds in the end
-unfoldable pub left : List Entry → List Entry → List Entry
-left es room = if leb (length es) (length room) then over es room else room
+unfoldable pub filled : List Entry → List Entry → List Entry
+filled es room = if leb (length es) (length room) then overFirst es room else room
 
 -- the list in a room of fifteen places, as many as a line has: those who wait, with empty entries behind them
 unfoldable pub listing : List Entry → List Entry
-listing es = over es (replicate 15 empty)
+listing es = overFirst es (replicate 15 empty)

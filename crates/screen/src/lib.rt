@@ -6,7 +6,7 @@ use line::Line;
 ghost use mathlib.Core.Path.{_≡_};
 ghost use lib.ListN.{length};
 ghost use Rattle.line.specs.Line.{waiting};
-ghost use Rattle.screen.specs.Screen.{shownIn, answered, shownAnswer, left, listing};
+ghost use Rattle.screen.specs.Screen.{shownIn, listAnswer, shownAnswer, filled, listing};
 
 // The answer of a list: how many wait, all of whom are in the room; or refusal 13.
 pub enum Shown {
@@ -24,7 +24,7 @@ pub fn shown_in(line: Line, places: usize) -> usize
 
 // What is answered for a room of this many places.
 pub fn answer(line: Line, places: usize) -> Shown
-    ensures { λ r. ⌜ shownAnswer r ≡ answered (waiting line) places ⌝ }
+    ensures { λ r. ⌜ shownAnswer r ≡ listAnswer (waiting line) places ⌝ }
 {
     let n = line::count(line);
     if n <= places {
@@ -36,7 +36,7 @@ pub fn answer(line: Line, places: usize) -> Shown
 
 // Writes the line to the room. Places past the line are untouched, and all are where the room is too short.
 pub fn fill(line: Line, room: &mut [Entry]) -> Shown
-    ensures { λ r. ⌜ (shownAnswer r ≡ answered (waiting line) (length (now (room .entry)))) × (now (room .exit) ≡ left (waiting line) (now (room .entry))) ⌝ }
+    ensures { λ r. ⌜ (shownAnswer r ≡ listAnswer (waiting line) (length (now (room .entry)))) × (now (room .exit) ≡ filled (waiting line) (now (room .entry))) ⌝ }
 {
     let n = shown_in(line, room.len());
     let mut i = 0;

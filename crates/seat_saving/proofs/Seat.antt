@@ -14,15 +14,15 @@ use Rattle.identities.specs.declared.Names.{Names}
 use Rattle.identities.specs.Identity.{octetsOf}
 use Rattle.seat_octets.specs.Layout.{flagsOctet}
 use Rattle.sheet.specs.Layout.{seatOctets, seatAt}
-use Rattle.seat_saving.specs.Seat.{octetsAt}
+use Rattle.seat_saving.specs.Seat.{octetsAtSeat}
 
 module _ (h : Hall) (ns : Names) where
-  pub taken : (s : ℕ) → isPresent h s ≡ true → octetsAt h ns s ≡ seatOctets (seatAt h ns s)
-  unfolding octetsAt
+  pub taken : (s : ℕ) → isPresent h s ≡ true → octetsAtSeat h ns s ≡ seatOctets (seatAt h ns s)
+  unfolding octetsAtSeat
   taken s e = if-yes _ _ _ e
 
-  pub free : (s : ℕ) → isPresent h s ≡ false → octetsAt h ns s ≡ []
-  unfolding octetsAt
+  pub free : (s : ℕ) → isPresent h s ≡ false → octetsAtSeat h ns s ≡ []
+  unfolding octetsAtSeat
   free s e = if-no _ _ _ e
 
 -- a name's octets as a part of its array

@@ -7,5 +7,5 @@ use Rattle.hall.specs.Seats.{isPresent}
 use Rattle.identities.specs.declared.Names.{Names}
 use Rattle.sheet.specs.Layout.{seatOctets, seatAt}
 
-unfoldable pub octetsAt : Hall → Names → ℕ → List ℕ
-octetsAt h ns s = if isPresent h s then seatOctets (seatAt h ns s) else []
+unfoldable pub octetsAtSeat : Hall → Names → ℕ → List ℕ
+octetsAtSeat h ns s = if isPresent h s then seatOctets (seatAt h ns s) else []

@@ -10,7 +10,7 @@ ghost use lib.ListN.{length};
 ghost use Rattle.octets.specs.Octets.{over};
 ghost use Rattle.identities.specs.Identity.{octetsOf};
 ghost use Rattle.sheet.specs.Layout.{seatHead, whoSits, seatOctets};
-ghost use Rattle.seat_saving.specs.Seat.{octetsAt};
+ghost use Rattle.seat_saving.specs.Seat.{octetsAtSeat};
 
 // What the hall says of a seat.
 pub fn who_sits(hall: Hall, seat: u8) -> Newcomer
@@ -25,7 +25,7 @@ pub fn who_sits(hall: Hall, seat: u8) -> Newcomer
 
 // How many octets a seat of the hall has on the sheet; a free one has none.
 pub fn octets_at(hall: Hall, names: Names, seat: u8) -> usize
-    ensures { λ r. ⌜ (r ≡ length (octetsAt hall names seat)) × (r ≤ 69) ⌝ }
+    ensures { λ r. ⌜ (r ≡ length (octetsAtSeat hall names seat)) × (r ≤ 69) ⌝ }
 {
     if hall::is_present(hall, seat) {
         let name = identities::name_at(names, seat);
@@ -52,9 +52,9 @@ pub fn put_seat(room: &mut [u8], at: usize, who: Newcomer, name: Name) -> usize
 
 // Writes what a seat of the hall, taken or free, puts on the sheet, and says where that ends.
 pub fn put_taken(room: &mut [u8], at: usize, hall: Hall, names: Names, seat: u8) -> usize
-    requires { ⌜ (seat < 16) × (at + length (octetsAt hall names seat) ≤ length (now room)) ⌝ }
-    ensures { λ r. ⌜ r ≡ at + length (octetsAt hall names seat) ⌝ }
-    ensures { λ _. ⌜ now (room .exit) ≡ over (now (room .entry)) at (octetsAt hall names seat) ⌝ }
+    requires { ⌜ (seat < 16) × (at + length (octetsAtSeat hall names seat) ≤ length (now room)) ⌝ }
+    ensures { λ r. ⌜ r ≡ at + length (octetsAtSeat hall names seat) ⌝ }
+    ensures { λ _. ⌜ now (room .exit) ≡ over (now (room .entry)) at (octetsAtSeat hall names seat) ⌝ }
 {
     if hall::is_present(hall, seat) {
         let who = who_sits(hall, seat);

@@ -23,7 +23,7 @@ use Rattle.seat_octets.specs.Layout.{flagsOctet, flagsOf, flagsTop}
 use Rattle.seat_octets.proofs.Bits.{flags-forth}
 use Rattle.desk_octets.proofs.Tests.{all-below, together}
 use Rattle.desk_octets.proofs.Facts.{up-to, hall-facts}
-use Rattle.seats_test.specs.Seated.{ssrcInOctets, nameLengthAt, startOf, behind, freeFits}
+use Rattle.seats_test.specs.Seated.{ssrcInOctets, nameLengthAt, identityStart, zerosBehind, freeFits}
 use Rattle.seats_test.proofs.Same.{finds-at}
 
 -- an octet of flags is zero exactly if it says none
@@ -46,16 +46,17 @@ no-length s seat q =
     (eqb (nameLengthAt s seat) 0) q .3)
 
 -- of a free seat, that has no identity, all sixty-two octets are asked
-pub free-whole : (s : List ℕ) (seat : ℕ) → (upTo 0 s (startOf seat) 62 && freeFits s seat) ≡ (behind s seat && freeFits s seat)
-unfolding behind
+pub free-whole : (s : List ℕ) (seat : ℕ) → (upTo 0 s (identityStart seat) 62 && freeFits s seat) ≡ (zerosBehind s seat && freeFits s seat)
+unfolding zerosBehind
 free-whole s seat =
     by-test (freeFits s seat)
     (λ t. ap (λ (b : Bool). b && freeFits s seat) (none (no-length s seat t)))
-    (λ t. and-no (upTo 0 s (startOf seat) 62) (freeFits s seat) t
-    ∙ sym (and-no (upTo 0 s (startOf seat + nameLengthAt s seat) (62 - nameLengthAt s seat)) (freeFits s seat) t))
+    (λ t. and-no (upTo 0 s (identityStart seat) 62) (freeFits s seat) t
+    ∙ sym (and-no (upTo 0 s (identityStart seat + nameLengthAt s seat) (62 - nameLengthAt s seat)) (freeFits s seat) t))
   where
-    none : nameLengthAt s seat ≡ 0 → upTo 0 s (startOf seat) 62 ≡ upTo 0 s (startOf seat + nameLengthAt s seat) (62 - nameLengthAt s seat)
-    none e = rw (e, add-zero (startOf seat))
+    none : nameLengthAt s seat ≡ 0 →
+        upTo 0 s (identityStart seat) 62 ≡ upTo 0 s (identityStart seat + nameLengthAt s seat) (62 - nameLengthAt s seat)
+    none e = rw (e, add-zero (identityStart seat))
 
 -- the search for the lowest seat finds a seat that passes exactly if none before it does
 module _ (p : ℕ → Bool) where

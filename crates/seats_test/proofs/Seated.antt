@@ -21,7 +21,8 @@ use Rattle.desk_octets.proofs.Tests.{together, below-same}
 use Rattle.desk_octets.proofs.InOctets.{present-is, flags-are, highest-is, ssrc-is, settings-are}
 use Rattle.desk_octets.proofs.Facts.{fits-length}
 use Rattle.identities.proofs.Same.{same-self}
-use Rattle.seats_test.specs.Seated.{takenAt, ssrcInOctets, nameLengthAt, startOf, hasSsrcOf, hasNameOf, ssrcFirst, nameFirst, behind}
+use Rattle.seats_test.specs.Seated.{takenAt, ssrcInOctets, nameLengthAt, identityStart, hasSsrcOf, hasNameOf, ssrcFirst, nameFirst}
+use Rattle.seats_test.specs.Seated.{zerosBehind}
 use Rattle.seats_test.specs.Seated.{takenFits}
 use Rattle.seats_test.specs.Seated.{freeFits, seatFits, seatsFit}
 use Rattle.identity_octets.specs.Identity.{sameOctets}
@@ -51,11 +52,11 @@ module _ (s : List ℕ) (hall : hallFits s ≡ true) (fits : namesFit s ≡ true
       ∙ sym (finds-lowest (hasSsrc (hallAt s) x) seat b
       (both (isPresent (hallAt s) seat) (eqb x x) (sym (present-is s seat b) ∙ t) (eq-eqb x x refl)))
 
-  module _ (all : (seat : ℕ) → seat < 16 → behind s seat ≡ true) where
+  module _ (all : (seat : ℕ) → seat < 16 → zerosBehind s seat ≡ true) where
     name-same : (u t : ℕ) → u < 16 → t < 16 → hasNameOf s u t ≡ hasName (hallAt s) (namesAt s) (octetsOf (nameAt (namesAt s) u)) t
     unfolding hasNameOf
     name-same u t d b =
-        and-assoc (takenAt s t) (eqb (nameLengthAt s t) (nameLengthAt s u)) (sameOctets s (startOf t) (startOf u))
+        and-assoc (takenAt s t) (eqb (nameLengthAt s t) (nameLengthAt s u)) (sameOctets s (identityStart t) (identityStart u))
         ∙ rw (present-is s t b, names-same s t u b d (len t b) (len u d) (all t b) (all u d))
 
     name-first : (seat : ℕ) → seat < 16 → takenAt s seat ≡ true →
@@ -94,12 +95,12 @@ module _ (s : List ℕ) (hall : hallFits s ≡ true) (fits : namesFit s ≡ true
         (λ t. if-yes _ _ _ t ∙ taken-same seat b t ∙ sym (if-yes _ _ _ (sym (present-is s seat b) ∙ t)))
         (λ t. if-no _ _ _ t ∙ free-same seat b ∙ sym (if-no _ _ _ (sym (present-is s seat b) ∙ t))))
 
-  all-fit : allBelow (seatFits s) 16 ≡ true → (seat : ℕ) → seat < 16 → behind s seat ≡ true
+  all-fit : allBelow (seatFits s) 16 ≡ true → (seat : ℕ) → seat < 16 → zerosBehind s seat ≡ true
   unfolding seatFits
   all-fit q seat b =
-      and-left (behind s seat) (if takenAt s seat then takenFits s seat else freeFits s seat) (below (seatFits s) 16 q seat b)
+      and-left (zerosBehind s seat) (if takenAt s seat then takenFits s seat else freeFits s seat) (below (seatFits s) 16 q seat b)
 
-  all-sound : allBelow (seatSound (hallAt s) (namesAt s)) 16 ≡ true → (seat : ℕ) → seat < 16 → behind s seat ≡ true
+  all-sound : allBelow (seatSound (hallAt s) (namesAt s)) 16 ≡ true → (seat : ℕ) → seat < 16 → zerosBehind s seat ≡ true
   unfolding seatSound
   all-sound q seat b =
       name-sound s seat b (len seat b)

@@ -23,15 +23,16 @@ ssrcInOctets s seat = be32 s (ssrcsColumn + 4 * seat)
 abbrev pub nameLengthAt : List ℕ → ℕ → ℕ
 nameLengthAt s seat = nthOctet s (lengthsColumn + seat)
 
-abbrev pub startOf : ℕ → ℕ
-startOf seat = identitiesColumn + 62 * seat
+abbrev pub identityStart : ℕ → ℕ
+identityStart seat = identitiesColumn + 62 * seat
 
 -- a taken seat that has this SSRC; one that has the identity of another
 unfoldable pub hasSsrcOf : List ℕ → ℕ → ℕ → Bool
 hasSsrcOf s ssrc seat = takenAt s seat && eqb (ssrcInOctets s seat) ssrc
 
 unfoldable pub hasNameOf : List ℕ → ℕ → ℕ → Bool
-hasNameOf s other seat = takenAt s seat && eqb (nameLengthAt s seat) (nameLengthAt s other) && sameOctets s (startOf seat) (startOf other)
+hasNameOf s other seat =
+    takenAt s seat && eqb (nameLengthAt s seat) (nameLengthAt s other) && sameOctets s (identityStart seat) (identityStart other)
 
 -- no earlier seat has what this one has
 unfoldable pub ssrcFirst : List ℕ → ℕ → Bool
@@ -41,8 +42,8 @@ unfoldable pub nameFirst : List ℕ → ℕ → Bool
 nameFirst s seat = allBelow (λ t. not (hasNameOf s seat t)) seat
 
 -- zeros behind a seat's identity
-unfoldable pub behind : List ℕ → ℕ → Bool
-behind s seat = upTo 0 s (startOf seat + nameLengthAt s seat) (62 - nameLengthAt s seat)
+unfoldable pub zerosBehind : List ℕ → ℕ → Bool
+zerosBehind s seat = upTo 0 s (identityStart seat + nameLengthAt s seat) (62 - nameLengthAt s seat)
 
 unfoldable pub takenFits : List ℕ → ℕ → Bool
 takenFits s seat =
@@ -54,7 +55,7 @@ freeFits s seat =
     && eqb (nameLengthAt s seat) 0
 
 unfoldable pub seatFits : List ℕ → ℕ → Bool
-seatFits s seat = behind s seat && (if takenAt s seat then takenFits s seat else freeFits s seat)
+seatFits s seat = zerosBehind s seat && (if takenAt s seat then takenFits s seat else freeFits s seat)
 
 unfoldable pub seatsFit : List ℕ → Bool
 seatsFit s = inRange (settingsAt s) && allBelow (seatFits s) 16

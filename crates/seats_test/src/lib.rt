@@ -15,14 +15,14 @@ ghost use Rattle.octets.specs.Octets.{nthOctet};
 ghost use Rattle.words.specs.Below.{allBelow};
 ghost use Rattle.desk_octets.specs.Form.{hallAt, namesAt, hallFits, namesFit};
 ghost use Rattle.seats_test.specs.Seats.{seatsSound};
-ghost use Rattle.seats_test.specs.Seated.{ssrcInOctets, hasSsrcOf, hasNameOf, ssrcFirst, nameFirst, behind, takenFits, freeFits, seatFits};
+ghost use Rattle.seats_test.specs.Seated.{ssrcInOctets, hasSsrcOf, hasNameOf, ssrcFirst, nameFirst, zerosBehind, takenFits, freeFits, seatFits};
 ghost use Rattle.desk_octets.specs.Places.{lengthsColumn, deskSize};
 
 fn behind_is_zero(s: &[u8], seat: usize) -> bool
     requires { ⌜ deskSize ≤ length (now s) ⌝ }
     requires { ⌜ seat < 16 ⌝ }
     requires { ⌜ nthOctet (now s) (lengthsColumn + seat) ≤ 62 ⌝ }
-    ensures { λ r. ⌜ r ≡ behind (now (s .entry)) seat ⌝ }
+    ensures { λ r. ⌜ r ≡ zerosBehind (now (s .entry)) seat ⌝ }
 {
     let at = IDENTITIES_COLUMN + 62 * seat;
     let len = octets::wide(s[LENGTHS_COLUMN + seat]);

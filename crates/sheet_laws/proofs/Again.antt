@@ -18,7 +18,7 @@ use Rattle.seat_octets.proofs.SettingsLaws.{settings-forth}
 use Rattle.sheet.specs.Layout.{Seat, tailSize, seatsOctets, trailer, sheet, sheetOf}
 use Rattle.sheet.specs.Framing.{settingsPlace, trailerPlace, settingsOffset, seatCount, verdictNumber, framing}
 use Rattle.sheet.proofs.Frames.{Framed, framed}
-use Rattle.loading.specs.Loading.{Load, refused, settingsOn, zeros, Seats, whole, fault, readSeats, joinAll, seatAll, settled, loading}
+use Rattle.loading.specs.Loading.{Load, notLoaded, settingsOn, zeros, Seats, whole, fault, readSeats, joinAll, seatAll, settled, loading}
 use Rattle.loading.proofs.Loads.{loads-framed, loads-refused, settles-range, settles-zeros, settles}
 use Rattle.sheet_laws.specs.Sheets.{IsDesk, WrittenBack}
 use Rattle.sheet_laws.proofs.Read.{sheet-ends}
@@ -26,8 +26,8 @@ use Rattle.sheet_laws.proofs.Printed.{seats-back, trailer-back}
 use Rattle.sheet_laws.proofs.Back.{joined}
 use Rattle.sheet_laws.proofs.Saved.{saves, written}
 
-refused-number : (n : ℕ) → refused n .number ≡ n
-unfolding refused
+refused-number : (n : ℕ) → notLoaded n .number ≡ n
+unfolding notLoaded
 refused-number n = refl
 
 -- what every check found
@@ -38,7 +38,7 @@ pub record Sound (s : List ℕ) : Type 0 where
   pub goes : loading s ≡ settled s
 
 module _ (s : List ℕ) (a : loading s .number ≡ 0) where
-  not-so : {P : Type 0} (n : ℕ) → (n ≡ 0 → ⊥) → loading s ≡ refused n → P
+  not-so : {P : Type 0} (n : ℕ) → (n ≡ 0 → ⊥) → loading s ≡ notLoaded n → P
   not-so n k e = absurd (k (sym (refused-number n) ∙ ap (λ (l : Load). l .number) (sym e) ∙ a))
 
   above : (n : ℕ) → suc n ≡ 0 → ⊥

@@ -25,7 +25,7 @@ use Rattle.joining.specs.Join.{ssrcTaken, join, seated}
 use Rattle.joining.specs.Joins.{Passes, Joins, turnedAway, sitsDown}
 use Rattle.joining.proofs.Joins.{join-seats, every-join}
 use Rattle.sheet.specs.Layout.{Seat, seatAt}
-use Rattle.loading.specs.Loading.{Load, loaded, refused, ifSeated, joinAll}
+use Rattle.loading.specs.Loading.{Load, loaded, notLoaded, ifSeated, joinAll}
 use Rattle.sheet_laws.proofs.Rows.{first-none, nobody, Row, row-free, row-on}
 
 differ : _≡_ {A = ℕ} 0 1 → ⊥
@@ -133,8 +133,8 @@ module _ (st : Settings) (h : Hall) (ns : Names) (zs : List Seat) (k : ℕ) (row
             rw (is, o .notDesk) (ap isAt (first-none (hasSsrc h (x .who .ssrc)) 16 0 (λ i b. no-ssrc i b)));
       }
 
-refused-45 : refused 45 .number ≡ 0 → ⊥
-unfolding refused
+refused-45 : notLoaded 45 .number ≡ 0 → ⊥
+unfolding notLoaded
 refused-45 e = omega arith
 
 by-seat {ℓ} : (P : Load → Type ℓ) (f : Found) (m : Load) → ifSeated f m .number ≡ 0 → ((s : ℕ) → f ≡ At s → m .number ≡ 0 → P m) →

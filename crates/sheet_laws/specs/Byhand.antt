@@ -15,7 +15,7 @@ use Rattle.seat_octets.specs.Layout.{flagsOctet, flagsOf, settingsOctets, setti
 use Rattle.sheet.specs.Layout.{Seat, seatOctets, seatsOctets, trailer, seatsOf, sheet, sheetOf}
 use Rattle.sheet.specs.Framing.{framing}
 use Rattle.saving.specs.Saving.{saving, roomAfter}
-use Rattle.loading.specs.Loading.{refused, whoIs, readSeat, laidOut, readSeats, joinAll, loading}
+use Rattle.loading.specs.Loading.{notLoaded, whoIs, readSeat, laidOut, readSeats, joinAll, loading}
 
 -- two seats, a and bc, the settings, the trailer: 37 octets
 abbrev pub byHand : List ℕ
@@ -39,7 +39,7 @@ two =
 -- all that loading and saving stand on, opened, so that a sheet computes
 opened : Type 0
 unfolding
-    loading framing refused settingsIn readSeats readSeat whoIs flagsOf laidOut joinAll join seated ssrcTaken seatNamed same lengthAllowed
+    loading framing notLoaded settingsIn readSeats readSeat whoIs flagsOf laidOut joinAll join seated ssrcTaken seatNamed same lengthAllowed
     seatOf freeSeat withSeat withName nameOf octetsOf noNames emptyHall inRange seatsOf sheetOf sheet seatsOctets seatOctets settingsOctets
     trailer flagsOctet saving roomAfter over be16 be32 octets16 octets32 part if_then_else_
 opened = ℕ

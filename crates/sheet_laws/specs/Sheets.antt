@@ -42,12 +42,12 @@ SavedFromAny = (start : Desk) → Fresh start → (xs : List Doing) (room : List
     IsDesk (loading (writtenBy (d .hall) (d .names) room)) (seatsOf (d .hall) (d .names)) (d .hall .settings)
 
 -- "an accepted sheet is written back octet for octet" (proofs/Again); each is an octet, so below 256
-pub record WrittenAgain (s room : List ℕ) (l : Load) : Type 0 where
+pub record SheetWrittenAgain (s room : List ℕ) (l : Load) : Type 0 where
   pub done : length s ≤ length room → saving (l .hall) (l .names) room .number ≡ 0
   pub octets : saving (l .hall) (l .names) room .number ≡ 0 → writtenBy (l .hall) (l .names) room ≡ s
 
 abbrev pub WrittenBack : Type 0
-WrittenBack = (s room : List ℕ) → Octets s → loading s .number ≡ 0 → WrittenAgain s room (loading s)
+WrittenBack = (s room : List ℕ) → Octets s → loading s .number ≡ 0 → SheetWrittenAgain s room (loading s)
 
 -- Nothing is lost (proofs/Lossless): where two sheets are the same, so are the seats in order and the settings, of any desks whatever.
 pub record SameSheet (xs ys : List Seat) (st tt : Settings) : Type 0 where

@@ -18,7 +18,7 @@ use Rattle.walk.specs.declared.Walk.{Walk}
 use Rattle.walk.specs.declared.Walk.the-variants.{Whole, PastTheEnd as Past, AgainstTheTable as Against}
 use Rattle.field.specs.Fields.{lengthAt, stepAt, Fields, whole, fault, infront, stepThen, fieldsFrom, fieldsIn}
 use Rattle.walk.specs.Starts.{startOf}
-use Rattle.walk.specs.Walk.{noted, isField, notedStep, endedBy, Notes, faultNumber, Walked, Leaves}
+use Rattle.walk.specs.Walk.{noted, isField, notedStep, endedBy, Notes, faultNumber, Walked, WholeAnswer}
 use Rattle.reader.specs.Reader.{behind}
 use Rattle.message.proofs.Paddings.{padded-least}
 use Rattle.field.proofs.Steps.{step-end, Sound, step-sound}
@@ -197,32 +197,32 @@ module _ (s starts : List ℕ) (at : ℕ) where
 
 -- what is left once a fault's starts are forgotten, and back
 module _ (fields : Fields) (w : Walk) (starts : List ℕ) where
-  pub leaves-whole : w ≡ Whole → Walked fields w starts → Leaves fields Whole starts
+  pub leaves-whole : w ≡ Whole → Walked fields w starts → WholeAnswer fields Whole starts
   leaves-whole e v = go fields v
     where
-      go : (fs : Fields) → Walked fs w starts → Leaves fs Whole starts
+      go : (fs : Fields) → Walked fs w starts → WholeAnswer fs Whole starts
       go (whole fs) v = (refl, v .1)
       go (fault n) v = absurd (v .1 e)
 
   pub leaves-fault : (r : Walk) → w ≡ r → (r ≡ Whole → ⊥) → Walked fields w starts → (after : List ℕ) → after ≡ replicate 16 0
-      → Leaves fields r after
+      → WholeAnswer fields r after
   leaves-fault r e not-whole v after none = go fields v
     where
-      go : (fs : Fields) → Walked fs w starts → Leaves fs r after
+      go : (fs : Fields) → Walked fs w starts → WholeAnswer fs r after
       go (whole fs) v = absurd (not-whole (sym e ∙ v .0))
       go (fault n) v = (sym (ap faultNumber e) ∙ v .0, not-whole, none)
 
-  pub walked-of : Leaves fields w starts → Walked fields w starts
+  pub walked-of : WholeAnswer fields w starts → Walked fields w starts
   walked-of v = go fields v
     where
-      go : (fs : Fields) → Leaves fs w starts → Walked fs w starts
+      go : (fs : Fields) → WholeAnswer fs w starts → Walked fs w starts
       go (whole fs) v = v
       go (fault n) v = (v .0, v .1)
 
-  pub none-left : (w ≡ Whole → ⊥) → Leaves fields w starts → starts ≡ replicate 16 0
+  pub none-left : (w ≡ Whole → ⊥) → WholeAnswer fields w starts → starts ≡ replicate 16 0
   none-left not-whole v = go fields v
     where
-      go : (fs : Fields) → Leaves fs w starts → starts ≡ replicate 16 0
+      go : (fs : Fields) → WholeAnswer fs w starts → starts ≡ replicate 16 0
       go (whole fs) v = absurd (not-whole (v .0))
       go (fault n) v = v .2
 

@@ -57,9 +57,9 @@ Walked (whole fs) w starts = (w ≡ Whole) × Notes starts fs
 Walked (fault n) w starts = (faultNumber w ≡ n) × (w ≡ Whole → ⊥)
 
 -- the same once a fault has left no start: the whole answer
-abbrev pub Leaves : Fields → Walk → List ℕ → Type 0
-Leaves (whole fs) w starts = (w ≡ Whole) × Notes starts fs
-Leaves (fault n) w starts = (faultNumber w ≡ n) × (w ≡ Whole → ⊥) × (starts ≡ replicate 16 0)
+abbrev pub WholeAnswer : Fields → Walk → List ℕ → Type 0
+WholeAnswer (whole fs) w starts = (w ≡ Whole) × Notes starts fs
+WholeAnswer (fault n) w starts = (faultNumber w ≡ n) × (w ≡ Whole → ⊥) × (starts ≡ replicate 16 0)
 
 -- the starts lie in the packet, with as much behind them as is read there
 pub record Reach (s : List ℕ) (start : ℕ → ℕ) : Type 0 where

@@ -4,7 +4,7 @@ use field::FieldStep;
 ghost use mathlib.Core.Path.{_≡_};
 ghost use lib.ListN.{replicate};
 ghost use Rattle.field.specs.Fields.{fieldsIn};
-ghost use Rattle.walk.specs.Walk.{noted, isField, notedStep, endedBy, Walked, Leaves};
+ghost use Rattle.walk.specs.Walk.{noted, isField, notedStep, endedBy, Walked, WholeAnswer};
 
 // How a walk over all fields ended.
 pub enum Walk {
@@ -78,7 +78,7 @@ pub fn forget(starts: &mut [usize; 16])
 // Where the contents of a packet's fields start; none, where a field is at fault.
 pub fn all_starts(s: &[u8], starts: &mut [usize; 16]) -> Walk
     requires { ⌜ now starts ≡ replicate 16 0 ⌝ }
-    ensures { λ r. ⌜ Leaves (fieldsIn (now (s .entry))) r (now (starts .exit)) ⌝ }
+    ensures { λ r. ⌜ WholeAnswer (fieldsIn (now (s .entry))) r (now (starts .exit)) ⌝ }
 {
     match note_all(s, starts) {
         Walk::Whole => Walk::Whole,

@@ -50,9 +50,9 @@ use Rattle.timers.specs.declared.Timer.{Timer}
 use Rattle.timers.specs.declared.Timer.the-variants as timer
 use Rattle.timers.specs.Timers.{isStopped, runs, running}
 use Rattle.firing.specs.Firing.{halted, stops, endsIn, revokesIn, idleAgain, revokesAgain, grantsOrEnds, grantsAgain, fires, expires}
-use Rattle.events.specs.Events.{starts, sitting, callerOf, heard, struckOff, releases, asksPlace, talks, step, outcome, leaves, leave}
+use Rattle.events.specs.Events.{starts, sitting, callerOf, heard, struckOff, releases, asksPlace, talks, step, outcome, leaveFloor, leave}
 use Rattle.events.specs.declared.Desk.{Desk}
-use Rattle.history.specs.Doing.{Doing, event, packet, leaves as leaves-now, joins, joined, does}
+use Rattle.history.specs.Doing.{Doing, event, packet, leaves, joins, joined, does}
 use Rattle.history.specs.Asking.{anEvent, readAs, becomes, nobody, asks, fromSeat, askedBy, askedIn, asking, givesUp, stopsIn, stopsCall}
 use Rattle.ways.specs.Ways as way
 use Rattle.ways.proofs.Apart.{no-leave, not-leave, gives-up, asks-nobody, this-one, not-asked}
@@ -107,7 +107,7 @@ module _ (c : Core) (h : Hall) (t : ℕ) where
   six press = presses-on press (c .phase) refl
 
 -- the floor ends, in the hall that those who stay make up
-module _ (d : Desk) (x : Doing) (g : Hall) (ns : Names) (t : ℕ) (a : asking (d .hall) x ≡ nobody) (f : (u : ℕ) → x ≡ leaves-now u → u ≡ t)
+module _ (d : Desk) (x : Doing) (g : Hall) (ns : Names) (t : ℕ) (a : asking (d .hall) x ≡ nobody) (f : (u : ℕ) → x ≡ leaves u → u ≡ t)
     (k : holds (d .core .phase) t ≡ true) where
   passes-on : (es : List Entry) → waiting (d .core .line) ≡ es → way.Way d x (outcome (passesOn (d .core) g es marksEnded t) g ns)
   unfolding passesOn entersIdle givenOutOfLine given
@@ -335,18 +335,18 @@ packets d o (read.refused n) q =
 packets d o (read.result m) q = events d (packet o) (eventOf m) (ap readAs q)
 
 -- Leave
-same-leaver : {u t : ℕ} → leaves-now t ≡ leaves-now u → u ≡ t
+same-leaver : {u t : ℕ} → leaves t ≡ leaves u → u ≡ t
 same-leaver q = cc
 
 leaves-on : (d : Desk) (t : ℕ) →
-    way.Way d (leaves-now t) (outcome (leaves (d .core) (d .hall) t) (vacated (d .hall) t) (withName (d .names) t noName))
-unfolding leaves struckOff
+    way.Way d (leaves t) (outcome (leaveFloor (d .core) (d .hall) t) (vacated (d .hall) t) (withName (d .names) t noName))
+unfolding leaveFloor struckOff
 leaves-on d t =
     let g = vacated (d .hall) t in
     let ns = withName (d .names) t noName in
-    by-if (λ (r : Step). way.Way d (leaves-now t) (outcome r g ns)) (holds (d .core .phase) t)
-    (λ k. ends d (leaves-now t) g ns t refl (λ u q. same-leaver q) k)
-    (λ n. by-if (λ (r : Step). way.Way d (leaves-now t) (outcome r g ns)) (waits (d .core) t)
+    by-if (λ (r : Step). way.Way d (leaves t) (outcome r g ns)) (holds (d .core .phase) t)
+    (λ k. ends d (leaves t) g ns t refl (λ u q. same-leaver q) k)
+    (λ n. by-if (λ (r : Step). way.Way d (leaves t) (outcome r g ns)) (waits (d .core) t)
     (λ w. way.strikes t refl (eq-eqb t t refl) n w refl (refl, refl))
     (λ w. way.rests refl (λ u q. rw (same-leaver q) (n, w)) refl (refl, refl)))
 
@@ -360,7 +360,7 @@ pub every-way : way.EveryWay
 unfolding does hears leave
 every-way d (event e) = events d (event e) e refl
 every-way d (packet o) = packets d o (reading o) refl
-every-way d (leaves-now t) =
-    by-if (way.Way d (leaves-now t)) (isPresent (d .hall) t) (λ _. leaves-on d t)
+every-way d (leaves t) =
+    by-if (way.Way d (leaves t)) (isPresent (d .hall) t) (λ _. leaves-on d t)
     (λ n. way.refuses NoSuchSeat not-22 (λ u p z. asks-nobody z) (λ u z. rw (same-leaver z) n) refl (refl, refl))
 every-way d (joins o n) = joins-on d o n (join (d .hall) (d .names) o n) (every-join (d .hall) (d .names) o n)

@@ -6,7 +6,7 @@ use mathlib.Core.Path.{_≡_}
 use mathlib.Core.Bool.{Bool, true, false}
 use mathlib.Core.List.{List, [], _∷_}
 use Rattle.line.specs.declared.Entry.{Entry}
-use Rattle.line.specs.Line.{waiting, lineOf, enter, without, seatsOf, nobody as no-one, entryOf}
+use Rattle.line.specs.Line.{waiting, lineOf, enter, without, seatSet, noSeats, entryOf}
 use Rattle.hall.specs.declared.Hall.{Hall}
 use Rattle.hall.specs.declared.Answer.{Answer}
 use Rattle.hall.specs.declared.Answer.the-variants.{Done}
@@ -42,8 +42,8 @@ marks p s e g = record { placed = p; struck = s; ended = e; given = g }
 abbrev pub Reports : Outcome → Sending → Sending → Marks → Type 0
 Reports l first second m = (l .answer ≡ Done) × (l .report ≡ record { first = first; second = second; marks = m })
 
-abbrev pub Refuses : Outcome → Answer → Type 0
-Refuses l a = (l .answer ≡ a) × (l .report ≡ emptyReport)
+abbrev pub RefusedWith : Outcome → Answer → Type 0
+RefusedWith l a = (l .answer ≡ a) × (l .report ≡ emptyReport)
 
 -- a seat that is heard: one of the sixteen, and present
 pub record Sits (h : Hall) (t : ℕ) : Type 0 where
@@ -78,7 +78,7 @@ pub data Six (c : Core) (h : Hall) (t : ℕ) (new : Core) (first second : Sendin
 pub data Way (d : Desk) (x : Doing) (l : Outcome) : Type 0 where
   -- a refusal: its number, and the desk as it was
   refuses : (a : Answer) → (a ≡ Done → ⊥) → ((t p : ℕ) → asking (d .hall) x ≡ asks t p → Unmoved (d .core) (d .hall) t p) →
-      ((u : ℕ) → x ≡ leaves u → isPresent (d .hall) u ≡ false) → l .desk ≡ d → Refuses l a → Way d x l
+      ((u : ℕ) → x ≡ leaves u → isPresent (d .hall) u ≡ false) → l .desk ≡ d → RefusedWith l a → Way d x l
   -- Request 1: the holder is granted what it has
   grantsHolder : (t p : ℕ) (e : Entry) (b : AlsoRuns) → asking (d .hall) x ≡ asks t p → d .core .phase ≡ Taken e b →
       holds (d .core .phase) t ≡ true →
@@ -90,7 +90,7 @@ pub data Way (d : Desk) (x : Doing) (l : Outcome) : Type 0 where
   gives : (t p : ℕ) → asking (d .hall) x ≡ asks t p → Sits (d .hall) t → isIdle (d .core .phase) ≡ true →
       l .desk .core ≡ numbered (d .core inPhase Taken (entryOf t p) NoMore) →
       Reports l (say.Granted p ⇒ only t) (say.Taken t (next (d .core .sequence)) ⇒ others (l .desk .hall) t)
-      (marks NoSeat no-one NoSeat (AtOnce t)) → Way d x l
+      (marks NoSeat noSeats NoSeat (AtOnce t)) → Way d x l
   -- 4: asked again at the same priority
   asksAgain : (t p : ℕ) (first second : Sending) → asking (d .hall) x ≡ asks t p → Sits (d .hall) t → priorityIn (d .core .line) t ≡ p →
       Six (d .core) (d .hall) t (l .desk .core) first second → Reports l first second noMarks → Way d x l
@@ -103,7 +103,7 @@ pub data Way (d : Desk) (x : Doing) (l : Outcome) : Type 0 where
   places : (t p : ℕ) (first second : Sending) → asking (d .hall) x ≡ asks t p → Sits (d .hall) t → isBusy (d .core .phase) ≡ true →
       holds (d .core .phase) t ≡ false → receivesOnly (d .hall) t ≡ false → waits (d .core) t ≡ false → full (d .core) (d .hall) ≡ false →
       Six (d .core withLine lineOf (enter (entryOf t p) (waiting (d .core .line)))) (d .hall) t (l .desk .core) first second →
-      Reports l first second (marks (Seat t) no-one NoSeat NotGiven) → Way d x l
+      Reports l first second (marks (Seat t) noSeats NoSeat NotGiven) → Way d x l
   -- the floor ends, and the head of the line is given it
   passes : (t : ℕ) (e : Entry) (es : List Entry) → asking (d .hall) x ≡ nobody → ((u : ℕ) → x ≡ leaves u → u ≡ t) →
       holds (d .core .phase) t ≡ true →
@@ -111,12 +111,12 @@ pub data Way (d : Desk) (x : Doing) (l : Outcome) : Type 0 where
       l .desk .core ≡ numbered (d .core withLine lineOf (without (only (e .seat)) (e ∷ es)) countingC20 1 inPhase Taken e T20) →
       Reports l (say.Granted (e .priority) ⇒ only (e .seat))
       (say.Taken (e .seat) (next (d .core .sequence)) ⇒ others (l .desk .hall) (e .seat))
-      (marks NoSeat no-one (Seat t) (OutOfLine (e .seat))) → Way d x l
+      (marks NoSeat noSeats (Seat t) (OutOfLine (e .seat))) → Way d x l
   -- the floor ends with no line
   frees : (t : ℕ) → asking (d .hall) x ≡ nobody → ((u : ℕ) → x ≡ leaves u → u ≡ t) → holds (d .core .phase) t ≡ true →
       waiting (d .core .line) ≡ [] →
       l .desk .core ≡ numbered (d .core inPhase Idle true countingC7 1) →
-      Reports l (say.Idle (next (d .core .sequence)) ⇒ everybody (l .desk .hall)) silence (marks NoSeat no-one (Seat t) NotGiven) →
+      Reports l (say.Idle (next (d .core .sequence)) ⇒ everybody (l .desk .hall)) silence (marks NoSeat noSeats (Seat t) NotGiven) →
       Way d x l
   -- Release, Leave: a waiting seat is struck off
   strikes : (t : ℕ) → asking (d .hall) x ≡ nobody → givesUp (d .hall) x t ≡ true → holds (d .core .phase) t ≡ false →
@@ -138,9 +138,9 @@ pub data Way (d : Desk) (x : Doing) (l : Outcome) : Type 0 where
       Reports l (say.Idle (next (d .core .sequence)) ⇒ everybody (l .desk .hall)) silence noMarks → Way d x l
   -- Stop, T4: in Taken and Revoking the holder's floor ends, in Idle nobody's
   halts : (t : ℕ) → stopsCall x ≡ true → holds (d .core .phase) t ≡ true → l .desk .core ≡ d .core inPhase Stopped withLine lineOf [] →
-      Reports l silence silence (marks NoSeat (seatsOf (waiting (d .core .line))) (Seat t) NotGiven) → Way d x l
+      Reports l silence silence (marks NoSeat (seatSet (waiting (d .core .line))) (Seat t) NotGiven) → Way d x l
   closes : stopsCall x ≡ true → isIdle (d .core .phase) ≡ true → l .desk .core ≡ d .core inPhase Stopped withLine lineOf [] →
-      Reports l silence silence (marks NoSeat (seatsOf (waiting (d .core .line))) NoSeat NotGiven) → Way d x l
+      Reports l silence silence (marks NoSeat (seatSet (waiting (d .core .line))) NoSeat NotGiven) → Way d x l
   -- T2
   revokes : (e : Entry) (b : AlsoRuns) → becomes x ≡ anEvent (Expiry timer.T2) → d .core .phase ≡ Taken e b →
       l .desk .core ≡ d .core inPhase Revoking e mediaBurstTooLong →

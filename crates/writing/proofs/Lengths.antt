@@ -17,7 +17,7 @@ use Rattle.message.specs.declared.Message.{Message}
 use Rattle.header.specs.Header.{headerSize, longestPacket, firstOctet, headed}
 use Rattle.header.proofs.Headers.{headed-length}
 use Rattle.readable.specs.Readable.{readable}
-use Rattle.readable.specs.Fitting.{Short, Held}
+use Rattle.readable.specs.Fitting.{Short, FieldsFit}
 use Rattle.readable.proofs.Fits.{held-by}
 use Rattle.field_writing.specs.Wire.{body}
 use Rattle.field_writing.proofs.Bodies.{body-append}
@@ -51,7 +51,7 @@ six : {a b c d e f : List ℕ} {u v w x y z : ℕ} → Sized a u → Sized b v �
     → length (a ++ (b ++ (c ++ (d ++ (e ++ (f ++ [])))))) ≡ u + v + w + x + y + z
 six p q r s t o = simp (length-append, p .is, q .is, r .is, s .is, t .is, o .is) (omega arith)
 
-module _ (m : Message) (src : List ℕ) (h : Held m src) where
+module _ (m : Message) (src : List ℕ) (h : FieldsFit m src) where
   pub front-length : length (body (frontFields m src)) ≡ frontSize m
   unfolding body rowIn if_then_else_
   front-length =
@@ -81,7 +81,7 @@ pub header-length : (s : Said) → length (header s) ≡ headerSize
 unfolding header
 header-length s = headed-length (firstOctet (s .kind) (s .ack)) (s .ssrc) (headerSize + length (body (s .fields)))
 
-pub wire-length : (m : Message) (src : List ℕ) → Held m src → length (wire (said m src)) ≡ headerSize + (frontSize m + restSize m)
+pub wire-length : (m : Message) (src : List ℕ) → FieldsFit m src → length (wire (said m src)) ≡ headerSize + (frontSize m + restSize m)
 unfolding wire said
 wire-length m src h = rw (length-append, header-length, body-length m src h)
 

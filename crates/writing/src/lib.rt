@@ -6,7 +6,7 @@ ghost use Prim.Native.Nat.{_+_, _≤_};
 ghost use lib.ListN.{length};
 ghost use Rattle.octets.specs.Octets.{Laid};
 ghost use Rattle.header.specs.Header.{headerSize};
-ghost use Rattle.readable.specs.Fitting.{Short, Held};
+ghost use Rattle.readable.specs.Fitting.{Short, FieldsFit};
 ghost use Rattle.field_writing.specs.Wire.{body};
 ghost use Rattle.writing.specs.Writing.{Writes};
 ghost use Rattle.writing.specs.Puts.{frontFields, restFields, frontSize, restSize};
@@ -64,7 +64,7 @@ fn size_of(m: Message) -> usize
 
 // Lays the fields 0 to 5, in ascending order.
 fn put_front(room: &mut [u8], at: usize, src: &[u8], m: Message) -> usize
-    requires { ⌜ Held m (now src) ⌝ }
+    requires { ⌜ FieldsFit m (now src) ⌝ }
     requires { ⌜ at + length (body (frontFields m (now src))) ≤ length (now room) ⌝ }
     ensures { λ r. ⌜ Laid (now (room .entry)) at (body (frontFields m (now (src .entry)))) (now (room .exit)) r ⌝ }
 {
@@ -84,7 +84,7 @@ fn put_front(room: &mut [u8], at: usize, src: &[u8], m: Message) -> usize
 
 // Lays the fields 6 to 14, in ascending order.
 fn put_rest(room: &mut [u8], at: usize, src: &[u8], m: Message) -> usize
-    requires { ⌜ Held m (now src) ⌝ }
+    requires { ⌜ FieldsFit m (now src) ⌝ }
     requires { ⌜ at + length (body (restFields m (now src))) ≤ length (now room) ⌝ }
     ensures { λ r. ⌜ Laid (now (room .entry)) at (body (restFields m (now (src .entry)))) (now (room .exit)) r ⌝ }
 {

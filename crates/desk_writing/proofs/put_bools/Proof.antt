@@ -1,5 +1,5 @@
 -- `desk_writing::put_bools` keeps its promise, `now (room .exit) ≡ over (now (room .entry)) at (boolOctets bools)`. Assumes nothing.
-use Rattle.words.specs.Choice.{one as flag}
+use Rattle.words.specs.Choice.{one}
 use Rattle.desk_octets.proofs.Turns.{column-turn}
 use Rattle.desk_octets.specs.Form.{boolOctets}
 use mathlib.Core.Bool.{false}
@@ -16,7 +16,7 @@ use Rattle.desk_writing.proofs.put_bools.Tie as tie
 
 abbrev Inv-loop : tie.InvT-loop
 Inv-loop room₀ at bools i₀ room i =
-    (i ≤ 16) × (length room ≡ length room₀) × (room ≡ over room₀ (at) (column (λ k. flag (getD bools k false)) 0 i))
+    (i ≤ 16) × (length room ≡ length room₀) × (room ≡ over room₀ (at) (column (λ k. one (getD bools k false)) 0 i))
 
 abbrev μ-loop : tie.MeasureT-loop
 μ-loop room₀ at bools i₀ room i = 16 - i
@@ -51,7 +51,7 @@ loop-again c =
     let h : a .at + l .i < length (a .room .now) = omega (arith, c .before .before .before .before .pre) in (
       p,
       simp length-set (l .inv .1),
-      column-turn (λ k. flag (getD (a .t3) k false)) (a .room .now) (l .room) (a .at) (l .i) _ h (l .inv .2) (c .flag-octet .ensures),
+      column-turn (λ k. one (getD (a .t3) k false)) (a .room .now) (l .room) (a .at) (l .i) _ h (l .inv .2) (c .flag-octet .ensures),
     )
 
 same-length : tie.Need-same-length Inv-loop μ-loop
@@ -63,7 +63,7 @@ returns c =
     let a = c .before .before .before .args in
     let l = c .before .loop in
     let e : l .i ≡ 16 = omega arith in
-    l .inv .2 ∙ ap (λ (n : ℕ). over (a .room .now) (a .at) (column (λ k. flag (getD (a .t3) k false)) 0 n)) e
+    l .inv .2 ∙ ap (λ (n : ℕ). over (a .room .now) (a .at) (column (λ k. one (getD (a .t3) k false)) 0 n)) e
 
 pub put-bools-spec : {M : Type 1} → statement M
 put-bools-spec =

@@ -1,9 +1,9 @@
--- `desk_writing::put_desk` keeps its promise, `now (room .exit) ≡ over (now (room .entry)) 0 (octetsOf core hall names)`. Writes a whole
+-- `desk_writing::put_desk` keeps its promise, `now (room .exit) ≡ over (now (room .entry)) 0 (deskOctets core hall names)`. Writes a whole
 -- desk into the first 1,200 octets of a room. Assumes nothing.
 use Rattle.desk_octets.specs.Places.{phasePlace, takenColumn, lengthsColumn}
 use Rattle.octets.proofs.Over.{run}
 use Rattle.desk_octets.proofs.Lengths.{length-core, length-head}
-use Rattle.desk_octets.specs.Form.{deskLetters, coreOctets, hallOctets, namesOctets, octetsOf}
+use Rattle.desk_octets.specs.Form.{deskLetters, coreOctets, hallOctets, namesOctets, deskOctets}
 use Prim.Native.Nat.{zero-le}
 use mathlib.Core.List.{_++_}
 use mathlib.Core.Path.{refl}
@@ -27,7 +27,7 @@ same-length : tie.Need-same-length
 same-length c = search needs
 
 returns : tie.Need-returns
-unfolding octetsOf
+unfolding deskOctets
 returns c =
     let a =
     c .before .before .before .before .before .before .before .before .before .before .before .before .before .before .before .before

@@ -8,7 +8,7 @@ use Rattle.octets.specs.Octets.{over, octets16, octets32}
 use Rattle.seat_octets.specs.Layout.{settingsOctets}
 use Rattle.desk_octets.specs.Places.{takenColumn, ssrcsColumn, highestColumn, flagsColumn, flagsZeros, settingsStart, settingsEnd}
 use Rattle.desk_octets.specs.Columns.{column, rows}
-use Rattle.desk_octets.specs.Form.{boolOctets, wordOctets, seatOctets, seatFlagsOctets}
+use Rattle.desk_octets.specs.Form.{boolOctets, wordColumn, octetColumn, seatFlagsOctets}
 use Rattle.desk_octets.proofs.Turns.{next-piece}
 use Rattle.desk_octets.proofs.Pieces.{hall-whole}
 use Rattle.desk_writing.proofs.put_hall.Statement.{statement}
@@ -39,7 +39,7 @@ same-length : tie.Need-same-length
 same-length c = search needs
 
 returns : tie.Need-returns
-unfolding boolOctets wordOctets seatOctets seatFlagsOctets settingsOctets column rows octets16 octets32
+unfolding boolOctets wordColumn octetColumn seatFlagsOctets settingsOctets column rows octets16 octets32
 returns c =
     let a =
     c .before .before .before .before .before .before .before .before .before .before .before .before .before .before .before .before

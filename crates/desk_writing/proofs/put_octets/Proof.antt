@@ -1,6 +1,6 @@
--- `desk_writing::put_octets` keeps its promise, `now (room .exit) ≡ over (now (room .entry)) at (seatOctets octets)`. Assumes nothing.
+-- `desk_writing::put_octets` keeps its promise, `now (room .exit) ≡ over (now (room .entry)) at (octetColumn octets)`. Assumes nothing.
 use Rattle.desk_octets.proofs.Turns.{column-turn}
-use Rattle.desk_octets.specs.Form.{seatOctets}
+use Rattle.desk_octets.specs.Form.{octetColumn}
 use Rattle.octets.proofs.Over.{over-none}
 use Rattle.octets.specs.Octets.{over}
 use Rattle.desk_octets.specs.Columns.{column}
@@ -49,7 +49,7 @@ same-length : tie.Need-same-length Inv-loop μ-loop
 same-length c = search needs
 
 returns : tie.Need-returns Inv-loop μ-loop
-unfolding seatOctets
+unfolding octetColumn
 returns c =
     let a = c .before .before .args in
     let l = c .before .loop in

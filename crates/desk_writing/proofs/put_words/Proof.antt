@@ -1,6 +1,6 @@
--- `desk_writing::put_words` keeps its promise, `now (room .exit) ≡ over (now (room .entry)) at (wordOctets words)`. Assumes nothing.
+-- `desk_writing::put_words` keeps its promise, `now (room .exit) ≡ over (now (room .entry)) at (wordColumn words)`. Assumes nothing.
 use Rattle.desk_octets.proofs.Turns.{rows-turn}
-use Rattle.desk_octets.specs.Form.{wordOctets}
+use Rattle.desk_octets.specs.Form.{wordColumn}
 use Rattle.octets.proofs.Over.{over-none}
 use Rattle.octets.specs.Octets.{over, octets16, octets32}
 use Rattle.desk_octets.specs.Columns.{rows}
@@ -60,7 +60,7 @@ same-length : tie.Need-same-length Inv-loop μ-loop
 same-length c = search needs
 
 returns : tie.Need-returns Inv-loop μ-loop
-unfolding wordOctets
+unfolding wordColumn
 returns c =
     let a = c .before .before .before .args in
     let l = c .before .loop in

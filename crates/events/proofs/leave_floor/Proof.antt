@@ -2,7 +2,7 @@
 use mathlib.Core.Path.{sym}
 use borrow.Author.Needs.{needs}
 use Rattle.words.specs.Choice.{if_then_else_}
-use Rattle.events.specs.Events.{leaves}
+use Rattle.events.specs.Events.{leaveFloor}
 use Rattle.events.proofs.leave_floor.Statement.{statement}
 use Rattle.events.proofs.leave_floor.Tie as tie
 
@@ -16,7 +16,7 @@ end-floor-requires : tie.Need-end-floor-requires
 end-floor-requires c κs = search needs
 
 returns : tie.Need-returns
-unfolding leaves if_then_else_
+unfolding leaveFloor if_then_else_
 returns c =
     rw (sym (c .before .before .before .is-holder .ensures), c .before .before .if1 .taken, sym (c .before .vacate .ensures))
     (c .end-floor .ensures)
@@ -31,7 +31,7 @@ answer-requires : tie.Need-answer-requires
 answer-requires c κs = search needs
 
 returns-2 : tie.Need-returns-2
-unfolding leaves if_then_else_
+unfolding leaveFloor if_then_else_
 returns-2 c =
     rw (
       sym (c .before .before .before .before .is-holder .ensures),
@@ -41,7 +41,7 @@ returns-2 c =
     ) (c .strike-off .ensures)
 
 returns-3 : tie.Need-returns-3
-unfolding leaves if_then_else_
+unfolding leaveFloor if_then_else_
 returns-3 c =
     rw (
       sym (c .before .before .before .before .is-holder .ensures),

@@ -6,7 +6,7 @@ use mathlib.Core.Path.{_≡_, refl, ap, sym, _∙_}
 use native.Mathlib.Omega.{arith}
 use lib.ListN.{length-set, set, length, drop, getD}
 use borrow.Author.Needs.{needs}
-use Rattle.line.specs.Line.{empty, waiting, seatsOf, added}
+use Rattle.line.specs.Line.{empty, waiting, seatSet, added}
 use Rattle.line.specs.declared.Entry.{Entry}
 use Rattle.line.proofs.Laws.{added-on, added-ends}
 use Rattle.line.proofs.seats_of.Statement.{statement}
@@ -14,7 +14,7 @@ use Rattle.line.proofs.seats_of.Tie as tie
 
 abbrev Inv-loop : tie.InvT-loop
 Inv-loop line n seats₀ i₀ seats i =
-    (n ≡ length (waiting line)) × (i ≤ n) × (seatsOf (waiting line) ≡ added seats (drop i (waiting line))) × (length seats ≡ 16)
+    (n ≡ length (waiting line)) × (i ≤ n) × (seatSet (waiting line) ≡ added seats (drop i (waiting line))) × (length seats ≡ 16)
 
 abbrev μ-loop : tie.MeasureT-loop
 μ-loop line n seats₀ i₀ seats i = n - i
@@ -23,7 +23,7 @@ count-requires : tie.Need-count-requires Inv-loop μ-loop
 count-requires c κs = search needs
 
 loop-holds : tie.Need-loop-holds Inv-loop μ-loop
-unfolding seatsOf
+unfolding seatSet
 loop-holds c = (c .count .ensures .0, omega arith, refl, refl)
 
 entry-at-requires : tie.Need-entry-at-requires Inv-loop μ-loop

@@ -2,7 +2,7 @@
 use mathlib.Core.Path.{ap, _∙_}
 use borrow.Author.Needs.{needs}
 use Rattle.hall.specs.Seats.{emptyHall}
-use Rattle.loading.specs.Loading.{refused}
+use Rattle.loading.specs.Loading.{notLoaded}
 use Rattle.loading.proofs.refuse.Statement.{statement}
 use Rattle.loading.proofs.refuse.Tie as tie
 
@@ -19,7 +19,7 @@ no-names-requires : tie.Need-no-names-requires
 no-names-requires c κs = search needs
 
 returns : tie.Need-returns
-unfolding refused
+unfolding notLoaded
 returns c =
     rw (
       c .before .before .fresh-core .ensures,

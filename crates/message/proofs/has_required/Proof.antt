@@ -2,7 +2,7 @@
 use mathlib.Core.Bool.{and-true}
 use Rattle.words.specs.Choice.{if_then_else_}
 use Rattle.message.specs.Message.{hasAll}
-use Rattle.message.specs.Asked.{given}
+use Rattle.message.specs.Asked.{hasId}
 use borrow.Author.Needs.{needs}
 use Rattle.message.proofs.has_required.Statement.{statement}
 use Rattle.message.proofs.has_required.Tie as tie
@@ -38,43 +38,43 @@ enum-told-10 : tie.Need-enum-told-10
 enum-told-10 c = search needs
 
 returns : tie.Need-returns
-unfolding hasAll given if_then_else_
+unfolding hasAll hasId if_then_else_
 returns c = rw (c .enum-told .given .1)
 
 returns-2 : tie.Need-returns-2
-unfolding hasAll given if_then_else_
+unfolding hasAll hasId if_then_else_
 returns-2 c = rw (c .enum-told2 .given .1, and-true)
 
 returns-3 : tie.Need-returns-3
-unfolding hasAll given if_then_else_
+unfolding hasAll hasId if_then_else_
 returns-3 c = rw (c .enum-told3 .given .1, and-true)
 
 returns-4 : tie.Need-returns-4
-unfolding hasAll given if_then_else_
+unfolding hasAll hasId if_then_else_
 returns-4 c = rw (c .enum-told4 .given .1, and-true)
 
 returns-5 : tie.Need-returns-5
-unfolding hasAll given if_then_else_
+unfolding hasAll hasId if_then_else_
 returns-5 c = rw (c .enum-told5 .given .1)
 
 returns-6 : tie.Need-returns-6
-unfolding hasAll given if_then_else_
+unfolding hasAll hasId if_then_else_
 returns-6 c = rw (c .enum-told6 .given .1, and-true)
 
 returns-7 : tie.Need-returns-7
-unfolding hasAll given if_then_else_
+unfolding hasAll hasId if_then_else_
 returns-7 c = rw (c .enum-told7 .given .1, and-true)
 
 returns-8 : tie.Need-returns-8
-unfolding hasAll given if_then_else_
+unfolding hasAll hasId if_then_else_
 returns-8 c = rw (c .enum-told8 .given .1)
 
 returns-9 : tie.Need-returns-9
-unfolding hasAll given if_then_else_
+unfolding hasAll hasId if_then_else_
 returns-9 c = rw (c .enum-told9 .given .1, and-true)
 
 returns-10 : tie.Need-returns-10
-unfolding hasAll given if_then_else_
+unfolding hasAll hasId if_then_else_
 returns-10 c = rw (c .before .enum-told10 .given .1, and-true)
 
 pub has-required-spec : {M : Type 1} → statement M

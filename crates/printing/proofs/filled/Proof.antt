@@ -5,21 +5,21 @@ use native.Mathlib.Omega.{arith}
 use lib.ListN.{length}
 use borrow.Author.Count.{below-none, below-more}
 use borrow.Author.Needs.{needs}
-use Rattle.printing.specs.Printed.{start, numberMark}
+use Rattle.printing.specs.Printed.{pieceStart, numberMark}
 use Rattle.printing.proofs.Printed.{next-begins}
 use Rattle.printing.proofs.filled.Statement.{statement}
 use Rattle.printing.proofs.filled.Tie as tie
 
 abbrev Inv-loop : tie.InvT-loop
 Inv-loop form numbers from₀ k₀ from k =
-    (from ≤ length form + 1) × (k ≤ from) × (from ≡ start numberMark form k)
-    × ((j : ℕ) → j < k → start numberMark form j < length form)
+    (from ≤ length form + 1) × (k ≤ from) × (from ≡ pieceStart numberMark form k)
+    × ((j : ℕ) → j < k → pieceStart numberMark form j < length form)
 
 abbrev μ-loop : tie.MeasureT-loop
 μ-loop form numbers from₀ k₀ from k = length form + 1 - from
 
 loop-holds : tie.Need-loop-holds Inv-loop μ-loop
-unfolding start
+unfolding pieceStart
 loop-holds c = (search needs, search needs, refl, below-none _)
 
 find-requires : tie.Need-find-requires Inv-loop μ-loop
@@ -54,7 +54,7 @@ loop-again c =
     let s = c .before .before .before .before .before .before .before .args .form .now in
     let l = c .before .before .before .before .before .loop in
     let f = c .before .before .before .find in
-    let h : start numberMark s (l .k) < length s = omega (arith, l .inv .2, c .before .before .before .before .loop-test .taken) in (
+    let h : pieceStart numberMark s (l .k) < length s = omega (arith, l .inv .2, c .before .before .before .before .loop-test .taken) in (
       search needs,
       search needs,
       next-begins numberMark s (l .k) (l .from) (f .result) (l .inv .2) (f .ensures .0),

@@ -6,19 +6,19 @@ use native.Mathlib.Omega.{arith}
 use lib.ListN.{length}
 use borrow.Author.Needs.{needs}
 use borrow.Author.Tests.{lt-ltb, le-ltb}
-use Rattle.printing.specs.Printed.{start, rowMark}
+use Rattle.printing.specs.Printed.{pieceStart, rowMark}
 use Rattle.printing.proofs.Printed.{next-begins, in-order}
 use Rattle.printing.proofs.row.Statement.{statement}
 use Rattle.printing.proofs.row.Tie as tie
 
 abbrev Inv-loop : tie.InvT-loop
-Inv-loop forms k numbers from₀ i₀ from i = (from ≤ length forms + 1) × (i ≤ k) × (from ≡ start rowMark forms i)
+Inv-loop forms k numbers from₀ i₀ from i = (from ≤ length forms + 1) × (i ≤ k) × (from ≡ pieceStart rowMark forms i)
 
 abbrev μ-loop : tie.MeasureT-loop
 μ-loop forms k numbers from₀ i₀ from i = length forms + 1 - from
 
 loop-holds : tie.Need-loop-holds Inv-loop μ-loop
-unfolding start
+unfolding pieceStart
 loop-holds c = (search needs, search needs, refl)
 
 find-requires : tie.Need-find-requires Inv-loop μ-loop
@@ -41,8 +41,8 @@ returns c =
     let s = c .before .before .before .before .before .before .before .args .forms .now in
     let k = c .before .before .before .before .before .before .before .args .k in
     let l = c .before .before .before .before .before .loop in
-    let e : l .from ≡ start rowMark s k = l .inv .2 ∙ ap (start rowMark s) (c .before .before .if1 .taken) in
-    sym (lt-ltb (start rowMark s k) (length s) (omega (arith, e, c .before .before .before .before .loop-test .taken)))
+    let e : l .from ≡ pieceStart rowMark s k = l .inv .2 ∙ ap (pieceStart rowMark s) (c .before .before .if1 .taken) in
+    sym (lt-ltb (pieceStart rowMark s k) (length s) (omega (arith, e, c .before .before .before .before .loop-test .taken)))
 
 add-i : tie.Need-add-i Inv-loop μ-loop
 add-i c = search needs
@@ -66,7 +66,7 @@ returns-2 c =
     let k = c .before .before .before .args .k in
     let l = c .before .loop in
     sym
-    (le-ltb (start rowMark s k) (length s) (omega (arith, in-order rowMark s (l .i) k (l .inv .1), l .inv .2, c .loop-test .left)))
+    (le-ltb (pieceStart rowMark s k) (length s) (omega (arith, in-order rowMark s (l .i) k (l .inv .1), l .inv .2, c .loop-test .left)))
 
 pub row-spec : {M : Type 1} → statement M
 row-spec =

@@ -5,20 +5,20 @@ use mathlib.Core.Logic.{⊎-elim}
 use native.Mathlib.Omega.{arith}
 use lib.ListN.{length}
 use borrow.Author.Needs.{needs}
-use Rattle.printing.specs.Printed.{seatsOf}
+use Rattle.printing.specs.Printed.{countIn}
 use Rattle.printing.proofs.Printed.{seat-more, none-more}
 use Rattle.printing.proofs.seats.Statement.{statement}
 use Rattle.printing.proofs.seats.Tie as tie
 
 abbrev Inv-loop : tie.InvT-loop
 Inv-loop set count₀ i₀ t5 t6 count i =
-    (i ≤ 16) × (count ≤ i) × (count ≡ seatsOf set i) × (length set ≡ 16) × (length t5 ≡ 2) × (length t6 ≡ 7)
+    (i ≤ 16) × (count ≤ i) × (count ≡ countIn set i) × (length set ≡ 16) × (length t5 ≡ 2) × (length t6 ≡ 7)
 
 abbrev μ-loop : tie.MeasureT-loop
 μ-loop set count₀ i₀ t5 t6 count i = 16 - i
 
 loop-holds : tie.Need-loop-holds Inv-loop μ-loop
-unfolding seatsOf
+unfolding countIn
 loop-holds c = search needs
 
 array-read-if1 : tie.Need-array-read-if1 Inv-loop μ-loop
@@ -58,13 +58,13 @@ returns : tie.Need-returns Inv-loop μ-loop
 returns c =
     let l = c .before .before .before .before .loop in
     let e : l .i ≡ 16 = omega (arith, l .inv .0, c .before .before .before .loop-test .left) in
-    l .inv .2 ∙ ap (seatsOf (c .before .before .before .before .before .args .t1)) e
+    l .inv .2 ∙ ap (countIn (c .before .before .before .before .before .args .t1)) e
 
 returns-2 : tie.Need-returns-2 Inv-loop μ-loop
 returns-2 c =
     let l = c .before .before .loop in
     let e : l .i ≡ 16 = omega (arith, l .inv .0, c .before .loop-test .left) in
-    l .inv .2 ∙ ap (seatsOf (c .before .before .before .args .t1)) e
+    l .inv .2 ∙ ap (countIn (c .before .before .before .args .t1)) e
 
 pub seats-spec : {M : Type 1} → statement M
 seats-spec =

@@ -70,7 +70,7 @@ use Rattle.line.proofs.entry_at as entry
 use Rattle.line.proofs.entry_at.Symbol as entry-def
 use Rattle.line.proofs.entry_at.Symbol.{name as #line·entry-at}
 use Rattle.line.proofs.entry_at.Met as entry-thm
-use Rattle.screen.specs.Screen.{shownIn, answered, shownAnswer, left}
+use Rattle.screen.specs.Screen.{shownIn, listAnswer, shownAnswer, filled}
 use Rattle.screen.specs.declared.Shown.{Shown}
 use Rattle.screen.proofs.Laws.{upTo, upto-long, upto-more, upto-left, shown-in-line, shown-in-room}
 use Rattle.screen.proofs.Shown as S
@@ -219,15 +219,15 @@ module _ {M : Type 1} (𝓤 : URA M) (H : Heap 𝓤) (A : Atoms 𝓤) (W : Given
 
   answer-said : (a : Shown) →
       ent 𝓤 (ensured 𝓤 H A answer.ended (answer.clauses 𝓤 H A mem run) tt (line, (places, tt)) tt a)
-      (fact 𝓤 (shownAnswer a ≡ answered es places))
+      (fact 𝓤 (shownAnswer a ≡ listAnswer es places))
   answer-said a =
-      exE 𝓤 _ (λ ws. snd∗ 𝓤 (sem 𝓤 H A (lasts answer.ended tt (line, (places, tt)) ws)) (fact 𝓤 (shownAnswer a ≡ answered es places)))
+      exE 𝓤 _ (λ ws. snd∗ 𝓤 (sem 𝓤 H A (lasts answer.ended tt (line, (places, tt)) ws)) (fact 𝓤 (shownAnswer a ≡ listAnswer es places)))
 
   -- the room once i entries are written
   abbrev written : ℕ → List Entry
   written i = upTo es ys i
 
-  exits : (a : Shown) (v : Val) (zs : List Entry) → length zs ≡ places → shownAnswer a ≡ answered es places → zs ≡ left es ys
+  exits : (a : Shown) (v : Val) (zs : List Entry) → length zs ≡ places → shownAnswer a ≡ listAnswer es places → zs ≡ filled es ys
       → ent 𝓤 (⋆ 𝓤 H A (‵ (S.the-row .own a (v ∷ [])) ∷ ‵ (fobs γ (codedHoleys E.the-row .code (heres E.the-row zs)))
       ∷ ‵ (fbor κ (Held E.the-row (length zs) b o γ)) ∷ ‵ (flft κ q) ∷ [])) (Post v)
   exits a v zs long e holds =
@@ -343,8 +343,8 @@ module _ {M : Type 1} (𝓤 : URA M) (H : Heap 𝓤) (A : Atoms 𝓤) (W : Given
           use1 W (later (some (λ (a : Shown). (‵ ftrue ⊛ ‵ (S.the-row .own a (u ∷ []))) ⊛ raw
           (ensured 𝓤 H A answer.ended (answer.clauses 𝓤 H A mem run) tt (line, (places, tt)) tt a)))) (id⊢ 𝓤 _) $ await ! tt $ pick !
           (λ a.
-          split ! $ move ! (1 ∷ []) $ use1 W (raw (fact 𝓤 (shownAnswer a ≡ answered es places))) (answer-said a) $ heard !
-          (shownAnswer a ≡ answered es places) (λ is. split ! $ drop ! $
+          split ! $ move ! (1 ∷ []) $ use1 W (raw (fact 𝓤 (shownAnswer a ≡ listAnswer es places))) (answer-said a) $ heard !
+          (shownAnswer a ≡ listAnswer es places) (λ is. split ! $ drop ! $
           -- [the answer; obs; the borrow; the token; the ten locals]
           peeks ! S.the-row (Is S.the-row) (shows 𝓤 H A S.the-row) a (u ∷ []) (λ fine.
           land ! (from ! (stop !)) (init ! 22 refl (enum.lawful S.the-type S′.the-laws 𝓤 H A W tt .typed a _ fine .0)) $

@@ -58,7 +58,7 @@ use Rattle.line.proofs.Entry as E
 use Rattle.line.proofs.Entry.Laws as E′
 use Rattle.line.proofs.Line as L
 use Rattle.line.proofs.Line.Laws as L′
-use Rattle.screen.specs.Screen.{answered, shownAnswer, left, listing}
+use Rattle.screen.specs.Screen.{listAnswer, shownAnswer, filled, listing}
 use Rattle.screen.specs.declared.Shown.{Shown}
 use Rattle.screen.proofs.Laws.{listed-all}
 use Rattle.screen.proofs.Shown as S
@@ -217,8 +217,8 @@ module _ {M : Type 1} (𝓤 : URA M) (H : Heap 𝓤) (A : Atoms 𝓤) (W : Given
         -- what `fill` promises, at some last list
         split ! $ move ! (1 ∷ []) $ use1 W
         (some (λ (zs : Unit {0} × (List Entry × Unit {0})). ‵ (lasts fill.ended (ν ∷ [], tt) (line, (x l₂ δ, tt)) zs) ⊛ raw
-        (fact 𝓤 ((shownAnswer a ≡ answered es 15) × (zs .1 .0 ≡ left es ys))))) (id⊢ 𝓤 _) $ pick ! (λ zs.
-        split ! $ move ! (1 ∷ []) $ heard ! ((shownAnswer a ≡ answered es 15) × (zs .1 .0 ≡ left es ys))
+        (fact 𝓤 ((shownAnswer a ≡ listAnswer es 15) × (zs .1 .0 ≡ filled es ys))))) (id⊢ 𝓤 _) $ pick ! (λ zs.
+        split ! $ move ! (1 ∷ []) $ heard ! ((shownAnswer a ≡ listAnswer es 15) × (zs .1 .0 ≡ filled es ys))
         (λ e. fsplit ! $ drop ! $ fsplit ! $ fsplit ! $ move ! (1 ∷ []) $ feqL ! (λ _.
         -- [the last list; true; the token, with the answer; the lender's part; the seven locals]
         move ! (2 ∷ []) $ split ! $ move ! (1 ∷ []) $ peeks ! S.the-row (Is S.the-row) (shows 𝓤 H A S.the-row) a (u ∷ []) (λ fine.

@@ -4,7 +4,7 @@ use mathlib.Core.List.{[], _∷_, _++_}
 use lib.ListN.{length}
 use Prim.Native.Nat.{_≤_}
 use mathlib.Core.Path.{refl}
-use Rattle.octets.proofs.Over.{run as over-then}
+use Rattle.octets.proofs.Over.{run}
 use Rattle.seat_octets.specs.Layout.{settingsOctets}
 use native.Mathlib.Omega.{arith}
 use borrow.Author.Needs.{needs}
@@ -60,16 +60,16 @@ returns c =
     c .before .before .before .before .before .before .before .before .before .before .before .before .before .before .before .before
     .before .before .put32 .ensures in
     let e2 =
-    over-then room _ _ at 4 (octets32 (s .ssrc)) (s .level ∷ s .limit ∷ []) h refl e1
+    run room _ _ at 4 (octets32 (s .ssrc)) (s .level ∷ s .limit ∷ []) h refl e1
     (c .before .before .before .before .before .before .before .before .before .before .before .before .before .before .put-pair
     .ensures) in
     let e3 =
-    over-then room _ _ at 6 (octets32 (s .ssrc) ++ (s .level ∷ s .limit ∷ [])) (s .c7 ∷ s .c20 ∷ []) h refl e2
+    run room _ _ at 6 (octets32 (s .ssrc) ++ (s .level ∷ s .limit ∷ [])) (s .c7 ∷ s .c20 ∷ []) h refl e2
     (c .before .before .before .before .before .before .before .before .before .before .put-pair2 .ensures) in
     let e4 =
-    over-then room _ _ at 8 (octets32 (s .ssrc) ++ (s .level ∷ s .limit ∷ []) ++ (s .c7 ∷ s .c20 ∷ [])) (octets16 (s .duration)) h refl
+    run room _ _ at 8 (octets32 (s .ssrc) ++ (s .level ∷ s .limit ∷ []) ++ (s .c7 ∷ s .c20 ∷ [])) (octets16 (s .duration)) h refl
     e3 (c .before .before .before .before .before .before .put16 .ensures) in
-    over-then room _ _ at 10 (octets32 (s .ssrc) ++ (s .level ∷ s .limit ∷ []) ++ (s .c7 ∷ s .c20 ∷ []) ++ octets16 (s .duration))
+    run room _ _ at 10 (octets32 (s .ssrc) ++ (s .level ∷ s .limit ∷ []) ++ (s .c7 ∷ s .c20 ∷ []) ++ octets16 (s .duration))
     (octets16 0) h refl e4 (c .before .before .put162 .ensures)
 
 pub put-settings-spec : {M : Type 1} → statement M

@@ -7,7 +7,7 @@ use mathlib.Core.Path.{refl, ap, _∙_}
 use Rattle.identities.specs.Identity.{octetsOf}
 use Rattle.octets.proofs.Over.{over-one}
 use Rattle.seat_saving.proofs.Seat.{seat-made}
-use Rattle.octets.proofs.Over.{run as over-then}
+use Rattle.octets.proofs.Over.{run}
 use lib.ListN.{length-set, length-take}
 use native.Mathlib.Omega.{arith}
 use borrow.Author.Needs.{needs}
@@ -108,11 +108,11 @@ returns c =
     ) in
     let e1 = c .before .before .before .before .before .before .before .before .before .before .before .before .put-pair .ensures in
     let e2 =
-    over-then room _ _ at 2 (fl ∷ w .highest ∷ []) (octets32 (w .ssrc)) h refl e1
+    run room _ _ at 2 (fl ∷ w .highest ∷ []) (octets32 (w .ssrc)) h refl e1
     (c .before .before .before .before .before .before .before .before .put32 .ensures) in
-    let e3 = over-then room _ _ at 6 ((fl ∷ w .highest ∷ []) ++ octets32 (w .ssrc)) (n ∷ []) h refl e2 (over-one r2 (at + 6) n k) in
+    let e3 = run room _ _ at 6 ((fl ∷ w .highest ∷ []) ++ octets32 (w .ssrc)) (n ∷ []) h refl e2 (over-one r2 (at + 6) n k) in
     let e4 =
-    over-then room _ _ at 7 ((fl ∷ w .highest ∷ []) ++ octets32 (w .ssrc) ++ (n ∷ [])) (part (a .name .octets) 0 n) h refl e3
+    run room _ _ at 7 ((fl ∷ w .highest ∷ []) ++ octets32 (w .ssrc) ++ (n ∷ [])) (part (a .name .octets) 0 n) h refl e3
     (c .before .before .put-part .ensures) in (
       ap (λ (x : ℕ). at + 7 + x)
           (c .before .before .before .before .before .before .before .before .before .before .before .before .before .before .before

@@ -1,5 +1,5 @@
 -- `seats_test::behind_is_zero` meets its contract. Assumes nothing.
-use Rattle.seats_test.specs.Seated.{behind}
+use Rattle.seats_test.specs.Seated.{zerosBehind}
 use borrow.Author.Needs.{needs}
 use Rattle.seats_test.proofs.behind_is_zero.Statement.{statement}
 use Rattle.seats_test.proofs.behind_is_zero.Tie as tie
@@ -32,11 +32,11 @@ up-to-requires : tie.Need-up-to-requires
 up-to-requires c κs = search needs
 
 returns : tie.Need-returns
-unfolding behind
+unfolding zerosBehind
 returns c = rw (c .zero-from .ensures, c .before .before .wide .ensures)
 
 returns-2 : tie.Need-returns-2
-unfolding behind
+unfolding zerosBehind
 returns-2 c = rw (c .up-to .ensures, c .before .before .wide .ensures)
 
 pub behind-is-zero-spec : {M : Type 1} → statement M

@@ -4,7 +4,7 @@ use mathlib.Core.List.{[], _∷_, _++_}
 use lib.ListN.{length}
 use Prim.Native.Nat.{_≤_}
 use mathlib.Core.Path.{refl}
-use Rattle.octets.proofs.Over.{run as over-then}
+use Rattle.octets.proofs.Over.{run}
 use Rattle.sheet.specs.Layout.{trailer, form, sheetLetters}
 use native.Mathlib.Omega.{arith}
 use borrow.Author.Needs.{needs}
@@ -52,12 +52,12 @@ returns c =
     let e1 =
     c .before .before .before .before .before .before .before .before .before .before .before .before .before .before .put16 .ensures in
     let e2 =
-    over-then room _ _ at 2 (octets16 (a .offset)) (octets16 0) h refl e1
+    run room _ _ at 2 (octets16 (a .offset)) (octets16 0) h refl e1
     (c .before .before .before .before .before .before .before .before .before .before .put162 .ensures) in
     let e3 =
-    over-then room _ _ at 4 (octets16 (a .offset) ++ octets16 0) (a .count ∷ form ∷ []) h refl e2
+    run room _ _ at 4 (octets16 (a .offset) ++ octets16 0) (a .count ∷ form ∷ []) h refl e2
     (c .before .before .before .before .before .before .put-pair .ensures) in
-    over-then room _ _ at 6 (octets16 (a .offset) ++ octets16 0 ++ (a .count ∷ form ∷ [])) (octets16 sheetLetters) h refl e3
+    run room _ _ at 6 (octets16 (a .offset) ++ octets16 0 ++ (a .count ∷ form ∷ [])) (octets16 sheetLetters) h refl e3
     (c .before .before .put163 .ensures)
 
 pub put-trailer-spec : {M : Type 1} → statement M
