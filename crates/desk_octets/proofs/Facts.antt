@@ -10,12 +10,13 @@ use mir.Syntax.{w8}
 use mir.Val.{Fits}
 use borrow.Author.Tests.{eqb-true, leb-true}
 use Rattle.words.specs.Below.{below}
-use Rattle.words.proofs.Tests.{and-four, and-five}
+use Rattle.words.proofs.Tests.{and-five}
 use Rattle.octets.specs.Octets.{be16, Octets, nthOctet}
 use Rattle.line.specs.Line.{entryOf}
-use Rattle.seat_octets.specs.Layout.{flagsTop}
+use Rattle.seat_octets.specs.Layout.{flagsTop, zerosFit}
 use Rattle.desk_octets.specs.Places.{deskSize, phasePlace, timersPlace, holderPlace, heldAtPlace, causePlace, countPlace, countZero}
-use Rattle.desk_octets.specs.Places.{waitingZero, prioritiesZero, takenColumn, flagsColumn, flagsZeros, settingsZeros, lengthsColumn}
+use Rattle.desk_octets.specs.Places.{waitingZero, prioritiesZero, takenColumn, flagsColumn, flagsZeros, settingsStart, settingsEnd}
+use Rattle.desk_octets.specs.Places.{lengthsColumn}
 use Rattle.desk_octets.specs.Form.{upTo, phaseFits, lettersFit, coreFits, hallFits, namesFit, canonical}
 
 -- what is lent is octets
@@ -81,13 +82,16 @@ pub record HallFacts (s : List ℕ) : Type 0 where
   pub taken : upTo 1 s takenColumn 16 ≡ true
   pub flags : upTo flagsTop s flagsColumn 16 ≡ true
   pub behind-flags : upTo 0 s flagsZeros 16 ≡ true
-  pub behind-settings : upTo 0 s settingsZeros 6 ≡ true
+  pub settings-zeros : zerosFit s settingsStart ≡ true
+  pub behind-settings : upTo 0 s settingsEnd 4 ≡ true
 
 pub hall-facts : (s : List ℕ) → hallFits s ≡ true → HallFacts s
 unfolding hallFits
 hall-facts s e =
-    let f = and-four (upTo 1 s takenColumn 16) (upTo flagsTop s flagsColumn 16) (upTo 0 s flagsZeros 16) (upTo 0 s settingsZeros 6) e in
-    record { taken = f .0; flags = f .1; behind-flags = f .2; behind-settings = f .3 }
+    let f =
+    and-five (upTo 1 s takenColumn 16) (upTo flagsTop s flagsColumn 16) (upTo 0 s flagsZeros 16) (zerosFit s settingsStart)
+    (upTo 0 s settingsEnd 4) e in
+    record { taken = f .0; flags = f .1; behind-flags = f .2; settings-zeros = f .3; behind-settings = f .4 }
 
 -- the identities
 pub fits-length : (s : List ℕ) → namesFit s ≡ true → (seat : ℕ) → seat < 16 → nthOctet s (lengthsColumn + seat) ≤ 62

@@ -24,9 +24,9 @@ use Rattle.identities.specs.Identity as identity
 use Rattle.steps.specs.declared.Core.{Core}
 use Rattle.desk_octets.specs.Places.{phasePlace, timersPlace, holderPlace, heldAtPlace, causePlace, sequencePlace, countPlace}
 use Rattle.desk_octets.specs.Places.{countZero, waitingZero, prioritiesZero, takenColumn, ssrcsColumn, highestColumn, flagsColumn}
-use Rattle.desk_octets.specs.Places.{flagsZeros, settingsStart, settingsZeros, settingsEnd, lengthsColumn, identitiesColumn, deskSize}
+use Rattle.desk_octets.specs.Places.{flagsZeros, settingsStart, settingsEnd, lengthsColumn, identitiesColumn, deskSize}
 use Rattle.desk_octets.specs.Columns.{column, rows}
-use Rattle.seat_octets.specs.Layout.{flagsOctet, flagsOf, flagsTop, settingsSize, settingsOctets, zerosIn}
+use Rattle.seat_octets.specs.Layout.{flagsOctet, flagsOf, flagsTop, settingsSize, settingsOctets, zerosFit}
 use Rattle.seat_octets.proofs.Bits.{flags-forth}
 use Rattle.seat_octets.proofs.SettingsLaws.{settings-forth}
 use Rattle.desk_octets.specs.Form.{deskLetters, phaseOctets, lineOctets, coreOctets, boolOctets, octetColumn, seatFlagsOctets}
@@ -100,16 +100,13 @@ zeros-forth : (s : List ℕ) (at n : ℕ) → ((i : ℕ) → i < n → nthOctet 
 zeros-forth s at n z = column-is (nthOctet s) (replicate n 0) at n 0 (length-replicate n 0) (λ i b. zero-in n i ∙ sym (z i b))
 
 -- the settings, and the four zeros behind them
-settings-there : (s : List ℕ) → Octets s → deskSize ≤ length s → upTo 0 s settingsZeros 6 ≡ true →
+settings-there : (s : List ℕ) → Octets s → deskSize ≤ length s → zerosFit s settingsStart ≡ true → upTo 0 s settingsEnd 4 ≡ true →
     settingsOctets (settingsAt s) ++ replicate 4 0 ≡ from s settingsStart 16
-unfolding be16
-settings-there s o l e =
-    let z : (i : ℕ) → i < 6 → nthOctet s (settingsZeros + i) ≡ 0 = λ i k. omega (arith, up-to 0 s settingsZeros 6 e i k) in
-    let none : zerosIn s settingsStart ≡ 0 = rw (z 0 (omega arith), z 1 (omega arith)) in
+settings-there s o l z e =
     let g : settingsOctets (settingsAt s) ≡ from s settingsStart settingsSize =
-    settings-forth s settingsStart o (omega arith) none ∙ part-column s settingsStart settingsSize (omega arith) in
-    let y : replicate 4 0 ≡ from s settingsEnd 4 = zeros-forth s settingsEnd 4 (λ i b.
-    let q : settingsEnd + i ≡ settingsZeros + (2 + i) = omega arith in ap (nthOctet s) q ∙ z (2 + i) (omega arith)) in
+    settings-forth s settingsStart o (omega arith) z ∙ part-column s settingsStart settingsSize (omega arith) in
+    let y : replicate 4 0 ≡ from s settingsEnd 4 =
+    zeros-forth s settingsEnd 4 (λ i b. omega (arith, up-to 0 s settingsEnd 4 e i b)) in
     rw (g, y) (column-two (nthOctet s) settingsStart settingsSize 4)
 
 hall-forth : (s : List ℕ) → Octets s → deskSize ≤ length s → hallFits s ≡ true → hallOctets (hallAt s) ≡ from s takenColumn 144
@@ -129,7 +126,7 @@ hall-forth s o l e =
     (from s takenColumn 16 ++ from s ssrcsColumn 64 ++ from s highestColumn 16 ++ from s flagsColumn 16 ++ from s flagsZeros 16)
     (settingsOctets (settingsAt s)) (replicate 4 0)
     ∙ rw (
-      settings-there s o l (f .behind-settings),
+      settings-there s o l (f .settings-zeros) (f .behind-settings),
       column-two (nthOctet s) takenColumn 16 64,
       column-two (nthOctet s) takenColumn 80 16,
       column-two (nthOctet s) takenColumn 96 16,

@@ -18,7 +18,7 @@ use Rattle.line.specs.Line.{waiting, empty}
 use Rattle.hall.specs.declared.Settings.{Settings}
 use Rattle.hall.specs.declared.Flags.{Flags}
 use Rattle.hall.specs.Seats.{noFlags}
-use Rattle.seat_octets.specs.Layout.{flagsOctet, flagsOf, flagsTop, settingsOctets, settingsIn}
+use Rattle.seat_octets.specs.Layout.{flagsOctet, flagsOf, flagsTop, settingsOctets, settingsIn, zerosFit}
 use Rattle.hall.specs.declared.Hall.{Hall}
 use Rattle.identities.specs.declared.Name.{Name}
 use Rattle.identities.specs.declared.Names.{Names}
@@ -31,7 +31,7 @@ use Rattle.steps.specs.declared.Phase.the-variants.{Stopped, Idle, Taken, Revok
 use Rattle.steps.specs.declared.Core.{Core}
 use Rattle.desk_octets.specs.Places.{phasePlace, timersPlace, holderPlace, heldAtPlace, causePlace, sequencePlace, c7Place, c20Place}
 use Rattle.desk_octets.specs.Places.{countPlace, countZero, waitingColumn, waitingZero, prioritiesColumn, prioritiesZero, takenColumn}
-use Rattle.desk_octets.specs.Places.{ssrcsColumn, highestColumn, flagsColumn, flagsZeros, settingsStart, settingsZeros, lengthsColumn}
+use Rattle.desk_octets.specs.Places.{ssrcsColumn, highestColumn, flagsColumn, flagsZeros, settingsStart, settingsEnd, lengthsColumn}
 use Rattle.desk_octets.specs.Places.{identitiesColumn, deskSize}
 use Rattle.desk_octets.specs.Columns.{column, rows}
 
@@ -214,7 +214,9 @@ coreFits s =
     && leb (nthOctet s countPlace) 15 && eqb (nthOctet s countZero) 0 && eqb (nthOctet s waitingZero) 0 && eqb (nthOctet s prioritiesZero) 0
 
 unfoldable pub hallFits : List ℕ → Bool
-hallFits s = upTo 1 s takenColumn 16 && upTo flagsTop s flagsColumn 16 && upTo 0 s flagsZeros 16 && upTo 0 s settingsZeros 6
+hallFits s =
+    upTo 1 s takenColumn 16 && upTo flagsTop s flagsColumn 16 && upTo 0 s flagsZeros 16 && zerosFit s settingsStart
+    && upTo 0 s settingsEnd 4
 
 unfoldable pub namesFit : List ℕ → Bool
 namesFit s = upTo 62 s lengthsColumn 16

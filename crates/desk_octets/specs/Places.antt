@@ -98,11 +98,7 @@ c7LimitPlace = 182
 abbrev pub c20LimitPlace : ℕ
 c20LimitPlace = 183
 
--- their two zeros, and four behind them
-abbrev pub settingsZeros : ℕ
-settingsZeros = 186
-
--- the four zeros behind them
+-- four zeros behind them
 abbrev pub settingsEnd : ℕ
 settingsEnd = 188
 

@@ -48,8 +48,6 @@ pub const C7_LIMIT_PLACE: usize = 182;
 
 pub const C20_LIMIT_PLACE: usize = 183;
 
-pub const SETTINGS_ZEROS: usize = 186;
-
 pub const SETTINGS_END: usize = 188;
 
 pub const LENGTHS_COLUMN: usize = 192;

@@ -22,7 +22,7 @@ use Rattle.words.specs.Choice.{if_then_else_, by-if}
 use Rattle.events.specs.declared.Desk.{Desk}
 use Rattle.history.specs.Doing.{made, does, afterAll, Fresh, justMade, andJoined}
 use Rattle.loading.specs.Loading.{Load, Seats, whole, fault, notLoaded, ifSeated, joinAll, seatAll, settled, loading, whoIs, readSeat}
-use Rattle.loading.specs.Loading.{identityLength, afterSeat, laidOut, seatInfront, readSeats, zeros, settingsOn}
+use Rattle.loading.specs.Loading.{identityLength, afterSeat, laidOut, seatInfront, readSeats, settingsOn}
 use Rattle.words.proofs.Tests.{both, neither-left}
 use Rattle.message.specs.Answers.{result}
 use Rattle.signed.specs.Signed.{signed, Succeeds}
@@ -37,7 +37,7 @@ use Rattle.floor_laws.proofs.Steps.{holds-as}
 use Rattle.floor_laws.proofs.Made.{done-only, Written, written-so}
 use Rattle.sheet.specs.Layout.{Seat, seatHead}
 use Rattle.sheet.specs.Framing.{settingsPlace, seatCount, framing, verdictNumber}
-use Rattle.seat_octets.specs.Layout.{SettingsFit}
+use Rattle.seat_octets.specs.Layout.{zerosFit, SettingsFit}
 use Rattle.seat_octets.proofs.SettingsLaws.{settings-read-fit}
 
 -- what loading answers, as a desk
@@ -80,7 +80,7 @@ module _ (s : List ℕ) where
   settled-so : IsLoaded (settled s)
   settled-so =
       let a = not (inRange (settingsOn s)) in
-      let b = not (eqb (zeros s) 0) in
+      let b = not (zerosFit s (settingsPlace s)) in
       by-if IsLoaded (a || b) (λ _. not-loaded 44 (λ z. omega (arith, z)))
       (λ e q. (
         not-false (inRange (settingsOn s)) (neither-left a b e),

@@ -17,10 +17,11 @@ use Rattle.identities.specs.declared.Names.{Names}
 use Rattle.identities.specs.Identity.{noNames}
 use Rattle.joining.specs.declared.Joined.{Joined}
 use Rattle.joining.specs.Join.{join}
+use Rattle.seat_octets.specs.Layout.{zerosFit}
 use Rattle.sheet.specs.Layout.{Seat, seatHead}
 use Rattle.sheet.specs.Framing.{settingsPlace, seatCount, verdictNumber, framing}
 use Rattle.loading.specs.declared.Turn.{Turn}
-use Rattle.loading.specs.Loading.{loaded, notLoaded, settingsOn, zeros, identityLength, whoIs, readSeat, afterSeat, laidOut, Seats}
+use Rattle.loading.specs.Loading.{loaded, notLoaded, settingsOn, identityLength, whoIs, readSeat, afterSeat, laidOut, Seats}
 use Rattle.loading.specs.Loading.{whole, fault, seatInfront, readSeats, ifSeated, joinAll, seatAll, settled, loading}
 use Rattle.loading.specs.Walk.{turnAt}
 
@@ -39,14 +40,14 @@ module _ (s : List ℕ) where
   settles-range e = rw e
 
   module _ (r : inRange (settingsOn s) ≡ true) where
-    pub settles-zeros : (zeros s ≡ 0 → ⊥) → settled s ≡ notLoaded 44
+    pub settles-zeros : zerosFit s (settingsPlace s) ≡ false → settled s ≡ notLoaded 44
     unfolding if_then_else_
-    settles-zeros h = rw (r, ne-eqb (zeros s) 0 h)
+    settles-zeros e = rw (r, e)
 
-    pub settles : zeros s ≡ 0
+    pub settles : zerosFit s (settingsPlace s) ≡ true
         → settled s ≡ seatAll (emptyHall (settingsOn s)) noNames (readSeats (seatCount s) s 0)
     unfolding if_then_else_
-    settles h = rw (r, eq-eqb (zeros s) 0 h)
+    settles e = rw (r, e)
 
 -- a seat that is laid out ends before the settings
 pub laid-fits : (s : List ℕ) (at : ℕ) → laidOut s at ≡ true → afterSeat s at ≤ settingsPlace s

@@ -18,7 +18,7 @@ use Rattle.identities.specs.Identity.{noNames}
 use Rattle.joining.specs.Join.{join}
 use Rattle.steps.specs.declared.Core.{Core}
 use Rattle.events.specs.Events.{fresh}
-use Rattle.seat_octets.specs.Layout.{flagsOf, flagsTop, settingsIn, zerosIn}
+use Rattle.seat_octets.specs.Layout.{flagsOf, flagsTop, settingsIn, zerosFit}
 use Rattle.sheet.specs.Layout.{Seat, seatHead, highestWithin, ssrcWithin, lengthWithin}
 use Rattle.sheet.specs.Framing.{settingsPlace, seatCount, verdictNumber, framing}
 use Rattle.loading.specs.declared.Loading.{Loading}
@@ -41,12 +41,9 @@ noSettings = settingsOf 0 0 0 0 0 0
 unfoldable pub notLoaded : ℕ → Load
 notLoaded n = record { number = n; core = fresh; hall = emptyHall noSettings; names = noNames }
 
--- the settings of a sheet, and what stands where their zeros are
+-- the settings of a sheet
 abbrev pub settingsOn : List ℕ → Settings
 settingsOn s = settingsIn s (settingsPlace s)
-
-abbrev pub zeros : List ℕ → ℕ
-zeros s = zerosIn s (settingsPlace s)
 
 -- the seat that begins at a place
 abbrev pub identityLength : List ℕ → ℕ → ℕ
@@ -96,7 +93,7 @@ seatAll h ns fault = notLoaded 45
 -- 44 and 45, once the trailer is in order
 abbrev pub settled : List ℕ → Load
 settled s =
-    if not (inRange (settingsOn s)) || not (eqb (zeros s) 0) then notLoaded 44
+    if not (inRange (settingsOn s)) || not (zerosFit s (settingsPlace s)) then notLoaded 44
     else seatAll (emptyHall (settingsOn s)) noNames (readSeats (seatCount s) s 0)
 
 -- 41, 42 and 43, and then these

@@ -158,7 +158,7 @@ fn settle(s: &[u8]) -> Loading
     if !hall::in_range(settings) {
         return refuse(Verdict::OutsideRange);
     }
-    if octets::number16(s, at + seat_octets::ZEROS) != 0 {
+    if !seat_octets::zeros_fit(s, at) {
         return refuse(Verdict::OutsideRange);
     }
     take_seats(s, settings, sheet::seat_count(s))

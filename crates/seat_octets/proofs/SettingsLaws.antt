@@ -5,9 +5,10 @@ use native.Mathlib.Omega.{arith}
 use mathlib.Core.List.{List, [], _∷_, _++_}
 use mathlib.Core.Path.{_≡_, refl, ap, sym, _∙_}
 use lib.ListN.{getD, take, drop}
+use borrow.Author.Tests.{eqb-true, eq-eqb}
 use Rattle.octets.specs.Octets.{be16, be32, octets16, octets32, part, Octets}
 use Rattle.hall.specs.declared.Settings.{Settings}
-use Rattle.seat_octets.specs.Layout.{settingsOctets, settingsIn}
+use Rattle.seat_octets.specs.Layout.{settingsOctets, settingsIn, zerosFit}
 use Rattle.seat_octets.specs.Laws.{SettingsLong, SettingsBack, SettingsForth, SettingsAreOctets, SettingsReadFit}
 use Rattle.seat_octets.proofs.Numbers.{number-again, long-again, octet-at, be16-at, be32-at, run, run-is, word-back, long-back}
 
@@ -50,7 +51,7 @@ module _ (g : Settings) (q : List ℕ) where
   zeros-there = refl
 
 pub settings-back : SettingsBack
-unfolding settingsIn
+unfolding settingsIn zerosFit
 settings-back s p q at g is here =
     let r = settingsOctets g ++ q in (
       rw (
@@ -61,7 +62,7 @@ settings-back s p q at g is here =
         octet-at s p r is (at + 7) 7 (omega arith) ∙ c20-there g q,
         be16-at s p r is (at + 8) 8 (omega arith) ∙ duration-there g q,
       ),
-      be16-at s p r is (at + 10) 10 (omega arith) ∙ zeros-there g q,
+      eq-eqb (be16 s (at + 10)) 0 (be16-at s p r is (at + 10) 10 (omega arith) ∙ zeros-there g q),
     )
 
 -- the octets where the settings were read, from their numbers, with what stands where their zeros are
@@ -74,9 +75,10 @@ row-run : (s : List ℕ) → Octets s → (at : ℕ) → row s (at + 0) at (be16
 row-run s o at = rw (long-back s o at 0, word-back s o at 8, word-back s o at 10)
 
 pub settings-forth : SettingsForth
-unfolding settingsOctets settingsIn part
+unfolding settingsOctets settingsIn zerosFit part
 settings-forth s at o h z =
-    ap (λ (m : ℕ). row s m at 0) (sym (add-zero at)) ∙ ap (row s (at + 0) at) (sym z) ∙ row-run s o at ∙ run-is s at 0 12 (omega arith)
+    let none = eqb-true (be16 s (at + 10)) 0 z in
+    ap (λ (m : ℕ). row s m at 0) (sym (add-zero at)) ∙ ap (row s (at + 0) at) (sym none) ∙ row-run s o at ∙ run-is s at 0 12 (omega arith)
     ∙ ap (λ (m : ℕ). take 12 (drop m s)) (add-zero at)
 
 -- octets one by one

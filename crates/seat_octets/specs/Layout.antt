@@ -12,6 +12,7 @@
 --
 -- Assumes nothing.
 use Prim.Native.Nat.{ℕ, _+_, _/_, _%_, _<_}
+use mathlib.Core.Bool.{Bool}
 use mathlib.Core.List.{List, _∷_, _++_}
 use lib.Dec.{eqb}
 use lib.ListN.{getD}
@@ -37,13 +38,14 @@ settingsSize = 12
 unfoldable pub settingsOctets : Settings → List ℕ
 settingsOctets s = octets32 (s .ssrc) ++ s .level ∷ s .limit ∷ s .c7 ∷ s .c20 ∷ octets16 (s .duration) ++ octets16 0
 
--- the settings that stand at a place, and what stands where their zeros are
+-- the settings that stand at a place
 unfoldable pub settingsIn : List ℕ → ℕ → Settings
 settingsIn s at =
     settingsOf (be32 s at) (getD s (at + 4) 0) (getD s (at + 5) 0) (getD s (at + 6) 0) (getD s (at + 7) 0) (be16 s (at + 8))
 
-abbrev pub zerosIn : List ℕ → ℕ → ℕ
-zerosIn s at = be16 s (at + 10)
+-- what no setting has among the twelve is zero: a sheet is asked for it (44), and so are a desk's octets (20)
+unfoldable pub zerosFit : List ℕ → ℕ → Bool
+zerosFit s at = eqb (be16 s (at + 10)) 0
 
 -- each setting fits the octets that it has
 pub record SettingsFit (s : Settings) : Type 0 where

@@ -7,7 +7,7 @@ ghost use Prim.Native.Nat.{_+_, _≤_};
 ghost use lib.ListN.{length};
 ghost use Rattle.words.specs.Choice.{if_then_else_};
 ghost use Rattle.octets.specs.Octets.{over};
-ghost use Rattle.seat_octets.specs.Layout.{flagsOctet, flagsOf, settingsSize, settingsOctets, settingsIn};
+ghost use Rattle.seat_octets.specs.Layout.{flagsOctet, flagsOf, settingsSize, settingsOctets, settingsIn, zerosFit};
 
 // The greatest octet that says flags.
 pub const FLAGS_TOP: u8 = 3;
@@ -15,7 +15,7 @@ pub const FLAGS_TOP: u8 = 3;
 // How many octets the settings have, and where among them their two zeros stand.
 pub const SETTINGS_SIZE: usize = 12;
 
-pub const ZEROS: usize = 10;
+const ZEROS: usize = 10;
 
 // A bit of an octet, where its flag is set.
 fn bit(flag: bool, value: u8) -> u8
@@ -62,4 +62,12 @@ pub fn settings_in(s: &[u8], at: usize) -> Settings
         c20: s[at + 7],
         duration: octets::number16(s, at + 8),
     }
+}
+
+// Whether what no setting has is zero.
+pub fn zeros_fit(s: &[u8], at: usize) -> bool
+    requires { ⌜ at + settingsSize ≤ length (now s) ⌝ }
+    ensures { λ r. ⌜ r ≡ zerosFit (now (s .entry)) at ⌝ }
+{
+    octets::number16(s, at + ZEROS) == 0
 }

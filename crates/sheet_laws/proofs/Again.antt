@@ -1,5 +1,5 @@
 -- An accepted sheet, loaded and saved, is the same octets. Assumes nothing.
-use Prim.Native.Nat.{ℕ, zero, suc, _+_, _≤_}
+use Prim.Native.Nat.{ℕ, suc, _+_, _≤_}
 use native.Mathlib.Omega.{arith}
 use mathlib.Core.Bool.{true}
 use mathlib.Core.List.{List, _++_}
@@ -13,12 +13,12 @@ use Rattle.octets.specs.Octets.{part, Octets}
 use Rattle.hall.specs.declared.Settings.{Settings}
 use Rattle.hall.specs.Seats.{inRange, emptyHall}
 use Rattle.identities.specs.Identity.{noNames}
-use Rattle.seat_octets.specs.Layout.{settingsSize, settingsOctets}
+use Rattle.seat_octets.specs.Layout.{settingsSize, settingsOctets, zerosFit}
 use Rattle.seat_octets.proofs.SettingsLaws.{settings-forth}
 use Rattle.sheet.specs.Layout.{Seat, tailSize, seatsOctets, trailer, sheet, sheetOf}
 use Rattle.sheet.specs.Framing.{settingsPlace, trailerPlace, settingsOffset, seatCount, verdictNumber, framing}
 use Rattle.sheet.proofs.Frames.{Framed, framed}
-use Rattle.loading.specs.Loading.{Load, notLoaded, settingsOn, zeros, Seats, whole, fault, readSeats, joinAll, seatAll, settled, loading}
+use Rattle.loading.specs.Loading.{Load, notLoaded, settingsOn, Seats, whole, fault, readSeats, joinAll, seatAll, settled, loading}
 use Rattle.loading.proofs.Loads.{loads-framed, loads-refused, settles-range, settles-zeros, settles}
 use Rattle.sheet_laws.specs.Sheets.{IsDesk, WrittenBack}
 use Rattle.sheet_laws.proofs.Read.{sheet-ends}
@@ -34,7 +34,7 @@ refused-number n = refl
 pub record Sound (s : List ℕ) : Type 0 where
   pub frame : Framed s
   pub range : inRange (settingsOn s) ≡ true
-  pub zero : zeros s ≡ 0
+  pub zeros : zerosFit s (settingsPlace s) ≡ true
   pub goes : loading s ≡ settled s
 
 module _ (s : List ℕ) (a : loading s .number ≡ 0) where
@@ -52,9 +52,9 @@ module _ (s : List ℕ) (a : loading s .number ≡ 0) where
       let goes = loads-framed s f in
       by-test (inRange (settingsOn s))
       (λ r.
-      by-test (eqb (zeros s) 0)
-      (λ z. record { frame = framed s f; range = r; zero = eqb-true (zeros s) 0 z; goes = goes })
-      (λ z. not-so 44 (above 43) (goes ∙ settles-zeros s r (eqb-false (zeros s) 0 z))))
+      by-test (zerosFit s (settingsPlace s))
+      (λ z. record { frame = framed s f; range = r; zeros = z; goes = goes })
+      (λ z. not-so 44 (above 43) (goes ∙ settles-zeros s r z)))
       (λ r. not-so 44 (above 43) (goes ∙ settles-range s r)))
       (λ t. let k = eqb-false (verdictNumber (framing s)) 0 t in
       not-so (verdictNumber (framing s)) k (loads-refused s (verdictNumber (framing s)) refl k))
@@ -63,7 +63,7 @@ module _ (s : List ℕ) (a : loading s .number ≡ 0) where
   st = settingsOn s
 
   seated : loading s ≡ seatAll (emptyHall st) noNames (readSeats (seatCount s) s 0)
-  seated = let k = sound in k .goes ∙ settles s (k .range) (k .zero)
+  seated = let k = sound in k .goes ∙ settles s (k .range) (k .zeros)
 
   -- the seats that were read, and their desk
   pub record Found : Type 0 where
@@ -88,7 +88,7 @@ module _ (s : List ℕ) (a : loading s .number ≡ 0) where
         let p = settingsPlace s in
         let long : tailSize ≤ length s = k .frame .long in
         let q : trailerPlace s ≡ p + settingsSize = omega arith in
-        ap (λ (x : List ℕ). x ++ trailer at count) (settings-forth s p octets (omega arith) (k .zero))
+        ap (λ (x : List ℕ). x ++ trailer at count) (settings-forth s p octets (omega arith) (k .zeros))
         ∙ ap (λ (x : List ℕ). take settingsSize (drop p s) ++ x)
         (trailer-back s octets (k .frame) at count e f ∙ ap (λ (m : ℕ). drop m s) q ∙ sym (drop-drop settingsSize p s))
         ∙ take-append-drop settingsSize (drop p s)

@@ -10,7 +10,7 @@ use borrow.Author.Tests.{le-leb, eq-eqb}
 use Rattle.words.specs.Choice.{if_then_else_}
 use Rattle.octets.specs.Octets.{be16, be32, octets16, octets32, part}
 use Rattle.hall.specs.declared.Settings.{Settings}
-use Rattle.seat_octets.specs.Layout.{flagsOctet, flagsTop, settingsOctets}
+use Rattle.seat_octets.specs.Layout.{flagsOctet, flagsTop, settingsOctets, zerosFit}
 use Rattle.seat_octets.proofs.Numbers.{number-again, long-again, octet-at, be16-at, be32-at, part-at}
 use Rattle.seat_octets.proofs.Bits.{flags-back, flags-few}
 use Rattle.seat_octets.proofs.SettingsLaws.{settings-long, settings-back}
@@ -18,7 +18,7 @@ use Rattle.sheet.specs.Layout.{Seat, form, sheetLetters, tailSize, seatOctets, 
 use Rattle.sheet.specs.Framing.{settingsPlace, trailerPlace, seatCount}
 use Rattle.sheet.proofs.Frames.{Framed}
 use Rattle.sheet.proofs.Sizes.{length-seat, length-trailer, length-sheet}
-use Rattle.loading.specs.Loading.{settingsOn, zeros, identityLength, afterSeat, whoIs, readSeat, laidOut, whole, readSeats}
+use Rattle.loading.specs.Loading.{settingsOn, identityLength, afterSeat, whoIs, readSeat, laidOut, whole, readSeats}
 
 -- what stands in the trailer
 module _ (at count : ℕ) where
@@ -97,13 +97,13 @@ module _ (xs : List Seat) (st : Settings) where
         first = word _ 2 refl ∙ seats-there (length o) (length xs);
       }
 
-  settings-again : (settingsOn (sheet xs st) ≡ st) × (zeros (sheet xs st) ≡ 0)
+  settings-again : (settingsOn (sheet xs st) ≡ st) × (zerosFit (sheet xs st) (settingsPlace (sheet xs st)) ≡ true)
   settings-again = settings-back s o t (settingsPlace s) st sheet-ends (omega (arith, length-sheet xs st))
 
   pub settings-read : settingsOn (sheet xs st) ≡ st
   settings-read = settings-again .0
 
-  pub zeros-read : zeros (sheet xs st) ≡ 0
+  pub zeros-read : zerosFit (sheet xs st) (settingsPlace (sheet xs st)) ≡ true
   zeros-read = settings-again .1
 
 -- a seat's octets, with others behind them

@@ -11,7 +11,7 @@ use Rattle.hall.specs.declared.Flags.{Flags}
 use Rattle.hall.specs.Seats.{settingsOf, newcomerOf, inRange, emptyHall, seatOf, freeSeat, withSeat}
 use Rattle.identities.specs.Identity.{octetsOf, nameOf, noNames, withName, same, seatNamed, lengthAllowed}
 use Rattle.joining.specs.Join.{ssrcTaken, seated, join}
-use Rattle.seat_octets.specs.Layout.{flagsOctet, flagsOf, settingsOctets, settingsIn}
+use Rattle.seat_octets.specs.Layout.{flagsOctet, flagsOf, settingsOctets, settingsIn, zerosFit}
 use Rattle.sheet.specs.Layout.{Seat, seatOctets, seatsOctets, trailer, seatsOf, sheet, sheetOf}
 use Rattle.sheet.specs.Framing.{framing}
 use Rattle.saving.specs.Saving.{saving, roomAfter}
@@ -39,9 +39,9 @@ two =
 -- all that loading and saving stand on, opened, so that a sheet computes
 opened : Type 0
 unfolding
-    loading framing notLoaded settingsIn readSeats readSeat whoIs flagsOf laidOut joinAll join seated ssrcTaken seatNamed same lengthAllowed
-    seatOf freeSeat withSeat withName nameOf octetsOf noNames emptyHall inRange seatsOf sheetOf sheet seatsOctets seatOctets settingsOctets
-    trailer flagsOctet saving roomAfter over be16 be32 octets16 octets32 part if_then_else_
+    loading framing notLoaded settingsIn zerosFit readSeats readSeat whoIs flagsOf laidOut joinAll join seated ssrcTaken seatNamed same
+    lengthAllowed seatOf freeSeat withSeat withName nameOf octetsOf noNames emptyHall inRange seatsOf sheetOf sheet seatsOctets seatOctets
+    settingsOctets trailer flagsOctet saving roomAfter over be16 be32 octets16 octets32 part if_then_else_
 opened = ℕ
 
 pub accepted : loading byHand .number ≡ 0

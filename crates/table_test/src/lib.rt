@@ -11,7 +11,8 @@ use desk_octets::HOLDER_PLACE;
 use desk_octets::LENGTHS_COLUMN;
 use desk_octets::PHASE_PLACE;
 use desk_octets::PRIORITIES_ZERO;
-use desk_octets::SETTINGS_ZEROS;
+use desk_octets::SETTINGS_END;
+use desk_octets::SETTINGS_START;
 use desk_octets::TAKEN_COLUMN;
 use desk_octets::TIMERS_PLACE;
 use desk_octets::WAITING_ZERO;
@@ -82,8 +83,9 @@ fn hall_fits(s: &[u8]) -> bool
     let present = up_to(s, 1, TAKEN_COLUMN, 16);
     let flags = up_to(s, seat_octets::FLAGS_TOP, FLAGS_COLUMN, 16);
     let behind_flags = up_to(s, 0, FLAGS_ZEROS, 16);
-    let behind_settings = up_to(s, 0, SETTINGS_ZEROS, 6);
-    present & flags & behind_flags & behind_settings
+    let zeros = seat_octets::zeros_fit(s, SETTINGS_START);
+    let behind_settings = up_to(s, 0, SETTINGS_END, 4);
+    present & flags & behind_flags & zeros & behind_settings
 }
 
 pub fn is_canonical(s: &[u8]) -> bool

@@ -32,11 +32,8 @@ returns c =
     ∙ not-true _ (c .before .if1 .taken) in
     c .refuse .ensures ∙ sym (settles-range s r)
 
-add-number16 : tie.Need-add-number16
-add-number16 c = search needs
-
-number16-requires : tie.Need-number16-requires
-number16-requires c κs = search needs
+zeros-fit-requires : tie.Need-zeros-fit-requires
+zeros-fit-requires c κs = search needs
 
 refuse-requires-2 : tie.Need-refuse-requires-2
 refuse-requires-2 c κs = search needs
@@ -47,7 +44,7 @@ returns-2 c =
     let r =
     ap inRange (sym (c .before .before .before .before .before .settings-in .ensures))
     ∙ sym (c .before .before .before .before .in-range .ensures) ∙ not-false _ (c .before .before .before .if1 .left) in
-    c .refuse2 .ensures ∙ sym (settles-zeros s r (λ q. c .before .if2 .taken (c .before .before .number16 .ensures ∙ q)))
+    c .refuse2 .ensures ∙ sym (settles-zeros s r (sym (c .before .before .zeros-fit .ensures) ∙ not-true _ (c .before .if2 .taken)))
 
 seat-count-requires : tie.Need-seat-count-requires
 seat-count-requires c κs = search needs
@@ -62,7 +59,7 @@ returns-3 c =
     let r =
     ap inRange (sym e) ∙ sym (c .before .before .before .before .before .in-range .ensures)
     ∙ not-false _ (c .before .before .before .before .if1 .left) in
-    let z = sym (c .before .before .before .number16 .ensures) ∙ c .before .before .if2 .left in
+    let z = sym (c .before .before .before .zeros-fit .ensures) ∙ not-false _ (c .before .before .if2 .left) in
     c .take-seats .ensures
     ∙ ap (λ (n : ℕ). seatAll (emptyHall (c .before .before .before .before .before .before .settings-in .result)) noNames
     (readSeats n s 0)) (c .before .seat-count .ensures)
@@ -77,8 +74,7 @@ settle-spec =
     in-range-requires
     refuse-requires
     returns
-    add-number16
-    number16-requires
+    zeros-fit-requires
     refuse-requires-2
     returns-2
     seat-count-requires

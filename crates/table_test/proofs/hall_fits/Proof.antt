@@ -13,14 +13,23 @@ up-to-requires-2 c κs = search needs
 up-to-requires-3 : tie.Need-up-to-requires-3
 up-to-requires-3 c κs = search needs
 
+zeros-fit-requires : tie.Need-zeros-fit-requires
+zeros-fit-requires c κs = search needs
+
 up-to-requires-4 : tie.Need-up-to-requires-4
 up-to-requires-4 c κs = search needs
 
 returns : tie.Need-returns
 unfolding hallFits
 returns c =
-    rw (c .before .before .before .up-to .ensures, c .before .before .up-to2 .ensures, c .before .up-to3 .ensures, c .up-to4 .ensures)
+    rw (
+      c .before .before .before .before .up-to .ensures,
+      c .before .before .before .up-to2 .ensures,
+      c .before .before .up-to3 .ensures,
+      c .before .zeros-fit .ensures,
+      c .up-to4 .ensures,
+    )
 
 pub hall-fits-spec : {M : Type 1} → statement M
 hall-fits-spec =
-    tie.close (tie.spec up-to-requires up-to-requires-2 up-to-requires-3 up-to-requires-4 returns)
+    tie.close (tie.spec up-to-requires up-to-requires-2 up-to-requires-3 zeros-fit-requires up-to-requires-4 returns)
