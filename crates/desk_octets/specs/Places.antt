@@ -1,6 +1,7 @@
 -- The places of the desk in lent octets: docs/FORMS.md's table, its first column, each place by a name; a number of several octets is named
 -- by its first. Code has the same names (src/lib.rt). Assumes nothing.
-use Prim.Native.Nat.{ℕ}
+use Prim.Native.Nat.{ℕ, _+_}
+use Rattle.seat_octets.specs.Layout.{settingsSize, limitWithin, c7Within, c20Within}
 
 -- the whole desk
 abbrev pub deskSize : ℕ
@@ -88,19 +89,19 @@ settingsStart = 176
 
 -- the line limit among them
 abbrev pub limitPlace : ℕ
-limitPlace = 181
+limitPlace = settingsStart + limitWithin
 
 -- the C7 limit among them
 abbrev pub c7LimitPlace : ℕ
-c7LimitPlace = 182
+c7LimitPlace = settingsStart + c7Within
 
 -- the C20 limit among them
 abbrev pub c20LimitPlace : ℕ
-c20LimitPlace = 183
+c20LimitPlace = settingsStart + c20Within
 
 -- four zeros behind them
 abbrev pub settingsEnd : ℕ
-settingsEnd = 188
+settingsEnd = settingsStart + settingsSize
 
 -- for each seat the length of its identity; the identities begin here
 abbrev pub lengthsColumn : ℕ

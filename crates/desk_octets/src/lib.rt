@@ -42,13 +42,13 @@ pub const FLAGS_ZEROS: usize = 160;
 
 pub const SETTINGS_START: usize = 176;
 
-pub const LIMIT_PLACE: usize = 181;
+pub const LIMIT_PLACE: usize = SETTINGS_START + seat_octets::LIMIT_WITHIN;
 
-pub const C7_LIMIT_PLACE: usize = 182;
+pub const C7_LIMIT_PLACE: usize = SETTINGS_START + seat_octets::C7_WITHIN;
 
-pub const C20_LIMIT_PLACE: usize = 183;
+pub const C20_LIMIT_PLACE: usize = SETTINGS_START + seat_octets::C20_WITHIN;
 
-pub const SETTINGS_END: usize = 188;
+pub const SETTINGS_END: usize = SETTINGS_START + seat_octets::SETTINGS_SIZE;
 
 pub const LENGTHS_COLUMN: usize = 192;
 

@@ -8,6 +8,7 @@ use lib.ListN.{getD, take, drop}
 use borrow.Author.Tests.{eqb-true, eq-eqb}
 use Rattle.octets.specs.Octets.{be16, be32, octets16, octets32, part, Octets}
 use Rattle.hall.specs.declared.Settings.{Settings}
+use Rattle.seat_octets.specs.Layout.{levelWithin, limitWithin, c7Within, c20Within, durationWithin, zerosWithin, settingsSize}
 use Rattle.seat_octets.specs.Layout.{settingsOctets, settingsIn, zerosFit}
 use Rattle.seat_octets.specs.Laws.{SettingsLong, SettingsBack, SettingsForth, SettingsAreOctets, SettingsReadFit}
 use Rattle.seat_octets.proofs.Numbers.{number-again, long-again, octet-at, be16-at, be32-at, run, run-is, word-back, long-back}
@@ -26,27 +27,27 @@ module _ (g : Settings) (q : List ℕ) where
   unfolding opens
   ssrc-there = long-again (g .ssrc)
 
-  level-there : getD (settingsOctets g ++ q) 4 0 ≡ g .level
+  level-there : getD (settingsOctets g ++ q) levelWithin 0 ≡ g .level
   unfolding opens
   level-there = refl
 
-  limit-there : getD (settingsOctets g ++ q) 5 0 ≡ g .limit
+  limit-there : getD (settingsOctets g ++ q) limitWithin 0 ≡ g .limit
   unfolding opens
   limit-there = refl
 
-  c7-there : getD (settingsOctets g ++ q) 6 0 ≡ g .c7
+  c7-there : getD (settingsOctets g ++ q) c7Within 0 ≡ g .c7
   unfolding opens
   c7-there = refl
 
-  c20-there : getD (settingsOctets g ++ q) 7 0 ≡ g .c20
+  c20-there : getD (settingsOctets g ++ q) c20Within 0 ≡ g .c20
   unfolding opens
   c20-there = refl
 
-  duration-there : be16 (settingsOctets g ++ q) 8 ≡ g .duration
+  duration-there : be16 (settingsOctets g ++ q) durationWithin ≡ g .duration
   unfolding opens
   duration-there = number-again (g .duration)
 
-  zeros-there : be16 (settingsOctets g ++ q) 10 ≡ 0
+  zeros-there : be16 (settingsOctets g ++ q) zerosWithin ≡ 0
   unfolding opens
   zeros-there = refl
 
@@ -56,30 +57,30 @@ settings-back s p q at g is here =
     let r = settingsOctets g ++ q in (
       rw (
         be32-at s p r is at 0 (omega arith) ∙ ssrc-there g q,
-        octet-at s p r is (at + 4) 4 (omega arith) ∙ level-there g q,
-        octet-at s p r is (at + 5) 5 (omega arith) ∙ limit-there g q,
-        octet-at s p r is (at + 6) 6 (omega arith) ∙ c7-there g q,
-        octet-at s p r is (at + 7) 7 (omega arith) ∙ c20-there g q,
-        be16-at s p r is (at + 8) 8 (omega arith) ∙ duration-there g q,
+        octet-at s p r is (at + levelWithin) levelWithin (omega arith) ∙ level-there g q,
+        octet-at s p r is (at + limitWithin) limitWithin (omega arith) ∙ limit-there g q,
+        octet-at s p r is (at + c7Within) c7Within (omega arith) ∙ c7-there g q,
+        octet-at s p r is (at + c20Within) c20Within (omega arith) ∙ c20-there g q,
+        be16-at s p r is (at + durationWithin) durationWithin (omega arith) ∙ duration-there g q,
       ),
-      eq-eqb (be16 s (at + 10)) 0 (be16-at s p r is (at + 10) 10 (omega arith) ∙ zeros-there g q),
+      eq-eqb (be16 s (at + zerosWithin)) 0 (be16-at s p r is (at + zerosWithin) zerosWithin (omega arith) ∙ zeros-there g q),
     )
 
 -- the octets where the settings were read, from their numbers, with what stands where their zeros are
 abbrev row : List ℕ → ℕ → ℕ → ℕ → List ℕ
 row s m at zs =
-    octets32 (be32 s m) ++ getD s (at + 4) 0 ∷ getD s (at + 5) 0 ∷ getD s (at + 6) 0 ∷ getD s (at + 7) 0 ∷ octets16 (be16 s (at + 8))
-    ++ octets16 zs
+    octets32 (be32 s m) ++ getD s (at + levelWithin) 0 ∷ getD s (at + limitWithin) 0 ∷ getD s (at + c7Within) 0
+    ∷ getD s (at + c20Within) 0 ∷ octets16 (be16 s (at + durationWithin)) ++ octets16 zs
 
-row-run : (s : List ℕ) → Octets s → (at : ℕ) → row s (at + 0) at (be16 s (at + 10)) ≡ run s at 0 12
-row-run s o at = rw (long-back s o at 0, word-back s o at 8, word-back s o at 10)
+row-run : (s : List ℕ) → Octets s → (at : ℕ) → row s (at + 0) at (be16 s (at + zerosWithin)) ≡ run s at 0 settingsSize
+row-run s o at = rw (long-back s o at 0, word-back s o at durationWithin, word-back s o at zerosWithin)
 
 pub settings-forth : SettingsForth
 unfolding settingsOctets settingsIn zerosFit part
 settings-forth s at o h z =
-    let none = eqb-true (be16 s (at + 10)) 0 z in
-    ap (λ (m : ℕ). row s m at 0) (sym (add-zero at)) ∙ ap (row s (at + 0) at) (sym none) ∙ row-run s o at ∙ run-is s at 0 12 (omega arith)
-    ∙ ap (λ (m : ℕ). take 12 (drop m s)) (add-zero at)
+    let none = eqb-true (be16 s (at + zerosWithin)) 0 z in
+    ap (λ (m : ℕ). row s m at 0) (sym (add-zero at)) ∙ ap (row s (at + 0) at) (sym none) ∙ row-run s o at
+    ∙ run-is s at 0 settingsSize (omega arith) ∙ ap (λ (m : ℕ). take settingsSize (drop m s)) (add-zero at)
 
 -- octets one by one
 abbrev Each : List ℕ → Type 0
@@ -114,9 +115,9 @@ unfolding settingsIn be32 be16
 settings-read-fit s at o =
     record {
       ssrc = omega (arith, o at, o (at + 1), o (at + 2), o (at + 2 + 1));
-      level = o (at + 4);
-      limit = o (at + 5);
-      c7 = o (at + 6);
-      c20 = o (at + 7);
-      duration = omega (arith, o (at + 8), o (at + 8 + 1));
+      level = o (at + levelWithin);
+      limit = o (at + limitWithin);
+      c7 = o (at + c7Within);
+      c20 = o (at + c20Within);
+      duration = omega (arith, o (at + durationWithin), o (at + durationWithin + 1));
     }

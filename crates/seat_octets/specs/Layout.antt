@@ -32,8 +32,27 @@ flagsOf n = record { queueing = eqb (n % 2) 1; «receive_only» = eqb (n / 2 % 2
 abbrev pub flagsTop : ℕ
 flagsTop = 3
 
+-- how many octets the settings have, and where things stand among them, behind the SSRC
 abbrev pub settingsSize : ℕ
 settingsSize = 12
+
+abbrev pub levelWithin : ℕ
+levelWithin = 4
+
+abbrev pub limitWithin : ℕ
+limitWithin = 5
+
+abbrev pub c7Within : ℕ
+c7Within = 6
+
+abbrev pub c20Within : ℕ
+c20Within = 7
+
+abbrev pub durationWithin : ℕ
+durationWithin = 8
+
+abbrev pub zerosWithin : ℕ
+zerosWithin = 10
 
 unfoldable pub settingsOctets : Settings → List ℕ
 settingsOctets s = octets32 (s .ssrc) ++ s .level ∷ s .limit ∷ s .c7 ∷ s .c20 ∷ octets16 (s .duration) ++ octets16 0
@@ -41,11 +60,12 @@ settingsOctets s = octets32 (s .ssrc) ++ s .level ∷ s .limit ∷ s .c7 ∷ s .
 -- the settings that stand at a place
 unfoldable pub settingsIn : List ℕ → ℕ → Settings
 settingsIn s at =
-    settingsOf (be32 s at) (getD s (at + 4) 0) (getD s (at + 5) 0) (getD s (at + 6) 0) (getD s (at + 7) 0) (be16 s (at + 8))
+    settingsOf (be32 s at) (getD s (at + levelWithin) 0) (getD s (at + limitWithin) 0) (getD s (at + c7Within) 0)
+    (getD s (at + c20Within) 0) (be16 s (at + durationWithin))
 
 -- what no setting has among the twelve is zero: a sheet is asked for it (44), and so are a desk's octets (20)
 unfoldable pub zerosFit : List ℕ → ℕ → Bool
-zerosFit s at = eqb (be16 s (at + 10)) 0
+zerosFit s at = eqb (be16 s (at + zerosWithin)) 0
 
 -- each setting fits the octets that it has
 pub record SettingsFit (s : Settings) : Type 0 where

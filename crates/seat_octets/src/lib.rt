@@ -12,10 +12,20 @@ ghost use Rattle.seat_octets.specs.Layout.{flagsOctet, flagsOf, settings
 // The greatest octet that says flags.
 pub const FLAGS_TOP: u8 = 3;
 
-// How many octets the settings have, and where among them their two zeros stand.
+// How many octets the settings have, and where things stand among them, behind the SSRC.
 pub const SETTINGS_SIZE: usize = 12;
 
-const ZEROS: usize = 10;
+pub const LEVEL_WITHIN: usize = 4;
+
+pub const LIMIT_WITHIN: usize = 5;
+
+pub const C7_WITHIN: usize = 6;
+
+pub const C20_WITHIN: usize = 7;
+
+pub const DURATION_WITHIN: usize = 8;
+
+pub const ZEROS_WITHIN: usize = 10;
 
 // A bit of an octet, where its flag is set.
 fn bit(flag: bool, value: u8) -> u8
@@ -44,10 +54,10 @@ pub fn put_settings(room: &mut [u8], at: usize, settings: Settings)
     ensures { λ _. ⌜ now (room .exit) ≡ over (now (room .entry)) at (settingsOctets settings) ⌝ }
 {
     octets::put32(room, at, settings.ssrc);
-    octets::put_pair(room, at + 4, settings.level, settings.limit);
-    octets::put_pair(room, at + 6, settings.c7, settings.c20);
-    octets::put16(room, at + 8, settings.duration);
-    octets::put16(room, at + ZEROS, 0);
+    octets::put_pair(room, at + LEVEL_WITHIN, settings.level, settings.limit);
+    octets::put_pair(room, at + C7_WITHIN, settings.c7, settings.c20);
+    octets::put16(room, at + DURATION_WITHIN, settings.duration);
+    octets::put16(room, at + ZEROS_WITHIN, 0);
 }
 
 pub fn settings_in(s: &[u8], at: usize) -> Settings
@@ -56,11 +66,11 @@ pub fn settings_in(s: &[u8], at: usize) -> Settings
 {
     Settings {
         ssrc: octets::number32(s, at),
-        level: s[at + 4],
-        limit: s[at + 5],
-        c7: s[at + 6],
-        c20: s[at + 7],
-        duration: octets::number16(s, at + 8),
+        level: s[at + LEVEL_WITHIN],
+        limit: s[at + LIMIT_WITHIN],
+        c7: s[at + C7_WITHIN],
+        c20: s[at + C20_WITHIN],
+        duration: octets::number16(s, at + DURATION_WITHIN),
     }
 }
 
@@ -69,5 +79,5 @@ pub fn zeros_fit(s: &[u8], at: usize) -> bool
     requires { ⌜ at + settingsSize ≤ length (now s) ⌝ }
     ensures { λ r. ⌜ r ≡ zerosFit (now (s .entry)) at ⌝ }
 {
-    octets::number16(s, at + ZEROS) == 0
+    octets::number16(s, at + ZEROS_WITHIN) == 0
 }

@@ -5,7 +5,7 @@ use lib.ListN.{length}
 use Prim.Native.Nat.{_≤_}
 use mathlib.Core.Path.{refl}
 use Rattle.octets.proofs.Over.{run}
-use Rattle.seat_octets.specs.Layout.{settingsOctets}
+use Rattle.seat_octets.specs.Layout.{levelWithin, c7Within, durationWithin, zerosWithin, settingsOctets}
 use native.Mathlib.Omega.{arith}
 use borrow.Author.Needs.{needs}
 use Rattle.seat_octets.proofs.put_settings.Statement.{statement}
@@ -60,16 +60,16 @@ returns c =
     c .before .before .before .before .before .before .before .before .before .before .before .before .before .before .before .before
     .before .before .put32 .ensures in
     let e2 =
-    run room _ _ at 4 (octets32 (s .ssrc)) (s .level ∷ s .limit ∷ []) h refl e1
+    run room _ _ at levelWithin (octets32 (s .ssrc)) (s .level ∷ s .limit ∷ []) h refl e1
     (c .before .before .before .before .before .before .before .before .before .before .before .before .before .before .put-pair
     .ensures) in
     let e3 =
-    run room _ _ at 6 (octets32 (s .ssrc) ++ (s .level ∷ s .limit ∷ [])) (s .c7 ∷ s .c20 ∷ []) h refl e2
+    run room _ _ at c7Within (octets32 (s .ssrc) ++ (s .level ∷ s .limit ∷ [])) (s .c7 ∷ s .c20 ∷ []) h refl e2
     (c .before .before .before .before .before .before .before .before .before .before .put-pair2 .ensures) in
     let e4 =
-    run room _ _ at 8 (octets32 (s .ssrc) ++ (s .level ∷ s .limit ∷ []) ++ (s .c7 ∷ s .c20 ∷ [])) (octets16 (s .duration)) h refl
-    e3 (c .before .before .before .before .before .before .put16 .ensures) in
-    run room _ _ at 10 (octets32 (s .ssrc) ++ (s .level ∷ s .limit ∷ []) ++ (s .c7 ∷ s .c20 ∷ []) ++ octets16 (s .duration))
+    run room _ _ at durationWithin (octets32 (s .ssrc) ++ (s .level ∷ s .limit ∷ []) ++ (s .c7 ∷ s .c20 ∷ [])) (octets16 (s .duration)) h
+    refl e3 (c .before .before .before .before .before .before .put16 .ensures) in
+    run room _ _ at zerosWithin (octets32 (s .ssrc) ++ (s .level ∷ s .limit ∷ []) ++ (s .c7 ∷ s .c20 ∷ []) ++ octets16 (s .duration))
     (octets16 0) h refl e4 (c .before .before .put162 .ensures)
 
 pub put-settings-spec : {M : Type 1} → statement M
