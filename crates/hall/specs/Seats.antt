@@ -25,6 +25,10 @@ newcomerOf ssrc highest flags = record { ssrc = ssrc; highest = highest; flags =
 abbrev pub noFlags : Flags
 noFlags = record { queueing = false; «receive_only» = false }
 
+-- zeros throughout; out of range, so that no desk is made with them
+abbrev pub noSettings : Settings
+noSettings = settingsOf 0 0 0 0 0 0
+
 -- 28: level 1..255, line limit 0..15, C7 and C20 limits 1..255, duration 1..65535. The upper ends that a setting's own type has are not
 -- asked again.
 unfoldable pub inRange : Settings → Bool

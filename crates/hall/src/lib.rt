@@ -34,6 +34,16 @@ pub struct Settings {
     pub duration: u16,
 }
 
+// Those of a desk that nobody can use: zeros, which are out of range.
+pub const NO_SETTINGS: Settings = Settings {
+    ssrc: 0,
+    level: 0,
+    limit: 0,
+    c7: 0,
+    c20: 0,
+    duration: 0,
+};
+
 // What a seat is flagged as: that it negotiated queueing, that it is receive only.
 pub struct Flags {
     pub queueing: bool,

@@ -12,7 +12,7 @@ use Rattle.hall.specs.declared.Newcomer.{Newcomer}
 use Rattle.hall.specs.declared.Found.{Found}
 use Rattle.hall.specs.declared.Found.the-variants.{At, Nowhere}
 use Rattle.hall.specs.declared.Hall.{Hall}
-use Rattle.hall.specs.Seats.{settingsOf, newcomerOf, inRange, emptyHall}
+use Rattle.hall.specs.Seats.{noSettings, newcomerOf, inRange, emptyHall}
 use Rattle.identities.specs.declared.Names.{Names}
 use Rattle.identities.specs.Identity.{noNames}
 use Rattle.joining.specs.Join.{join}
@@ -35,9 +35,6 @@ abbrev pub loaded : Hall → Names → Load
 loaded h ns = record { number = 0; core = fresh; hall = h; names = ns }
 
 -- a refusal comes with a desk that nobody can use: no seat is taken, and its settings are zero
-abbrev pub noSettings : Settings
-noSettings = settingsOf 0 0 0 0 0 0
-
 unfoldable pub notLoaded : ℕ → Load
 notLoaded n = record { number = n; core = fresh; hall = emptyHall noSettings; names = noNames }
 

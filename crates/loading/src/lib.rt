@@ -49,9 +49,8 @@ fn accept(hall: Hall, names: Names) -> Loading
 fn refuse(verdict: Verdict) -> Loading
     ensures { λ r. ⌜ loadingAnswer r ≡ notLoaded (verdictNumber verdict) ⌝ }
 {
-    let settings = hall::settings_of(0, 0, 0, 0, 0, 0);
     let core = events::fresh_core();
-    let hall = hall::empty_hall(settings);
+    let hall = hall::empty_hall(hall::NO_SETTINGS);
     let names = identities::no_names();
     Loading {
         verdict,

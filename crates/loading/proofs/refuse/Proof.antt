@@ -1,13 +1,8 @@
 -- `loading::refuse` meets its contract. Assumes nothing.
-use mathlib.Core.Path.{ap, _∙_}
 use borrow.Author.Needs.{needs}
-use Rattle.hall.specs.Seats.{emptyHall}
 use Rattle.loading.specs.Loading.{notLoaded}
 use Rattle.loading.proofs.refuse.Statement.{statement}
 use Rattle.loading.proofs.refuse.Tie as tie
-
-settings-of-requires : tie.Need-settings-of-requires
-settings-of-requires c κs = search needs
 
 fresh-core-requires : tie.Need-fresh-core-requires
 fresh-core-requires c κs = search needs
@@ -21,17 +16,12 @@ no-names-requires c κs = search needs
 returns : tie.Need-returns
 unfolding notLoaded
 returns c =
-    rw (
-      c .before .before .fresh-core .ensures,
-      c .before .empty-hall .ensures ∙ ap emptyHall (c .before .before .before .settings-of .ensures),
-      c .no-names .ensures,
-    )
+    rw (c .before .before .fresh-core .ensures, c .before .empty-hall .ensures, c .no-names .ensures)
 
 pub refuse-spec : {M : Type 1} → statement M
 refuse-spec =
     tie.close
     (tie.spec
-    settings-of-requires
     fresh-core-requires
     empty-hall-requires
     no-names-requires
