@@ -13,9 +13,9 @@ const SHEET_ROOM: usize = 1152;
 const DAMAGE_COUNT: usize = 24;
 
 // What is printed, in one table. A name is that of one row, or of the first of several: of what follows the flags
-// in a seat, of the settings and of the trailer, of the verdicts, the damages and the cuts. The first four are a seat's flags. Each
-// stands as many rows behind the one before it as that has, so that a row more is told in one place.
-const SEAT_ROWS: usize = 4;
+// in a seat, of the settings and of the trailer, of the verdicts, the damages, the cuts and the flags. Each stands as many rows behind the
+// one before it as that has, so that a row more is told in one place.
+const SEAT_ROWS: usize = 0;
 
 const SETTINGS_ROWS: usize = SEAT_ROWS + 3;
 
@@ -59,13 +59,11 @@ const NOBODY: usize = ROOMS + 1;
 
 const EVERYBODY: usize = NOBODY + 1;
 
+const FLAGS: usize = EVERYBODY + 1;
+
 fn say(k: usize, n: usize) {
     printing::row(
         b"\
-          flags: none\n^\
-          flags: queueing\n^\
-          flags: receive only\n^\
-          flags: queueing, receive only\n^\
           highest priority %\n^\
           SSRC\n^\
           identity length %\n^\
@@ -130,7 +128,11 @@ fn say(k: usize, n: usize) {
           The class: ^\
           \nRooms, and back again: ^\
           \nNobody: ^\
-          \nEverybody: ^",
+          \nEverybody: ^\
+          flags: none\n^\
+          flags: queueing\n^\
+          flags: receive only\n^\
+          flags: queueing, receive only\n^",
         k,
         [n as u64, 0, 0, 0],
     );
@@ -138,7 +140,7 @@ fn say(k: usize, n: usize) {
 
 // A sheet as a person would want to see it: the offset, the octets, and what they are.
 
-const WIDTHS: [u8; SEAT] = [1, 1, 1, 1, 1, 4, 1, 4, 1, 1, 1, 1, 2, 2, 2, 2, 1, 1, 2];
+const WIDTHS: [u8; SEAT] = [1, 4, 1, 4, 1, 1, 1, 1, 2, 2, 2, 2, 1, 1, 2];
 
 // How many octets the first rows of the table are of.
 fn width(k: usize) -> u8 {
@@ -159,7 +161,7 @@ fn dump(s: &[u8], at: usize, count: usize) {
 
 // The rows from one up to another, of the octets from a place on.
 fn dump_rows(s: &[u8], at: usize, first: usize, last: usize)
-    requires { ⌜ (at ≤ length (now s)) × (last ≤ 19) ⌝ }
+    requires { ⌜ (at ≤ length (now s)) × (last ≤ 15) ⌝ }
 {
     let mut from = at;
     let mut k = first;
@@ -204,7 +206,7 @@ fn dump_seat(s: &[u8], at: usize) -> usize
     let count = octet_at(s, at + 6) as usize;
     say(SEAT, 0);
     dump(s, at, 1);
-    say(octet_at(s, at) as usize, 0);
+    say(FLAGS + octet_at(s, at) as usize, 0);
     dump_rows(s, at + 1, SEAT_ROWS, SETTINGS_ROWS);
     dump_identity(s, at + 7, count);
     at + 7 + count

@@ -22,50 +22,51 @@ use timers::Timer;
 use writing::Writing;
 ghost use Prim.Native.Nat.{_<_, _≤_};
 
-// What is printed, in one table. A name is that of one row, or of the first of several: of the phases, the timers, the events.
+// What is printed, in one table. A name is that of one row, or of the first of several: of the phases, the timers, the events. Each stands
+// as many rows behind the one before it as that has.
 const GRANTED: usize = 0;
 
-const TAKEN: usize = 1;
+const TAKEN: usize = GRANTED + 1;
 
-const DENY: usize = 2;
+const DENY: usize = TAKEN + 1;
 
-const IDLE: usize = 3;
+const IDLE: usize = DENY + 1;
 
-const REVOKE: usize = 4;
+const REVOKE: usize = IDLE + 1;
 
-const INFO: usize = 5;
+const INFO: usize = REVOKE + 1;
 
-const PACKET: usize = 6;
+const PACKET: usize = INFO + 1;
 
-const NO_PACKET: usize = 7;
+const NO_PACKET: usize = PACKET + 1;
 
-const PLACED: usize = 8;
+const PLACED: usize = NO_PACKET + 1;
 
-const STRUCK: usize = 9;
+const STRUCK: usize = PLACED + 1;
 
-const ENDED: usize = 10;
+const ENDED: usize = STRUCK + 1;
 
-const AT_ONCE: usize = 11;
+const AT_ONCE: usize = ENDED + 1;
 
-const OUT_OF_LINE: usize = 12;
+const OUT_OF_LINE: usize = AT_ONCE + 1;
 
-const ANSWER: usize = 13;
+const ANSWER: usize = OUT_OF_LINE + 1;
 
-const PHASE: usize = 14;
+const PHASE: usize = ANSWER + 1;
 
-const EMPTY: usize = 18;
+const EMPTY: usize = PHASE + 4;
 
-const ENTRY: usize = 19;
+const ENTRY: usize = EMPTY + 1;
 
-const RUNNING: usize = 20;
+const RUNNING: usize = ENTRY + 1;
 
-const TIMERS: usize = 21;
+const TIMERS: usize = RUNNING + 1;
 
-const SEQUENCE: usize = 28;
+const SEQUENCE: usize = TIMERS + 7;
 
-const END: usize = 29;
+const END: usize = SEQUENCE + 1;
 
-const EVENTS: usize = 30;
+const EVENTS: usize = END + 1;
 
 fn say(k: usize, a: u16, b: u16, c: u16) {
     printing::row(
