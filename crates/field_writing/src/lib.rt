@@ -129,7 +129,8 @@ fn put_text(room: &mut [u8], at: usize, src: &[u8], from: usize, count: usize, l
     requires { ⌜ len ≤ 255 ⌝ }
     ensures { λ r. ⌜ Laid (now (room .entry)) at (part (now (src .entry)) from count ++ replicate (padding len) 0) (now (room .exit)) r ⌝ }
 {
-    let zeros = message::padding(len);
+    // they are at most 3, and the remainder says so to the compiler
+    let zeros = message::padding(len) % 4;
     copying::put_part(room, at, src, from, count);
     copying::put_zeros(room, at + count, zeros);
     at + count + zeros

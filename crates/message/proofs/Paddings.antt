@@ -1,14 +1,15 @@
 -- The padding of a length. Assumes nothing.
-use Prim.Native.Nat.{ℕ, _+_, _*_, _/_, _%_, _≤_}
+use Prim.Native.Nat.{ℕ, _+_, _%_, _≤_, _<_}
 use native.Mathlib.Omega.{arith}
 use mathlib.Core.Path.{_≡_}
 use Rattle.message.specs.Table.{padding, padded}
 
--- a padded field as the code works it out: whole words of 4 octets
-pub padded-is : (l : ℕ) → (l + 5) / 4 * 4 ≡ padded l
-unfolding padded padding
-padded-is l = omega arith
+-- less than a word
+pub padding-less : (l : ℕ) → padding l < 4
+unfolding padding
+padding-less l = omega arith
 
+-- whole words of 4 octets
 pub padded-whole : (l : ℕ) → padded l % 4 ≡ 0
 unfolding padded padding
 padded-whole l = omega arith

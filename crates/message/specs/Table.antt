@@ -1,6 +1,6 @@
 -- The table of fields (document 01, "The packet"): for each ID the least and the greatest L, and how many octets of the content are spare.
 -- Assumes nothing.
-use Prim.Native.Nat.{ℕ, _+_, _-_, _%_}
+use Prim.Native.Nat.{ℕ, _+_, _-_, _*_, _/_}
 use mathlib.Core.Bool.{Bool, true, false, _||_}
 use mathlib.Core.List.{List, [], _∷_}
 use lib.Dec.{ltb, eqb}
@@ -64,9 +64,12 @@ lengthOf i content = length content + rowOf i .spare
 unfoldable pub against : ℕ → ℕ → ℕ → Bool
 against i l n = ltb l (rowOf i .least) || ltb (rowOf i .greatest) l || atFault i n
 
--- "A field is ID, length L, L octets, then padding to a multiple of 4 counted from its ID": the octets of padding, and of the whole field
+-- "A field is ID, length L, L octets, then padding to a multiple of 4 counted from its ID": the octets of padding. ID and L are 2 octets,
+-- so 2 + L are there. Filled up to a multiple of 4 they are (2 + L + 3) / 4 * 4: division cuts off, and with 3 more it cuts off nothing
+-- that is there. The padding is what came to them: 2, 1, 0, 3 octets for an L of 0, 1, 2, 3, and so on around.
 unfoldable pub padding : ℕ → ℕ
-padding l = (4 - (l + 2) % 4) % 4
+padding len = (2 + len + 3) / 4 * 4 - (2 + len)
 
+-- the octets of the whole field
 unfoldable pub padded : ℕ → ℕ
-padded l = 2 + l + padding l
+padded len = 2 + len + padding len

@@ -231,20 +231,22 @@ pub fn against(id: u8, len: u8, number: u16) -> bool
     false
 }
 
-// How many octets a field of this length takes, with its ID, its length and its padding: whole words of 4. Reader and writer ask here.
+// How many octets a field of this length takes: its ID, its length, its content and its padding. Reader and writer ask here.
 pub fn padded(len: usize) -> usize
     requires { ⌜ len ≤ 255 ⌝ }
     ensures { λ r. ⌜ r ≡ padded len ⌝ }
 {
-    (len + 5) / 4 * 4
+    2 + len + padding(len)
 }
 
-// How many of them are padding. It is at most 3, and the remainder says so to the compiler.
+// How many of them are padding, "to a multiple of 4 counted from its ID". The ID and the length are 2 octets, so 2 + len are there. Filled
+// up to a multiple of 4 they are (2 + len + 3) / 4 * 4: division cuts off, and with 3 more it cuts off nothing that is there. The padding
+// is what came to them: 2, 1, 0, 3 octets for a length of 0, 1, 2, 3, and so on around. No other function knows this formula.
 pub fn padding(len: usize) -> usize
     requires { ⌜ len ≤ 255 ⌝ }
     ensures { λ r. ⌜ r ≡ padding len ⌝ }
 {
-    (padded(len) - (len + 2)) % 4
+    (2 + len + 3) / 4 * 4 - (2 + len)
 }
 
 fn has_octet(o: Octet) -> bool

@@ -1,12 +1,14 @@
 -- `field_writing::put_text` keeps its promise, `Laid (now (room .entry)) at (part (now (src .entry)) from count ++ replicate (padding len)
 -- 0) (now (room .exit)) r`. Lays a part of the source, with the padding of a field of length `len` behind it. Assumes nothing.
-use Prim.Native.Nat.{ℕ, _+_, _≤_}
+use Prim.Native.Nat.{ℕ, _+_, _%_, _≤_}
+use native.Mathlib.Omega.{arith}
 use mathlib.Core.List.{List, _++_}
 use mathlib.Core.Path.{_≡_, ap, sym}
 use lib.ListN.{length, replicate, length-replicate, length-append}
 use Rattle.octets.specs.Octets.{part, Laid}
 use Rattle.octets.proofs.Over.{length-part}
 use Rattle.message.specs.Table.{padding}
+use Rattle.message.proofs.Paddings.{padding-less}
 use Rattle.octets.proofs.Lays.{lay-join, lay-as}
 use borrow.Author.Needs.{needs}
 use Rattle.field_writing.proofs.put_text.Statement.{statement}
@@ -42,15 +44,16 @@ returns c = let a = c .before .before .before .before .before .before .before .b
     let e : length xs ≡ a .count = length-part (a .src .now) (a .from) (a .count) (p .0) in
     let l : Laid (a .room .now) (a .at) xs (q .last .0) (a .at + a .count) =
     record { ends = ap (λ (n : ℕ). a .at + n) (sym e); stands = q .ensures } in
-    let n : Laid (q .last .0) (a .at + a .count) (replicate (z .result) 0) (c .before .before .put-zeros .last .0)
-    (a .at + a .count + z .result) =
+    let few : z .result % 4 ≡ padding (a .len) = omega (arith, z .ensures, padding-less (a .len)) in
+    let n : Laid (q .last .0) (a .at + a .count) (replicate (z .result % 4) 0) (c .before .before .put-zeros .last .0)
+    (a .at + a .count + z .result % 4) =
     record {
-      ends = ap (λ (n : ℕ). a .at + a .count + n) (sym (length-replicate (z .result) 0));
+      ends = ap (λ (n : ℕ). a .at + a .count + n) (sym (length-replicate (z .result % 4) 0));
       stands = c .before .before .put-zeros .ensures;
     } in
-    let h : a .at + length (xs ++ replicate (z .result) 0) ≤ length (a .room .now) =
-    rw (length-append, e, length-replicate, z .ensures) (p .1 .0) in
-    lay-as (ap (λ (k : ℕ). xs ++ replicate k 0) (z .ensures)) (lay-join h l n)
+    let h : a .at + length (xs ++ replicate (z .result % 4) 0) ≤ length (a .room .now) =
+    rw (length-append, e, length-replicate, few) (p .1 .0) in
+    lay-as (ap (λ (k : ℕ). xs ++ replicate k 0) few) (lay-join h l n)
 
 pub put-text-spec : {M : Type 1} → statement M
 put-text-spec =
