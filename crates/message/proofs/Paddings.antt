@@ -1,13 +1,8 @@
 -- The padding of a length. Assumes nothing.
-use Prim.Native.Nat.{ℕ, _+_, _%_, _≤_, _<_}
+use Prim.Native.Nat.{ℕ, _+_, _%_, _≤_}
 use native.Mathlib.Omega.{arith}
 use mathlib.Core.Path.{_≡_}
 use Rattle.message.specs.Table.{padding, padded}
-
--- less than a word
-pub padding-less : (l : ℕ) → padding l < 4
-unfolding padding
-padding-less l = omega arith
 
 -- whole words of 4 octets
 pub padded-whole : (l : ℕ) → padded l % 4 ≡ 0

@@ -7,8 +7,8 @@ use mathlib.Core.Path.{_≡_, ap, sym}
 use lib.ListN.{length, replicate, length-replicate, length-append}
 use Rattle.octets.specs.Octets.{part, Laid}
 use Rattle.octets.proofs.Over.{length-part}
-use Rattle.message.specs.Table.{padding}
-use Rattle.message.proofs.Paddings.{padding-less}
+use Rattle.message.specs.Table.{padding, padded}
+use Rattle.message.proofs.Paddings.{padded-most}
 use Rattle.octets.proofs.Lays.{lay-join, lay-as}
 use borrow.Author.Needs.{needs}
 use Rattle.field_writing.proofs.put_text.Statement.{statement}
@@ -36,6 +36,7 @@ same-length : tie.Need-same-length
 same-length c = search needs
 
 returns : tie.Need-returns
+unfolding padded
 returns c = let a = c .before .before .before .before .before .before .before .before .before .before .before .args in
     let p = c .before .before .before .before .before .before .before .before .before .before .before .pre in
     let z = c .before .before .before .before .before .before .before .before .padding in
@@ -44,7 +45,7 @@ returns c = let a = c .before .before .before .before .before .before .before .b
     let e : length xs ≡ a .count = length-part (a .src .now) (a .from) (a .count) (p .0) in
     let l : Laid (a .room .now) (a .at) xs (q .last .0) (a .at + a .count) =
     record { ends = ap (λ (n : ℕ). a .at + n) (sym e); stands = q .ensures } in
-    let few : z .result % 4 ≡ padding (a .len) = omega (arith, z .ensures, padding-less (a .len)) in
+    let few : z .result % 4 ≡ padding (a .len) = omega (arith, z .ensures, padded-most (a .len)) in
     let n : Laid (q .last .0) (a .at + a .count) (replicate (z .result % 4) 0) (c .before .before .put-zeros .last .0)
     (a .at + a .count + z .result % 4) =
     record {
