@@ -17,7 +17,7 @@
 
 LIB ?= floor
 PREFIX = /usr/local
-VERSION = 2.0
+VERSION = 3.0
 
 ifeq ($(shell uname -m),x86_64)
 RUN =

@@ -129,13 +129,16 @@ static void make_packet(size_t length)
     must(at == length, "a packet has another length");
 }
 
-/* Nothing but fields of four octets: the most work that so many octets can be. */
+/* Nothing but fields of four octets: the most fields that so many octets can be. An ID of the table stands once at most, so these are all
+ * skipped ones, by turns one that the table marks so and one past its end. */
 static void make_dense_packet(size_t length)
 {
-    static const uint8_t one[] = {0, 1};
+    static const uint8_t ids[] = {7, 16, 9, 64, 11, 128, 15, 191}, one[] = {0, 1};
+    size_t at = 12;
     put_header(FLOOR_TYPE_REQUEST, FIRST_SSRC, length);
-    for (size_t at = 12; at < length;)
-        at = put_field(at, 13, 2, one);
+    for (size_t i = 0; at < length; i++)
+        at = put_field(at, ids[i % sizeof ids], 2, one);
+    must(at == length, "a packet has another length");
 }
 
 static void make_request(unsigned seat, unsigned priority)
@@ -212,9 +215,19 @@ static void say(const struct library *l, const char *what, const char *which)
     printf("%s %s %s\n", l->name, what, which);
 }
 
+/* Both read the packet, and into the same message: else the table would compare different work. */
+static void must_be_read_alike(void)
+{
+    static uint8_t other[FLOOR_MESSAGE];
+    must(floor_read(packet, packet_len, message, sizeof message) == 0, "the library does not read a packet");
+    must(plain_read(packet, packet_len, other, sizeof other) == 0, "plain C does not read a packet");
+    must(memcmp(message, other, sizeof message) == 0, "the library and plain C read a packet differently");
+}
+
 static void count_read(const struct library *l, const char *which)
 {
     int32_t refused = 0;
+    must_be_read_alike();
     mark();
     for (int i = 0; i < CALLS; i++)
         refused |= l->read(packet, packet_len, message, sizeof message);

@@ -92,7 +92,7 @@ def table(cost):
     row(cost, 'load a sheet of 16 seats', 'load', 'seats-16', None)
 
 def linear(cost):
-    """Reading fields of four octets, the most work for their octets: each octet more costs the same."""
+    """Reading fields of four octets, the most fields for their octets: each octet more costs the same."""
     lengths = (12, 36, 104, 440, 1024)
     costs = [cost['floor', 'read', f'dense-{n}'] for n in lengths]
     slopes = [(b - a) / (n - m) for m, n, a, b in zip(lengths, lengths[1:], costs, costs[1:])]

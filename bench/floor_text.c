@@ -78,6 +78,7 @@ static const struct name refusals[] = {
     {FLOOR_REFUSAL_MISSING, "a required field is missing", NULL},
     {FLOOR_REFUSAL_UNREADABLE, "a message that no reader would accept", NULL},
     {FLOOR_REFUSAL_NO_ROOM, "the lent room is shorter than the whole result", NULL},
+    {FLOOR_REFUSAL_REPEATED, "a second field with an ID of the table", NULL},
     {FLOOR_REFUSAL_NOT_A_DESK, "the lent octets are not a desk's", NULL},
     {FLOOR_REFUSAL_CALL_STOPPED, "the call is Stopped", NULL},
     {FLOOR_REFUSAL_NO_SUCH_SEAT, "no such seat, or no seat has this SSRC", NULL},

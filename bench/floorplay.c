@@ -320,24 +320,19 @@ static const char *put_number(uint64_t id, const char *value, struct floor_messa
     return NULL;
 }
 
-/* One field ID=VALUE into the message; its octets go behind `used` of the source. The reason where it is malformed. A repeated one is
- * judged like any other, and then forgotten. */
+/* One field ID=VALUE into the message; its octets go behind `used` of the source. The reason where it is malformed; a message has no field
+ * twice, so a second one is. */
 static const char *put_field(char *word, struct floor_message *m, size_t *used)
 {
     char *value = strchr(word, '=');
-    struct floor_message scratch;
-    size_t unused = *used;
     uint64_t id;
     if (!value)
         return "not a field";
     *value++ = 0;
     if (!number(word, FLOOR_FIELD_SSRC, &id) || floor_text_field((uint32_t)id, FLOOR_WORDS_PAPER)[0] == '?')
         return "no message has such a field";
-    if (floor_has(floor_two(m->fields), (uint32_t)id)) {
-        m = &scratch;
-        used = &unused;
-        floor_put_two(m->fields, 0);
-    }
+    if (floor_has(floor_two(m->fields), (uint32_t)id))
+        return "a field stands there twice";
     floor_put_two(m->fields, floor_two(m->fields) | 1u << id);
     if (id == FLOOR_FIELD_REJECT_CAUSE || id == FLOOR_FIELD_QUEUE_INFO)
         return put_two_values(id, value, m, used);

@@ -1,5 +1,5 @@
-/* plain.c: document 01 in plain C, written from the document and from docs/FORMS.md, to have something that libfloor.a's speed can be
- * measured against. It works on the lent octets where they stand. See plain.h. */
+/* plain.c: document 01 and what has landed of document 02 in plain C, written from the documents and from docs/FORMS.md, to have something
+ * that libfloor.a's speed can be measured against. It works on the lent octets where they stand. See plain.h. */
 #include "as_plain.h"
 #include <floor.h>
 #include "plain.h"
@@ -191,7 +191,7 @@ static int against_the_table(const uint8_t *p, size_t at)
     return (id == 5 && two(p + at + 2) > 1) || (id == 10 && two(p + at + 2) > 3);
 }
 
-/* What a packet has: bit i of `has` for ID i, and where the content of its first field with that ID starts. */
+/* What a packet has of the table: bit i of `has` for ID i, and where the content of its field with that ID starts. */
 struct found {
     unsigned has;
     uint16_t content[16];
@@ -210,11 +210,12 @@ static int32_t judge(const uint8_t *p, size_t n, struct found *f)
             return FLOOR_REFUSAL_PAST_THE_END;
         if (id >= 16 || least[id] == 0)
             continue;
+        if (f->has >> id & 1)
+            return FLOOR_REFUSAL_REPEATED;
         if (against_the_table(p, at))
             return FLOOR_REFUSAL_AGAINST_THE_TABLE;
-        if (!(f->has >> id & 1))
-            f->content[id] = (uint16_t)(at + 2);
         f->has |= 1u << id;
+        f->content[id] = (uint16_t)(at + 2);
     }
     if (refusal == 0 && (required[p[0] & 15] & ~f->has))
         return FLOOR_REFUSAL_MISSING;

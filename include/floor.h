@@ -11,10 +11,10 @@
  * write the report's two messages (floor_desk_message), send each to the seats it goes to, and set your clocks (floor_desk_clocks).
  * examples/server.c is all of it, in a hundred lines.
  *
- * ONE SIGN. Every function answers an int32_t: 0 or more for done, below 0 for a refusal. A refusal is minus its number in document 01, and
- * FLOOR_REFUSAL_.. have that sign already: `answer == FLOOR_REFUSAL_NOT_A_DESK`, with no minus before it. "Answers" below lists every number,
- * the refusals in the order in which they are tested: of two that fit, the first is answered. -20 is always first, -13 always last. Where it
- * would be a mistake to pass an answer over, the compiler says so.
+ * ONE SIGN. Every function answers an int32_t: 0 or more for done, below 0 for a refusal. A refusal is minus its number in documents 01 and
+ * 02, and FLOOR_REFUSAL_.. have that sign already: `answer == FLOOR_REFUSAL_NOT_A_DESK`, with no minus before it. "Answers" below lists
+ * every number, the refusals in the order in which they are tested: of two that fit, the first is answered. -20 is always first, -13 always
+ * last. Where it would be a mistake to pass an answer over, the compiler says so.
  *
  * TWO NAMES. The proved functions, floor_NAME, work on octets: a pointer and a length for each thing lent. Over each stands an inline function
  * for programs to use, which lends whole structs, so that there is no length to get wrong. Its name has the struct it is about in it, which
@@ -101,7 +101,7 @@ extern "C" {
 
 /* The version of this face. It goes up where a function, a number or a form comes to mean something else; names are kept from 2 on.
  * floor_version answers that of the archive. */
-#define FLOOR_VERSION 2
+#define FLOOR_VERSION 3
 
 /* Sizes in octets. */
 #define FLOOR_DESK 1200       /* a desk */
@@ -122,8 +122,9 @@ extern "C" {
 /* Where a seat would stand, and none does. */
 #define FLOOR_NO_SEAT 255
 
-/* Refusals, each minus its number in document 01. Those of packets (floor_read, floor_packet): -1 to -8 are tested in this order; then the
- * fields from front to back, each for -9 and then -10 (an ID of 192 or above gets -10); then -11. */
+/* Refusals, each minus its number in document 01; -14 has its number from document 02, #107. Those of packets (floor_read, floor_packet):
+ * -1 to -8 are tested in this order; then the fields from front to back, each for -9, then -14, then -10 (an ID of 192 or above gets -10);
+ * then -11. */
 enum floor_refusal {
     FLOOR_REFUSAL_TOO_SHORT = -1,          /* fewer than 12 octets */
     FLOOR_REFUSAL_TOO_LONG = -2,           /* more than 1,024 octets */
@@ -138,6 +139,7 @@ enum floor_refusal {
     FLOOR_REFUSAL_MISSING = -11,           /* a required field is missing */
     FLOOR_REFUSAL_UNREADABLE = -12,        /* a message that no reader would accept, or octets that are no message's or no report's */
     FLOOR_REFUSAL_NO_ROOM = -13,           /* the lent room is shorter than the whole result */
+    FLOOR_REFUSAL_REPEATED = -14,          /* a second field with an ID of the table (enum floor_field) */
     /* of the desk */
     FLOOR_REFUSAL_NOT_A_DESK = -20,        /* the lent octets are not a desk's */
     FLOOR_REFUSAL_CALL_STOPPED = -21,      /* the call is stopped */
@@ -410,7 +412,7 @@ static inline void floor_report_clear(struct floor_report *report)
  *
  * In C     floor_desk_make and floor_desk_load ask it, and stop the program (a trap) where the two do not belong together. A program that
  *          wants to say so in its own words asks first.
- * Answers  2  the version; there is no refusal
+ * Answers  3  the version; there is no refusal
  * Leaves   everything.
  * Example:
  *     assert(floor_version() == FLOOR_VERSION);
@@ -559,13 +561,13 @@ static inline FLOOR_CHECKED int32_t floor_desk_stop(struct floor_desk *desk, str
  * seat's highest, and 0 without that field. One who is not in line and asks for its place is told place 255, priority 0.
  *
  * Takes    packet  the octets as they came, one whole packet and nothing behind it; who sent it is found by its SSRC
- * Answers  0          done; also if the request was denied: a Deny is a message
- *          -20        not a desk
- *          -1 to -11  the packet is not read (FLOOR_REFUSAL_TOO_SHORT to _MISSING), as floor_read answers
- *          -21        the call is stopped
- *          -22        no seat has the packet's SSRC
- *          -23        another type; a Request by the holder in Revoking; a Release by one who neither holds the floor nor waits
- *          -13        fewer than FLOOR_REPORT octets lent
+ * Answers  0               done; also if the request was denied: a Deny is a message
+ *          -20             not a desk
+ *          -1 to -11, -14  the packet is not read (FLOOR_REFUSAL_TOO_SHORT to _MISSING, _REPEATED), as floor_read answers
+ *          -21             the call is stopped
+ *          -22             no seat has the packet's SSRC
+ *          -23             another type; a Request by the holder in Revoking; a Release by one who neither holds the floor nor waits
+ *          -13             fewer than FLOOR_REPORT octets lent
  * Leaves   the packet, the seats, the settings; the whole desk on a Deny and on a Queue Position Request.
  * Example:
  *     assert(floor_desk_packet(&desk, ask0, sizeof ask0, &report) == 0);
@@ -663,13 +665,14 @@ static inline FLOOR_CHECKED int32_t floor_desk_message(const struct floor_desk *
 /* ---- Packets by themselves ---- */
 
 /* Reads a packet into the first FLOOR_MESSAGE octets of a room (struct floor_message); the packet is the source of its parts. A field that is
- * absent is zeros. Required: Granted 1; Taken 4; Deny and Revoke 2; Idle 8; Queue Position Info 3; Ack 10 and 12.
+ * absent is zeros. Required: Granted 1; Taken 4; Deny and Revoke 2; Idle 8; Queue Position Info 3; Ack 10 and 12. Fields come in any order,
+ * each ID of enum floor_field once at most; those with another ID below 192 are skipped, and may repeat. (Version 2 took the first of two.)
  *
  * Takes    packet   the octets as they came, one whole packet and nothing behind it
  *          message  room of FLOOR_MESSAGE octets or more
- * Answers  0          done
- *          -1 to -11  the packet is not read (FLOOR_REFUSAL_TOO_SHORT to _MISSING)
- *          -13        fewer than FLOOR_MESSAGE octets lent
+ * Answers  0               done
+ *          -1 to -11, -14  the packet is not read (FLOOR_REFUSAL_TOO_SHORT to _MISSING, _REPEATED); enum floor_refusal has their order
+ *          -13             fewer than FLOOR_MESSAGE octets lent
  * Leaves   the packet.
  * Example:
  *     assert(floor_message_read(&message, ask0, sizeof ask0) == 0);

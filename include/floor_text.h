@@ -3,8 +3,8 @@
  * Plain C, tested and not proved, and in an archive of its own, libfloor_text.a: link it before libfloor.a. It allocates nothing and keeps
  * nothing.
  *
- * NAMES are strings that stay; a number that has none is "?", never a null pointer. Document 01's words, or Wireshark's (4.0) for the same
- * number, to be found in its window; where Wireshark has no word of its own, both are document 01's.
+ * NAMES are strings that stay; a number that has none is "?", never a null pointer. The words of documents 01 and 02, or Wireshark's (4.0)
+ * for the same number, to be found in its window; where Wireshark has no word of its own, both are the documents'.
  *
  * TEXT is written as snprintf does: into `room`, at most `room_len` octets with the zero behind them; the answer is how many characters the
  * whole text has without that zero, so that an answer of room_len or more says that it was cut. A room of 0 octets may be a null pointer.
@@ -20,7 +20,7 @@ extern "C" {
 #endif
 
 enum floor_words {
-    FLOOR_WORDS_PAPER,    /* document 01 */
+    FLOOR_WORDS_PAPER,    /* documents 01 and 02 */
     FLOOR_WORDS_WIRESHARK
 };
 

@@ -1,7 +1,8 @@
-//! An independent second implementation of the floor control desk of document 01:
-//! the packet reader and writer, the desk's steps and the saved sheet.
+//! An independent second implementation of the floor control desk of document 01, with what
+//! has landed of document 02: the packet reader and writer, the desk's steps and the saved
+//! sheet.
 //!
-//! It was written from the paper alone, to be compared line by line with the first
+//! It was written from the papers alone, to be compared line by line with the first
 //! implementation by way of scripts. `FORMAT.md` says what a script is.
 
 #![forbid(unsafe_code)]

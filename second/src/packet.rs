@@ -1,5 +1,5 @@
 //! The packet: reading and writing (document 01, "The packet" and "What is answered to
-//! packets").
+//! packets"; document 02, #107).
 
 use crate::refusal::Refusal;
 use crate::slices;
@@ -170,8 +170,8 @@ fn pair(high: u8, low: u8) -> u16 {
     u16::from_be_bytes([high, low])
 }
 
-/// Rests on the fields of a packet and hands them out from front to back. It ends at the
-/// end of the packet or after the first fault.
+/// Rests on the fields of a packet and hands them out from front to back, as they stand
+/// there. It ends at the end of the packet or after the first that cannot be handed out.
 pub struct Unpacking<'a> {
     rest: &'a [u8],
 }
@@ -182,7 +182,7 @@ impl<'a> Unpacking<'a> {
         Unpacking { rest: fields }
     }
 
-    fn take(&mut self, id: u8, length: u8) -> Result<Option<Field<'a>>, Refusal> {
+    fn take(&mut self, id: u8, length: u8) -> Result<(u8, &'a [u8]), Refusal> {
         // An ID so high is at fault whether or not its field fits.
         if id >= 192 {
             return Err(Refusal::FieldAtFault);
@@ -191,13 +191,13 @@ impl<'a> Unpacking<'a> {
         let content = self.rest.get(2..end).ok_or(Refusal::FieldPastTheEnd)?;
         let after = self.rest.get(whole_words(end)..);
         self.rest = after.ok_or(Refusal::FieldPastTheEnd)?;
-        Field::weigh(id, content)
+        Ok((id, content))
     }
 }
 
 impl<'a> Iterator for Unpacking<'a> {
-    /// A field, a skipped one as `None`, or the fault.
-    type Item = Result<Option<Field<'a>>, Refusal>;
+    /// The ID of a field, below 192, and its content; or the fault.
+    type Item = Result<(u8, &'a [u8]), Refusal>;
 
     fn next(&mut self) -> Option<Self::Item> {
         let step = match *self.rest {
@@ -232,10 +232,10 @@ impl<'a> Message<'a> {
         }
     }
 
-    /// The same message with one more field. Of a repeated ID the first counts.
+    /// The same message, but that this is its field of that ID. It has one of each at most.
     pub fn with(mut self, field: Field<'a>) -> Message<'a> {
         if let Some(place) = self.fields.get_mut(usize::from(field.id())) {
-            place.get_or_insert(field);
+            *place = Some(field);
         }
         self
     }
@@ -264,7 +264,8 @@ impl<'a> Message<'a> {
             .all(|&id| self.field(id).is_some())
     }
 
-    /// Reads a packet. The checks run in the order of the paper's table.
+    /// Reads a packet. The checks run in the order of the paper's table, with 14 between 9
+    /// and 10 of each field.
     pub fn read(packet: &'a [u8]) -> Result<Message<'a>, Refusal> {
         if packet.len() > LONGEST_PACKET {
             return Err(Refusal::PacketTooLong);
@@ -272,7 +273,12 @@ impl<'a> Message<'a> {
         let (header, fields) = slices::leading(packet).ok_or(Refusal::PacketTooShort)?;
         let mut message = read_header(header, packet.len())?;
         for step in Unpacking::of(fields) {
-            if let Some(field) = step? {
+            let (id, content) = step?;
+            // What is skipped is in no message, so this is about the table's IDs alone.
+            if message.field(id).is_some() {
+                return Err(Refusal::FieldTwice);
+            }
+            if let Some(field) = Field::weigh(id, content)? {
                 message = message.with(field);
             }
         }

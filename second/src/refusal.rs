@@ -1,6 +1,6 @@
-//! The numbered refusals of document 01.
+//! The numbered refusals of document 01, and those that document 02 adds.
 
-/// Why something was refused. The number of each is the paper's.
+/// Why something was refused. The number of each is the papers'.
 ///
 /// Number 20 is not here: it is about the octets that a C program lends.
 #[derive(Clone, Copy, Debug, PartialEq, Eq, Hash)]
@@ -19,6 +19,8 @@ pub enum Refusal {
     FieldMissing = 11,
     NoReaderWouldAccept = 12,
     RoomTooShort = 13,
+    /// A second field with an ID of document 01's field table (document 02, #107).
+    FieldTwice = 14,
     CallNotRunning = 21,
     NobodyThere = 22,
     NotExpectedNow = 23,

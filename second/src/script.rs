@@ -165,10 +165,7 @@ fn understand(words: &[&[u8]]) -> Result<Command, Reason> {
             kind: number(kind)?,
             wants_ack: flag(ack)?,
             ssrc: number(ssrc)?,
-            fields: fields
-                .iter()
-                .map(|word| draft_field(word))
-                .collect::<Result<_, _>>()?,
+            fields: draft_fields(fields)?,
         })),
         _ => understand_event(name, rest).map(Command::Step),
     }
@@ -225,6 +222,20 @@ fn split_at(word: &[u8], mark: u8) -> Result<(&[u8], &[u8]), Reason> {
     let mut parts = word.splitn(2, |&octet| octet == mark);
     let (front, back) = (parts.next(), parts.next());
     front.zip(back).ok_or("bad field")
+}
+
+/// The fields of a message, which has one of each ID at most.
+fn draft_fields(words: &[&[u8]]) -> Result<Vec<DraftField>, Reason> {
+    let mut fields: Vec<DraftField> = Vec::new();
+    for word in words {
+        let field = draft_field(word)?;
+        let id = field.lent().id();
+        if fields.iter().any(|other| other.lent().id() == id) {
+            return Err("an ID stands twice");
+        }
+        fields.push(field);
+    }
+    Ok(fields)
 }
 
 fn draft_field(word: &[u8]) -> Result<DraftField, Reason> {

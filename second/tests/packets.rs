@@ -4,6 +4,9 @@ use second::maker::Dice;
 use second::packet::{Field, Kind, Message};
 use second::refusal::Refusal;
 
+/// The IDs of the paper's field table.
+const TABLED: [u8; 12] = [0, 1, 2, 3, 4, 5, 6, 8, 10, 12, 13, 14];
+
 /// A packet with a length word that tells the truth.
 fn packet(first: u8, fields: &[u8]) -> Vec<u8> {
     let mut packet = vec![first, 204, 0, 0, 0, 0, 0, 1];
@@ -26,6 +29,19 @@ fn field(id: u8, content: &[u8]) -> Vec<u8> {
         octets.push(0xee);
     }
     octets
+}
+
+/// A field that is in order, whatever its ID below 192.
+fn sound(id: u8) -> Vec<u8> {
+    match id {
+        14 => field(id, &[0, 0, 0, 101, 0xee, 0xee]),
+        _ => field(id, &[0, 1]),
+    }
+}
+
+/// What a Request with just these fields is answered.
+fn request(fields: &[Vec<u8>]) -> u8 {
+    refused(&packet(0x80, &fields.concat()))
 }
 
 #[test]
@@ -214,17 +230,229 @@ fn required_fields() {
 }
 
 #[test]
-fn the_first_of_a_repeated_id_counts_and_all_are_judged() {
-    let fields = [field(0, &[9, 1]), field(7, b"skip"), field(0, &[8, 1])].concat();
-    let octets = packet(0x80, &fields);
-    let message = Message::read(&octets).expect("a message");
+fn a_second_field_of_each_of_the_tables_ids_whatever_the_type() {
+    for kind in Kind::ALL {
+        for id in TABLED {
+            let read = |fields: &[Vec<u8>]| {
+                let first = 0x80 | kind.number();
+                let mut fields = fields.concat();
+                // All that the type requires, but for the ID that is tried.
+                for &needed in kind.required() {
+                    if needed != id {
+                        fields.extend(sound(needed));
+                    }
+                }
+                refused(&packet(first, &fields))
+            };
+            assert_eq!(read(&[sound(id)]), 0, "type {kind:?}, ID {id}");
+            let skipped = field(7, b"skip");
+            for fields in [
+                vec![sound(id), sound(id)],
+                vec![sound(id), skipped.clone(), sound(id)],
+                vec![skipped.clone(), sound(id), sound(id), skipped],
+                vec![sound(id), sound(id), sound(id)],
+            ] {
+                assert_eq!(read(&fields), 14, "type {kind:?}, ID {id}");
+            }
+        }
+    }
+}
+
+#[test]
+fn a_second_field_need_not_be_the_same_nor_stand_beside_the_first() {
+    for (first, second) in [([5, 0], [5, 0]), ([5, 0], [6, 0]), ([0, 0], [255, 255])] {
+        let mut fields = vec![field(0, &first)];
+        for id in TABLED.into_iter().skip(1) {
+            fields.push(sound(id));
+        }
+        assert_eq!(request(&fields), 0);
+        fields.push(field(0, &second));
+        assert_eq!(request(&fields), 14);
+    }
+    // The first and the last field of the longest packet there is.
+    let longest = |last: u8| {
+        let filler = field(100, &[7; 254]);
+        let mut fields = vec![sound(4), filler.clone(), filler.clone(), filler];
+        fields.push(field(191, &[7; 174]));
+        fields.push(field(last, &[7; 62]));
+        let packet = packet(0x80, &fields.concat());
+        assert_eq!(packet.len(), 1024);
+        refused(&packet)
+    };
+    assert_eq!(longest(6), 0);
+    assert_eq!(longest(4), 14);
+}
+
+#[test]
+fn skipped_fields_repeat_freely() {
+    for id in (0..192).filter(|id| !TABLED.contains(id)) {
+        for times in 2..=4 {
+            let mut fields = vec![sound(0)];
+            for time in 0..times {
+                fields.push(field(id, &vec![time; usize::from(time)]));
+            }
+            assert_eq!(request(&fields), 0, "ID {id}");
+            let octets = packet(0x80, &fields.concat());
+            let message = Message::new(Kind::Request, 1).with(Field::Priority(0));
+            assert_eq!(Message::read(&octets), Ok(message), "ID {id}");
+            // They are no cover for one that may not repeat.
+            fields.push(sound(0));
+            assert_eq!(request(&fields), 14, "ID {id}");
+        }
+    }
+}
+
+#[test]
+fn ids_that_look_alike_are_not_the_same() {
+    // One who keeps marks for IDs in a word of 16, 32, 64 or 128 bits may mix these up.
+    for id in TABLED {
+        for alike in [16, 32, 64, 128].map(|more| id + more) {
+            assert_eq!(request(&[sound(id), field(alike, &[0, 1])]), 0);
+            assert_eq!(request(&[field(alike, &[0, 1]), sound(id)]), 0);
+        }
+        for other in TABLED.into_iter().filter(|&other| other != id) {
+            assert_eq!(request(&[sound(id), sound(other)]), 0);
+        }
+        // In the content of another field there are no fields.
+        let inside = [vec![0xee, 0xee], sound(id)].concat();
+        assert_eq!(request(&[sound(id), field(7, &inside)]), 0);
+        assert_eq!(request(&[sound(id), field(7, &inside), sound(id)]), 14);
+    }
+}
+
+#[test]
+fn at_a_second_field_9_comes_before_14_and_14_before_10() {
+    for id in TABLED {
+        for length in 0..=255 {
+            // Four octets are left for it.
+            let wanted = if length > 2 { 9 } else { 14 };
+            let cut = vec![id, length, 0, 1];
+            assert_eq!(request(&[sound(id), cut]), wanted, "ID {id}, L {length}");
+            // All its octets are there, whatever the table says of their number.
+            let whole = field(id, &vec![0xff; length.into()]);
+            assert_eq!(request(&[sound(id), whole]), 14, "ID {id}, L {length}");
+        }
+    }
+    for number in 0..=65_535u16 {
+        for id in [5, 10] {
+            let second = field(id, &number.to_be_bytes());
+            assert_eq!(request(&[sound(id), second]), 14, "ID {id}, {number}");
+        }
+    }
+}
+
+/// Fields that get 10 wherever they stand, none of them with the ID that is tried.
+fn faults_beside(id: u8) -> Vec<Vec<u8>> {
+    let faults = [
+        field(0, &[1]),
+        field(2, &[1]),
+        field(4, &[]),
+        field(5, &[0, 2]),
+        field(6, &[b'x'; 63]),
+        field(10, &[0, 4]),
+        field(14, &[0; 5]),
+        field(192, &[0, 1]),
+        field(255, &[]),
+        // Too high an ID is at fault before its length is looked at.
+        vec![192, 255, 0, 0],
+    ];
+    faults.into_iter().filter(|fault| fault[0] != id).collect()
+}
+
+#[test]
+fn an_earlier_fault_comes_before_a_second_field() {
+    for id in TABLED {
+        for fault in faults_beside(id) {
+            let fields = [fault.clone(), sound(id), sound(id)];
+            assert_eq!(request(&fields), 10, "ID {id}, {fault:?}");
+            let fields = [sound(id), fault.clone(), sound(id)];
+            assert_eq!(request(&fields), 10, "ID {id}, {fault:?}");
+        }
+        // One that runs past the end, and octets behind it that would be the second.
+        for other in [id, 7] {
+            let past = vec![other, 255, 0, 0];
+            assert_eq!(request(&[sound(id), past.clone(), sound(id)]), 9);
+            assert_eq!(request(&[past, sound(id), sound(id)]), 9);
+        }
+        // The first of them is at fault itself.
+        let long = field(id, &[0; 255]);
+        let first = if id == 2 { field(id, &[0]) } else { long };
+        assert_eq!(request(&[first, sound(id)]), 10, "ID {id}");
+    }
+    for (id, content) in [(5, [0, 2]), (10, [0, 4])] {
+        assert_eq!(request(&[field(id, &content), sound(id)]), 10);
+    }
+}
+
+#[test]
+fn a_second_field_comes_before_later_faults_and_a_missing_field() {
+    for id in TABLED {
+        for fault in faults_beside(id) {
+            let fields = [sound(id), sound(id), fault.clone()];
+            assert_eq!(request(&fields), 14, "ID {id}, {fault:?}");
+        }
+        for other in [id, 7] {
+            let past = vec![other, 255, 0, 0];
+            assert_eq!(request(&[sound(id), sound(id), past]), 14);
+        }
+        for third in [sound(id), field(id, &[]), field(id, &[0; 255])] {
+            assert_eq!(request(&[sound(id), sound(id), third]), 14);
+        }
+        for kind in Kind::ALL {
+            let twice = [sound(id), sound(id)].concat();
+            assert_eq!(refused(&packet(0x80 | kind.number(), &twice)), 14);
+        }
+    }
+    // Of the two that an Ack requires one is there twice, and that is no help.
+    let twice = [sound(10), sound(10)].concat();
+    assert_eq!(refused(&packet(0x8a, &twice)), 14);
+    assert_eq!(refused(&packet(0x8a, &sound(10))), 11);
+    // One that is skipped and there twice is no fault, and the others come as ever.
+    let skipped = field(7, &[0, 1]);
+    let twice = [skipped.clone(), skipped].concat();
+    assert_eq!(refused(&packet(0x81, &twice)), 11);
     assert_eq!(
-        message,
-        Message::new(Kind::Request, 1).with(Field::Priority(9))
+        refused(&packet(0x81, &[&twice[..], &[7, 3, 0, 0]].concat())),
+        9
     );
-    assert_eq!(message.asked(), 9);
-    let fields = [field(0, &[9, 1]), field(0, &[8])].concat();
-    assert_eq!(refused(&packet(0x80, &fields)), 10);
+    assert_eq!(
+        refused(&packet(0x81, &[&twice[..], &[0, 1, 0, 0]].concat())),
+        10
+    );
+}
+
+#[test]
+fn an_id_of_192_or_above_gets_10_the_first_time() {
+    for id in 192..=255 {
+        let high = field(id, &[0, 1]);
+        assert_eq!(request(&[high.clone(), high.clone()]), 10);
+        assert_eq!(request(&[sound(0), high.clone()]), 10);
+        assert_eq!(request(&[sound(0), vec![id, 255, 0, 0]]), 10);
+        assert_eq!(request(&[sound(0), high.clone(), sound(0)]), 10);
+        assert_eq!(request(&[sound(0), sound(0), high]), 14);
+    }
+}
+
+#[test]
+fn the_header_comes_before_a_second_field() {
+    let mut bad = packet(0x80, &[sound(0), sound(0)].concat());
+    assert_eq!(refused(&bad), 14);
+    bad[0] = 0x87;
+    assert_eq!(refused(&bad), 8);
+    bad[8] = b'm';
+    assert_eq!(refused(&bad), 7);
+    bad[3] = 0;
+    assert_eq!(refused(&bad), 6);
+}
+
+#[test]
+fn a_message_has_one_field_of_an_id() {
+    let message = Message::new(Kind::Request, 1).with(Field::Priority(9));
+    let other = message.with(Field::Priority(8));
+    assert_eq!(other.fields().count(), 1);
+    assert_eq!((message.asked(), other.asked()), (9, 8));
+    let octets = other.to_octets().expect("octets");
+    assert_eq!(Message::read(&octets), Ok(other));
 }
 
 #[test]

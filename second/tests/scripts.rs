@@ -1,41 +1,17 @@
 //! Scripts: what the maker makes, and what the player answers to it.
 
+mod common;
+
 use std::collections::BTreeMap;
 
+use common::{order, played, told};
 use second::maker::{Dice, Maker, Order};
 use second::script::Player;
-
-fn order(seed: u64, count: usize) -> Order {
-    Order {
-        seed,
-        count,
-        wrap: false,
-        write: false,
-        figures: false,
-    }
-}
-
-/// All lines that are answered, with their answers.
-fn played(order: Order) -> Vec<(String, String)> {
-    let mut player = Player::new();
-    let answer = |line: String| player.answer(line.as_bytes()).map(|answer| (line, answer));
-    Maker::new(order).filter_map(answer).collect()
-}
-
-/// The refusal that an answer tells, if it tells one.
-fn refusal(answer: &str) -> Option<u8> {
-    let mut words = answer.split(' ');
-    let number: u8 = match words.next() {
-        Some("A" | "R") => words.next()?.parse().ok()?,
-        _ => return None,
-    };
-    (number != 0).then_some(number)
-}
 
 fn refusals(order: Order) -> BTreeMap<u8, usize> {
     let mut counts = BTreeMap::new();
     for (_, answer) in played(order) {
-        if let Some(number) = refusal(&answer) {
+        if let Some(number) = told(&answer) {
             *counts.entry(number).or_default() += 1;
         }
     }
@@ -45,7 +21,7 @@ fn refusals(order: Order) -> BTreeMap<u8, usize> {
 #[test]
 fn every_refusal_is_reached_within_5000_lines() {
     // What was read can be written, so no command but `write` gets 12.
-    let without_write = (1..=11).chain([13]).chain(21..=28).chain(41..=45);
+    let without_write = (1..=11).chain([13, 14]).chain(21..=28).chain(41..=45);
     let without_write: Vec<u8> = without_write.collect();
     for seed in 0..12 {
         let counts = refusals(order(seed, 5_000));
@@ -164,10 +140,10 @@ fn refused_steps_leave_the_desk_as_it_was() {
             Some(answer) => answer,
             None => continue,
         };
-        if refusal(&answer).is_some() || answer.contains("| Deny ") {
+        if told(&answer).is_some() || answer.contains("| Deny ") {
             assert_eq!(player.desk(), before.as_ref(), "{line}: {answer}");
         }
-        if refusal(&answer).is_some() && answer.starts_with('A') {
+        if told(&answer).is_some() && answer.starts_with('A') {
             assert!(
                 answer.contains(" | - | - 0000 - - - | "),
                 "{line}: {answer}"
@@ -275,6 +251,26 @@ fn lines_that_cannot_be_understood() {
     for line in ["", "  \t", "#", "# start", "  #start", "\r", "\n"] {
         assert_eq!(player.answer(line.as_bytes()), None);
     }
+    // An ID stands once on a line, however it is spelled and whatever else is wrong.
+    for line in [
+        "write 1024 0 0 1 0=5 0=5",
+        "write 1024 0 0 1 0=5 13=1 0=6",
+        "write 1024 0 0 1 0=5 00=5",
+        "write 1024 2 0 1 8=2 4=61 5=1 8=9",
+        "write 1024 2 0 1 4=61 4=-",
+        "write 1024 3 0 1 2=7,- 2=7,61",
+        "write 0 7 0 1 5=2 5=2",
+        "write 1024 0 0 1 0=5 0=256",
+        "write 1024 0 0 1 0=5 0=",
+        "write 1024 0 0 1 0=5 0",
+        "write 1024 0 0 1 7=1 7=1",
+    ] {
+        let answer = player.answer(line.as_bytes()).expect("an answer");
+        assert!(answer.starts_with("? "), "{line}: {answer}");
+    }
+    let all = "write 1024 0 0 1 14=1 0=5 1=30 2=7,- 3=1,5 4=61 5=1 6=62 8=9 10=3 12=0 13=1";
+    let answer = player.answer(all.as_bytes()).expect("an answer");
+    assert!(answer.starts_with("80cc"), "{answer}");
     // A desk that was refused is no desk.
     assert_eq!(player.answer(b"make 1 0 2 2 2 30").as_deref(), Some("R 28"));
     assert_eq!(player.answer(b"save").as_deref(), Some("? no desk"));

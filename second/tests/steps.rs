@@ -145,6 +145,41 @@ fn other_types_are_not_expected_after_21_and_22() {
 }
 
 #[test]
+fn a_packet_with_a_field_twice_is_refused_in_every_phase() {
+    let twice = |ssrc: u32| {
+        let request = Message::new(Kind::Request, ssrc).with(Field::Priority(5));
+        let mut octets = request.to_octets().expect("octets");
+        octets.extend([0, 2, 200, 0]);
+        octets[3] += 1;
+        Event::Packet(octets)
+    };
+    let mut desk = with_seats(desk(roomy()), 3);
+    let steps: [fn(&mut Desk) -> Report; 5] = [
+        |desk| desk.step(Event::Start),
+        |desk| ask(desk, 0, 5),
+        |desk| ask(desk, 1, 5),
+        |desk| ask(desk, 2, 200),
+        |desk| desk.step(Event::Stop),
+    ];
+    let mut phases = Vec::new();
+    for step in steps {
+        // Whoever it is from: it is not read, so it is nobody's.
+        for ssrc in [ssrc(0), ssrc(1), 9, common::DESK_SSRC] {
+            let before = desk.clone();
+            assert_eq!(refusal(&desk.step(twice(ssrc))), 14);
+            assert_eq!(desk, before);
+        }
+        phases.push(desk.phase());
+        assert_eq!(step(&mut desk).number(), 0);
+    }
+    assert_eq!(phases[0], Phase::Stopped);
+    assert_eq!(phases[1], Phase::Idle);
+    assert!(matches!(phases[2..4], [Phase::Taken(_), Phase::Taken(_)]));
+    assert!(matches!(phases[4], Phase::Revoking { .. }));
+    assert_eq!(refusal(&desk.step(twice(ssrc(0)))), 14);
+}
+
+#[test]
 fn a_seat_alone_and_a_seat_that_only_receives() {
     let mut desk = started(wishes(), 1);
     let before = desk.clone();

@@ -131,30 +131,159 @@ static const struct {
     {9, "80cc0003 0000000a 4d435054 07030000"},
     {10, "80cc0003 0000000a 4d435054 c0ff0000"},
     {10, "80cc0003 0000000a 4d435054 00010500"},
-    {10, "80cc0004 0000000a 4d435054 00020500 00000000"},
+    {10, "80cc0004 0000000a 4d435054 0d020500 00000000"}, /* zeros behind the fields are a field 0 of no octets */
     {10, "80cc0003 0000000a 4d435054 04000000"},
     {10, "80cc0003 0000000a 4d435054 05020100"},
     {10, "80cc0003 0000000a 4d435054 0a020004"},
     {11, "81cc0002 0000000a 4d435054"},
     {11, "8acc0003 0000000a 4d435054 0a020000"},
+    {9, "80cc0004 0000000a 4d435054 00020500 00030600"},  /* a second field: 9, then 14, then 10 */
+    {9, "80cc0004 0000000a 4d435054 06014100 06ff4100"},
+    {14, "80cc0004 0000000a 4d435054 00020500 00000000"},
+    {14, "80cc0004 0000000a 4d435054 00020500 00010500"},
+    {14, "80cc0005 0000000a 4d435054 0d020500 0d060500 00000000"},
+    {14, "80cc0004 0000000a 4d435054 06014100 06000000"},
+    {14, "80cc0004 0000000a 4d435054 05020001 05020002"},
+    {14, "80cc0004 0000000a 4d435054 0a020003 0a020004"},
+    {10, "80cc0004 0000000a 4d435054 00020500 c0020500"}, /* from 192 on 10, once or twice */
+    {10, "80cc0004 0000000a 4d435054 00020500 c0ff0500"},
+    {10, "80cc0004 0000000a 4d435054 c0020500 c0020500"},
+    {10, "80cc0004 0000000a 4d435054 00010500 00020500"}, /* an earlier fault, of the first of the two or of another, is answered */
+    {10, "80cc0004 0000000a 4d435054 05020002 05020001"},
+    {10, "80cc0005 0000000a 4d435054 05020002 00020500 00020500"},
+    {10, "80cc0005 0000000a 4d435054 00020500 c0020000 00020500"},
+    {9, "80cc0005 0000000a 4d435054 00020500 07ff0000 00020500"},
+    {14, "80cc0005 0000000a 4d435054 00020500 00020500 0dff0500"}, /* and no later one: 9, 10, 11 */
+    {14, "80cc0005 0000000a 4d435054 00020500 00020500 07ff0500"},
+    {14, "80cc0005 0000000a 4d435054 00020500 00020500 05020002"},
+    {14, "80cc0005 0000000a 4d435054 00020500 00020500 c0020000"},
+    {14, "81cc0004 0000000a 4d435054 00020500 00020500"},
+    {14, "8acc0004 0000000a 4d435054 0a020000 0a020000"},
 };
 
 /* The same from the reader and from the desk, in a stopped call too. */
+static void assert_not_read(int refusal, const struct lent *packet)
+{
+    struct scene s;
+    set_scene(&s, face("read"), NULL, "");
+    s.lent[1] = *packet;
+    assert_refused_first(refusal, face("read"), &s);
+    for (int n = STOPPED; n <= IDLE; n++) {
+        set_scene(&s, face("packet"), thursday_desk(n), "");
+        s.lent[1] = *packet;
+        assert_refused_first(refusal, face("packet"), &s);
+    }
+}
+
 static void test_packet_refusals(void **state)
 {
     struct scene s;
+    struct lent packet;
     (void)state;
     for (size_t i = 0; i < COUNT(bad_packets); i++) {
-        set_scene(&s, face("read"), NULL, bad_packets[i].packet);
-        assert_refused_first(bad_packets[i].refusal, face("read"), &s);
-        for (int n = STOPPED; n <= IDLE; n++) {
-            set_scene(&s, face("packet"), thursday_desk(n), bad_packets[i].packet);
-            assert_refused_first(bad_packets[i].refusal, face("packet"), &s);
-        }
+        lend_hex(&packet, bad_packets[i].packet);
+        assert_not_read(bad_packets[i].refusal, &packet);
     }
     set_scene(&s, face("read"), NULL, "");
     for (s.lent[1].n = 1025; s.lent[1].n <= MOST; s.lent[1].n += 341)
         assert_refused_first(2, face("read"), &s);
+}
+
+/* The table of fields: IDs, and lengths that it allows them. */
+static const struct {
+    unsigned id, length;
+} table[] = {{0, 2}, {1, 2}, {2, 5}, {3, 2}, {4, 1}, {5, 2}, {6, 7}, {8, 2}, {10, 2}, {12, 2}, {13, 2}, {14, 6}};
+
+static int in_the_table(unsigned id)
+{
+    for (size_t i = 0; i < COUNT(table); i++)
+        if (table[i].id == id)
+            return 1;
+    return 0;
+}
+
+/* A packet of seat 0 without fields; and one more field, of zeros. */
+static void lend_packet(struct lent *l, unsigned type)
+{
+    lend_hex(l, "80cc0002 0000000a 4d435054");
+    l->octets[0] |= (uint8_t)type;
+}
+
+static void add_field(struct lent *l, unsigned id, unsigned length)
+{
+    l->octets[l->n] = (uint8_t)id;
+    l->octets[l->n + 1] = (uint8_t)length;
+    l->n += (2 + length + 3) / 4 * 4;
+    l->octets[3] = (uint8_t)(l->n / 4 - 1);
+}
+
+static void lend_every_field(struct lent *l, unsigned type)
+{
+    lend_packet(l, type);
+    for (size_t i = 0; i < COUNT(table); i++)
+        add_field(l, table[i].id, table[i].length);
+}
+
+/* Each field of the table twice, in each type: alone, where something required may be missing; and behind every field, where nothing is. */
+static void test_field_twice(void **state)
+{
+    static const unsigned types[] = {0, 1, 2, 3, 4, 5, 6, 8, 9, 10};
+    (void)state;
+    for (size_t t = 0; t < COUNT(types); t++) {
+        struct lent packet;
+        uint8_t message[FLOOR_MESSAGE];
+        lend_every_field(&packet, types[t]);
+        assert_int_equal(floor_read(packet.octets, packet.n, message, sizeof message), 0);
+        for (size_t i = 0; i < COUNT(table); i++) {
+            lend_packet(&packet, types[t]);
+            add_field(&packet, table[i].id, table[i].length);
+            add_field(&packet, table[i].id, table[i].length);
+            assert_not_read(14, &packet);
+            lend_every_field(&packet, types[t]);
+            add_field(&packet, table[i].id, table[i].length);
+            assert_not_read(14, &packet);
+        }
+    }
+}
+
+/* Read, and a step by it, as the other packet is. */
+static void assert_read_as(const struct lent *packet, const struct lent *other)
+{
+    static const char *const names[] = {"read", "packet"};
+    for (size_t i = 0; i < COUNT(names); i++) {
+        const struct face *f = face(names[i]);
+        struct scene one, two;
+        set_scene(&one, f, thursday_desk(IDLE), "");
+        two = one;
+        one.lent[1] = *packet;
+        two.lent[1] = *other;
+        assert_int_equal(play(f, &one), 0);
+        assert_int_equal(play(f, &two), 0);
+        assert_memory_equal(one.lent[0].octets, two.lent[0].octets, MOST);
+        assert_memory_equal(one.lent[2].octets, two.lent[2].octets, MOST);
+    }
+}
+
+/* Every other ID three times, before and behind a field that counts: below 192 it is skipped each time, from there on refused. */
+static void test_skipped_field_twice(void **state)
+{
+    (void)state;
+    for (unsigned id = 0; id <= 255; id++) {
+        struct lent bare, packet;
+        if (in_the_table(id))
+            continue;
+        lend_packet(&bare, FLOOR_TYPE_REQUEST);
+        add_field(&bare, FLOOR_FIELD_FLOOR_PRIORITY, 2);
+        lend_packet(&packet, FLOOR_TYPE_REQUEST);
+        add_field(&packet, id, 2);
+        add_field(&packet, FLOOR_FIELD_FLOOR_PRIORITY, 2);
+        add_field(&packet, id, 2);
+        add_field(&packet, id, 9);
+        if (id < 192)
+            assert_read_as(&packet, &bare);
+        else
+            assert_not_read(10, &packet);
+    }
 }
 
 #define REQUEST_OF_0 "80cc0003 0000000a 4d435054 00020500"
@@ -744,12 +873,12 @@ static void test_every_field(void **state)
     assert_octets("0a 01 757f ffffffff 05 04 1234 0102 01 02 0001 ffff 0003 8000 deadbeef 0018 0001 0022 0003 002e 0004", s.lent[2].octets, 40);
 }
 
-/* Any order, spare octets and padding with something in them, a field again with other content, skipped fields. */
+/* Any order, spare octets and padding with something in them, skipped fields, one of them again with other content. */
 static void test_what_a_reader_passes_over(void **state)
 {
     struct scene s;
     (void)state;
-    set_scene(&s, face("read"), NULL, "80cc0009 0000000a 4d435054 0e060000 0065eeee 07057777 77777777 000205ee 00020600 0401ee55");
+    set_scene(&s, face("read"), NULL, "80cc0009 0000000a 4d435054 0e060000 0065eeee 07057777 77777777 000205ee 07020600 0401ee55");
     assert_int_equal(play(face("read"), &s), 0);
     assert_octets("00 00 4011 0000000a 05 00 0000 0000 00 00 0000 0000 0000 0000 00000065 0000 0000 0026 0001 0000 0000", s.lent[2].octets, 40);
 }
@@ -824,7 +953,7 @@ static void test_every_refusal_was_reached(void **state)
 {
     (void)state;
     for (int n = 1; n <= 45; n++)
-        if ((n <= 13 || (n >= 20 && n <= 28) || n >= 41) && !reached[n])
+        if ((n <= 14 || (n >= 20 && n <= 28) || n >= 41) && !reached[n])
             fail_msg("no call was refused with %d", n);
 }
 
@@ -836,6 +965,8 @@ int main(void)
         cmocka_unit_test(test_deny_7),
         cmocka_unit_test(test_deny_changes_nothing),
         cmocka_unit_test(test_packet_refusals),
+        cmocka_unit_test(test_field_twice),
+        cmocka_unit_test(test_skipped_field_twice),
         cmocka_unit_test(test_step_refusals),
         cmocka_unit_test(test_join_refusals),
         cmocka_unit_test(test_making_refusals),

@@ -9,7 +9,7 @@ ghost use Rattle.hall.specs.Seats.{settingsOf};
 ghost use Rattle.floor.specs.Promises.{VersionPromise, MakePromise, JoinPromise, LeavePromise, StartPromise, StopPromise, PacketPromise, MediaPromise, TimerPromise, MessagePromise, ReadPromise, WritePromise, SavePromise, LoadPromise, ScreenPromise, PhasePromise, HolderPromise, HolderPriorityPromise, RunningPromise, SequencePromise, C7Promise, C20Promise, SeatsPromise, SeatBySsrcPromise, SeatByIdentityPromise, SeatPromise, SettingsPromise, StartsPromise, StopsPromise};
 
 // Which face this is. A header and an archive that answer the same number belong together.
-const VERSION: u32 = 2;
+const VERSION: u32 = 3;
 
 #[no_mangle]
 pub extern "C" fn floor_version() -> i32

@@ -6,12 +6,13 @@ use Rattle.message.specs.Answers.{Answer, refused, refusalNumber}
 use Rattle.message.specs.declared.Refusal.{Refusal}
 use Rattle.message.specs.declared.Refusal.the-variants.{TooShort, TooLong, NotVersion2, Padded, NotApplication, WrongLength, NotNamed}
 use Rattle.message.specs.declared.Refusal.the-variants.{UnlistedType, PastTheEnd, AgainstTheTable, Missing, Unreadable, NoRoom}
+use Rattle.message.specs.declared.Refusal.the-variants.{Repeated}
 
 -- the refusal that each number names, from 1 on; 0 names none
 abbrev refusals : List Refusal
 refusals =
     TooShort ∷ TooShort ∷ TooLong ∷ NotVersion2 ∷ Padded ∷ NotApplication ∷ WrongLength ∷ NotNamed ∷ UnlistedType ∷ PastTheEnd
-    ∷ AgainstTheTable ∷ Missing ∷ Unreadable ∷ NoRoom ∷ []
+    ∷ AgainstTheTable ∷ Missing ∷ Unreadable ∷ NoRoom ∷ Repeated ∷ []
 
 named : (r : Refusal) → getD refusals (refusalNumber r) TooShort ≡ r
 named TooShort = refl
@@ -27,6 +28,7 @@ named AgainstTheTable = refl
 named Missing = refl
 named Unreadable = refl
 named NoRoom = refl
+named Repeated = refl
 
 pub number-one : (a b : Refusal) → refusalNumber a ≡ refusalNumber b → a ≡ b
 number-one a b e = sym (named a) ∙ ap (λ n. getD refusals n TooShort) e ∙ named b

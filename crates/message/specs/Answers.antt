@@ -1,9 +1,10 @@
--- The answers (document 01, "What is answered to packets"): the number of each refusal, and an answer as the paper has it, a refusal's
--- number or a result. Assumes nothing.
+-- The answers (document 01, "What is answered to packets"; 14: document 02, #107): the number of each refusal, and an answer as the paper
+-- has it, a refusal's number or a result. Assumes nothing.
 use Prim.Native.Nat.{ℕ}
 use Rattle.message.specs.declared.Refusal.{Refusal}
 use Rattle.message.specs.declared.Refusal.the-variants.{TooShort, TooLong, NotVersion2, Padded, NotApplication, WrongLength, NotNamed}
 use Rattle.message.specs.declared.Refusal.the-variants.{UnlistedType, PastTheEnd, AgainstTheTable, Missing, Unreadable, NoRoom}
+use Rattle.message.specs.declared.Refusal.the-variants.{Repeated}
 
 pub data Answer (A : Type 0) : Type 0 where
   refused : ℕ → Answer A
@@ -23,3 +24,4 @@ refusalNumber AgainstTheTable = 10
 refusalNumber Missing = 11
 refusalNumber Unreadable = 12
 refusalNumber NoRoom = 13
+refusalNumber Repeated = 14

@@ -1,5 +1,6 @@
 // A message, its types and the table of its fields (document 01, "The packet" and "What is answered to packets").
 ghost use mathlib.Core.Path.{_≡_};
+ghost use mathlib.Core.Bool.{true};
 ghost use mathlib.Core.List.{List};
 ghost use Prim.Native.Nat.{ℕ, _≤_};
 ghost use Rattle.message.specs.Types.{typed, typeNumber};
@@ -82,7 +83,7 @@ pub struct Message {
     pub ssrc_field: Number,
 }
 
-// The refusals 1 to 13, in the paper's order; `refusalNumber` of specs/ gives each its number.
+// The refusals 1 to 13 of document 01 in its order, and 14 of document 02, #107; `refusalNumber` of specs/ gives each its number.
 pub enum Refusal {
     TooShort,
     TooLong,
@@ -97,6 +98,7 @@ pub enum Refusal {
     Missing,
     Unreadable,
     NoRoom,
+    Repeated,
 }
 
 // The type that a number names: 7 and 11 to 15 are not listed.
@@ -154,6 +156,7 @@ pub fn refusal_number(r: Refusal) -> u8
         Refusal::Missing => 11,
         Refusal::Unreadable => 12,
         Refusal::NoRoom => 13,
+        Refusal::Repeated => 14,
     }
 }
 
@@ -213,22 +216,19 @@ pub fn at_fault(id: u8, number: u16) -> bool
     false
 }
 
-// Whether a field's length, or the number that its content begins with, is against the table.
+// Whether the length of a field of the table, or the number that its content begins with, is against the table.
 pub fn against(id: u8, len: u8, number: u16) -> bool
+    requires { ⌜ listed id ≡ true ⌝ }
     ensures { λ r. ⌜ r ≡ against id len number ⌝ }
 {
-    if is_reached(id) {
-        let i = id as usize;
-        // the mark is asked for only here, so that a field of the table costs no more for it
-        if GREATEST[i] < len {
-            return is_listed(id);
-        }
-        if len < LEAST[i] {
-            return true;
-        }
-        return at_fault(id, number);
+    let i = id as usize;
+    if GREATEST[i] < len {
+        return true;
     }
-    false
+    if len < LEAST[i] {
+        return true;
+    }
+    at_fault(id, number)
 }
 
 // How many octets a field of this length takes: its ID, its length, its content and its padding. Reader and writer ask here.

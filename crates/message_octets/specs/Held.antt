@@ -184,7 +184,7 @@ heldAt s =
 
 -- WHAT IS ANSWERED
 
--- a packet read into a room: the refusal's number, 1 to 11; then 13 if the room is shorter than 40 octets; else 0
+-- a packet read into a room: the refusal's number, 1 to 11 or 14; then 13 if the room is shorter than 40 octets; else 0
 abbrev pub readNumber : Answer Message → ℕ → ℕ
 readNumber (refused n) room = n
 readNumber (result m) room = if ltb room messageSize then 13 else 0

@@ -249,7 +249,7 @@ fn put_held(room: &mut [u8], s: &[u8], kind: MessageType, starts: &[usize; 16])
     put_head(room, s, kind, has);
 }
 
-// Reads a packet into a room for a message: 0, or the number of a refusal, 1 to 11 before 13.
+// Reads a packet into a room for a message: 0, or the number of a refusal, 1 to 11 or 14 before 13.
 pub fn read_held(packet: &[u8], room: &mut [u8]) -> u8
     ensures { λ r. ⌜ r ≡ readHeld (now (packet .entry)) (length (now (room .entry))) ⌝ }
     ensures { λ _. ⌜ now (room .exit) ≡ keptIn (now (packet .entry)) (now (room .entry)) ⌝ }

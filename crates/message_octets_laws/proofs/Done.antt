@@ -2,7 +2,7 @@
 use Prim.Native.Nat.{ℕ, zero, suc, _≤_}
 use native.Mathlib.Omega.{arith}
 use mathlib.Core.Bool.{Bool, true, false}
-use mathlib.Core.List.{List}
+use mathlib.Core.List.{List, [], _∷_}
 use mathlib.Core.Path.{_≡_, refl, sym, _∙_}
 use lib.Dec.{ltb}
 use lib.ListN.{length}
@@ -17,8 +17,8 @@ use Rattle.message.specs.declared.Typed.the-variants.{Listed, Unlisted}
 use Rattle.message.specs.declared.Message.{Message}
 use Rattle.field.specs.declared.FieldFound.{FieldFound}
 use Rattle.field.specs.declared.FieldStep.{FieldStep}
-use Rattle.field.specs.declared.FieldStep.the-variants.{Field, End, PastTheEnd, AgainstTheTable}
-use Rattle.field.specs.Fields.{Fields, whole, fault, infront, stepAt, stepThen, fieldsFrom, fieldsIn}
+use Rattle.field.specs.declared.FieldStep.the-variants.{Field, Skipped, End, PastTheEnd, AgainstTheTable}
+use Rattle.field.specs.Fields.{Fields, whole, fault, infront, among, stepAt, stepThen, fieldsFrom, fieldsIn}
 use Rattle.walk.specs.Starts.{startOf}
 use Rattle.header.specs.Header.{headerSize, typeBits}
 use Rattle.header.specs.Opening.{ofType, opening}
@@ -41,16 +41,26 @@ front-ended : (f : FieldFound) (fs : Fields) → Ended fs → Ended (infront f f
 front-ended f (whole fs) e = tt
 front-ended f (fault n) e = e
 
-step-ended : (t : FieldStep) (rest : ℕ → Fields) → ((p : ℕ) → Ended (rest p)) → Ended (stepThen t rest)
-step-ended End rest e = tt
-step-ended PastTheEnd rest e = omega arith
-step-ended AgainstTheTable rest e = omega arith
-step-ended (Field f) rest e = front-ended f (rest (f .next)) (e (f .next))
+either-ended : (t : Bool) (a b : Fields) → Ended a → Ended b → Ended (if t then a else b)
+unfolding if_then_else_
+either-ended true a b p q = p
+either-ended false a b p q = q
 
-ended : (steps : ℕ) (s : List ℕ) (at : ℕ) → Ended (fieldsFrom steps s at)
+step-ended : (before : List ℕ) (t : FieldStep) (rest : List ℕ → ℕ → Fields) → ((past : List ℕ) (next : ℕ) → Ended (rest past next))
+    → Ended (stepThen before t rest)
+step-ended before End rest e = tt
+step-ended before PastTheEnd rest e = omega arith
+step-ended before (AgainstTheTable i) rest e = either-ended (among before i) (fault 14) (fault 10) (omega arith) (omega arith)
+step-ended before (Field f) rest e =
+    either-ended (among before (f .id)) (fault 14) (infront f (rest (f .id ∷ before) (f .next))) (omega arith)
+    (front-ended f (rest (f .id ∷ before) (f .next)) (e (f .id ∷ before) (f .next)))
+step-ended before (Skipped f) rest e = e before (f .next)
+
+ended : (steps : ℕ) (before s : List ℕ) (at : ℕ) → Ended (fieldsFrom steps before s at)
 unfolding fieldsFrom
-ended zero s at = tt
-ended (suc steps) s at = step-ended (stepAt s at) (λ next. fieldsFrom steps s next) (λ p. ended steps s p)
+ended zero before s at = tt
+ended (suc steps) before s at =
+    step-ended before (stepAt s at) (λ past next. fieldsFrom steps past s next) (λ past next. ended steps past s next)
 
 choice : {A : Type 0} (t : Bool) (a b : Answer A) → Numbered a → Numbered b → Numbered (if t then a else b)
 unfolding if_then_else_
@@ -79,7 +89,7 @@ opening-numbered s =
 opened-numbered : (s : List ℕ) (a : Answer MessageType) → Numbered a → Numbered (opened a s)
 unfolding fieldsIn
 opened-numbered s (refused n) p = p
-opened-numbered s (result k) p = judged-numbered k s (fieldsIn s) (ended (length s) s headerSize)
+opened-numbered s (result k) p = judged-numbered k s (fieldsIn s) (ended (length s) [] s headerSize)
 
 numbered : (s : List ℕ) → Numbered (reading s)
 unfolding reading

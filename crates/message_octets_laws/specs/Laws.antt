@@ -28,7 +28,7 @@ abbrev pub HeldBack : Type 0
 HeldBack = (m : Message) → Near m → heldAt (heldOctets m) ≡ Is m
 
 -- The 40 octets that a packet was read into hold the message that was read; with the packet as source and room for as many octets as it
--- has, the writer puts that message there in its one form: IDs ascending, spare octets and padding zero, and no skipped or repeated field
+-- has, the writer puts that message there in its one form: IDs ascending, spare octets and padding zero, and no skipped field
 -- (proofs/Again).
 pub record WrittenFrom (packet kept room : List ℕ) (m : Message) : Type 0 where
   pub done : readHeld packet (length kept) ≡ 0

@@ -3,7 +3,7 @@ use Prim.Native.Nat.{ℕ, _≤_}
 use native.Mathlib.Omega.{arith}
 use mathlib.Core.Bool.{Bool, true, false, _&&_}
 use mathlib.Core.Path.{_≡_, refl, subst}
-use mathlib.Core.List.{List}
+use mathlib.Core.List.{List, []}
 use lib.Dec.{lit≤}
 use lib.ListN.{length}
 use Rattle.words.specs.Below.{and-left, and-right}
@@ -27,7 +27,8 @@ use Rattle.packet_laws.specs.Again.{WrittenAgain, ReadIsWritten, OnlyTwe
 use Rattle.packet_laws.proofs.Judged.{AllJudged, all-judged, sizeOf}
 use Rattle.packet_laws.proofs.Kept.{Kept, done, _also_, octet-kept, word-kept, number-kept, queue-kept, part-kept, cause-kept}
 use Rattle.packet_laws.proofs.Kept.{part-lies, phrase-lies, all-fit, body-sized}
-use Rattle.packet_laws.proofs.Sizes.{ascends, firsts-within}
+use Rattle.packet_laws.proofs.Walk.{ascends}
+use Rattle.packet_laws.proofs.Sizes.{firsts-within}
 use Rattle.packet_laws.proofs.Back.{read-back}
 
 -- a message that was read, by the fields that were found
@@ -101,7 +102,7 @@ module _ (s : List ℕ) (k : MessageType) (found : List FieldFound) (w : AllJudg
 again : (s : List ℕ) (m : Message) → headerSize ≤ length s → Accepted s m → WrittenAgain s m
 unfolding fieldsIn
 again s m h a =
-    let w : AllJudged s headerSize (a .found) = all-judged s (length s) headerSize (a .found) (a .all) in
+    let w : AllJudged s headerSize (a .found) = all-judged s [] (length s) headerSize (a .found) (a .all) in
     let written : readable m s ≡ true =
     subst (λ x. complete (said x s) ≡ true → readable x s ≡ true) (a .is) (can-be-written s (a .kind) (a .found) w) (a .full) in
     record {

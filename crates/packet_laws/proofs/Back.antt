@@ -12,14 +12,14 @@ use Rattle.words.specs.Below.{and-left, and-right}
 use Rattle.words.specs.Choice.{if_then_else_, if-yes}
 use Rattle.octets.specs.Octets.{be16, be32, octets16, octets32}
 use Rattle.message.specs.Types.{typeNumber}
-use Rattle.message.specs.Table.{rowOf, rowIn, lengthOf}
+use Rattle.message.specs.Table.{rowOf, rowIn, listedIn, lengthOf}
 use Rattle.message.specs.Message.{Field, field, said, fieldsOf, complete, lies}
 use Rattle.message.specs.Answers.{refused, result}
 use Rattle.message.proofs.Types.{type-small, type-back}
 use Rattle.message.specs.declared.MessageType.{MessageType}
 use Rattle.message.specs.declared.Message.{Message}
 use Rattle.field.specs.declared.FieldFound.{FieldFound}
-use Rattle.field.specs.Fields.{fieldsIn}
+use Rattle.field.specs.Fields.{among, fieldsIn}
 use Rattle.walk.specs.Starts.{startOf}
 use Rattle.reading.specs.Reading.{reading, messageAt, judged}
 use Rattle.header.specs.Header.{headerSize, lengthPlace, ssrcPlace, ends, headed, firstOctet}
@@ -32,7 +32,7 @@ use Rattle.octets.proofs.Numbers.{be16-first, be32-first, be16-back, be32-back}
 use Rattle.message.proofs.Paddings.{padded-whole, padded-most}
 use Rattle.packet_laws.proofs.Fits.{agrees}
 use Rattle.packet_laws.proofs.Places.{Stands, octet-back, word-back, number-back, queue-back, part-back, cause-back}
-use Rattle.packet_laws.proofs.Walk.{firstOf, Walked, listed, walk, length-laid}
+use Rattle.packet_laws.proofs.Walk.{firstOf, Walked, allListed, ascends, walk, length-laid}
 
 -- the first octet gives back the type and the Ack bit
 record FirstBack (octet : ℕ) (asks : Bool) (n : ℕ) : Type 0 where
@@ -152,8 +152,8 @@ module _ (m : Message) (src : List ℕ) (e : readable m src ≡ true) where
       }
 
   walked : Walked s (fieldsOf m src) (fieldsIn s)
-  unfolding fieldsIn wire header headed firstOctet said octets16 octets32 listed
-  walked = walk s (fieldsOf m src) (length s) headerSize refl fit refl (omega arith)
+  unfolding fieldsIn among wire header headed firstOctet said octets16 octets32 allListed listedIn if_then_else_ ascends
+  walked = walk s (fieldsOf m src) [] 0 (length s) headerSize refl refl fit (λ i h. refl) refl (omega arith)
 
   same-told : (start : ℕ → ℕ) → ((i : ℕ) → Stands s i (firstOf (fieldsOf m src) i) (start i))
       → said (messageAt (m .kind) s start) s ≡ said m src

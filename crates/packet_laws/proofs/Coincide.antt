@@ -2,7 +2,9 @@
 use mathlib.Core.Path.{_≡_, refl, ap, sym, _∙_}
 use mathlib.Core.List.{List}
 use Prim.Native.Nat.{ℕ}
+use lib.Dec.{eqb}
 use lib.Seq.{ext-getD}
+use Rattle.words.specs.Choice.{if_then_else_}
 use Rattle.message.specs.declared.Message.{Message}
 use Rattle.header.specs.declared.Opening.{Opening}
 use Rattle.header.specs.declared.Opening.the-variants.{Of}
@@ -14,8 +16,7 @@ use Rattle.message.proofs.Answers.{number-one, refusal-one}
 use Rattle.writing.proofs.Ways.{told-one}
 use Rattle.header.proofs.Openings.{told-one as opening-one}
 use Rattle.walk.specs.declared.Walk.{Walk}
-use Rattle.walk.specs.declared.Walk.the-variants.{Whole, PastTheEnd, AgainstTheTable}
-use native.Mathlib.Omega.{arith}
+use Rattle.walk.specs.declared.Walk.the-variants.{Whole, PastTheEnd, AgainstTheTable, Repeated}
 use Rattle.reading.specs.declared.Reading.{Reading}
 use Rattle.reading.specs.declared.Reading.the-variants.{Read}
 use Rattle.reading.specs.Reading.{messageAt, readingAnswer}
@@ -66,20 +67,23 @@ judges-coincide s (Opening.Refused r) (Opening.Refused r′) starts starts′ p 
 pub openings-coincide : OpeningsCoincide
 openings-coincide s r r′ p p′ = opening-one r r′ (p ∙ sym p′)
 
-fault-one : (w w′ : Walk) → (w ≡ Whole → ⊥) → (w′ ≡ Whole → ⊥) → faultNumber w ≡ faultNumber w′ → w ≡ w′
-fault-one Whole Whole n n′ e = refl
-fault-one Whole PastTheEnd n n′ e = absurd (n refl)
-fault-one Whole AgainstTheTable n n′ e = absurd (n refl)
-fault-one PastTheEnd Whole n n′ e = absurd (n′ refl)
-fault-one PastTheEnd PastTheEnd n n′ e = refl
-fault-one PastTheEnd AgainstTheTable n n′ e = absurd (omega arith)
-fault-one AgainstTheTable Whole n n′ e = absurd (n′ refl)
-fault-one AgainstTheTable PastTheEnd n n′ e = absurd (omega arith)
-fault-one AgainstTheTable AgainstTheTable n n′ e = refl
+-- the end of a walk is known by its number
+endOf : ℕ → Walk
+endOf n = if eqb n 9 then PastTheEnd else if eqb n 10 then AgainstTheTable else if eqb n 14 then Repeated else Whole
+
+end-named : (w : Walk) → endOf (faultNumber w) ≡ w
+unfolding endOf if_then_else_
+end-named Whole = refl
+end-named PastTheEnd = refl
+end-named AgainstTheTable = refl
+end-named Repeated = refl
+
+fault-one : (w w′ : Walk) → faultNumber w ≡ faultNumber w′ → w ≡ w′
+fault-one w w′ e = sym (end-named w) ∙ ap endOf e ∙ end-named w′
 
 pub walks-coincide : WalksCoincide
 walks-coincide s w w′ starts starts′ l l′ = go (fieldsIn s) l l′
   where
     go : (fields : Fields) → WholeAnswer fields w starts → WholeAnswer fields w′ starts′ → (w ≡ w′) × (starts ≡ starts′)
     go (whole fs) k k′ = (k .0 ∙ sym (k′ .0), same-notes (whole fs) starts starts′ (k .1) (k′ .1))
-    go (fault n) k k′ = (fault-one w w′ (k .1) (k′ .1) (k .0 ∙ sym (k′ .0)), k .2 ∙ sym (k′ .2))
+    go (fault n) k k′ = (fault-one w w′ (k .0 ∙ sym (k′ .0)), k .2 ∙ sym (k′ .2))

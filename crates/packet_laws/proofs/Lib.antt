@@ -1,5 +1,5 @@
 -- Proofs of specs/Again: Back, Again, Steps, Promised and Coincide each prove the statements that name them; the laws under them stand
--- first.
+-- first. Repeats proves specs/Repeats.
 pub mod Numbers
 pub mod Fits
 pub mod Places
@@ -12,3 +12,4 @@ pub mod Sizes
 pub mod Again
 pub mod Coincide
 pub mod Promised
+pub mod Repeats

@@ -1,8 +1,7 @@
--- "The writer puts IDs in ascending order", each once: so the first fields with these IDs take no more than all fields take.
--- Assumes nothing.
+-- "The writer puts IDs in ascending order", each once: so the fields with these IDs take no more than all fields take. Assumes nothing.
 use Prim.Native.Nat.{ℕ, suc, _+_, _≤_, _<_}
 use native.Mathlib.Omega.{arith}
-use mathlib.Core.Bool.{Bool, true, _&&_}
+use mathlib.Core.Bool.{true}
 use mathlib.Core.Path.{_≡_, refl}
 use mathlib.Core.List.{List, [], _∷_}
 use lib.Dec.{eqb, leb}
@@ -12,13 +11,9 @@ use Rattle.words.specs.Choice.{if_then_else_, if-no, by-test}
 use Rattle.message.specs.Message.{Field}
 use Rattle.message.specs.Table.{padded}
 use Rattle.field.specs.declared.FieldFound.{FieldFound}
+use Rattle.packet_laws.proofs.Walk.{ascends}
 use Rattle.packet_laws.proofs.Judged.{sizeOf, total}
 use Rattle.packet_laws.proofs.Kept.{sum}
-
--- the IDs ascend, from the least on
-unfoldable pub ascends : ℕ → List Field → Bool
-ascends least [] = true
-ascends least (f ∷ fs) = leb least (f .id) && ascends (suc (f .id)) fs
 
 -- one ID's size is another now
 abbrev but : ℕ → ℕ → (ℕ → ℕ) → ℕ → ℕ

@@ -4,7 +4,7 @@
 use Prim.Native.Nat.{ℕ, _+_, _≤_}
 use mathlib.Core.Path.{_≡_}
 use mathlib.Core.Bool.{true}
-use mathlib.Core.List.{List}
+use mathlib.Core.List.{List, []}
 use lib.ListN.{length, take, drop}
 use Rattle.message.specs.declared.Message.{Message}
 use Rattle.message.specs.declared.Refusal.{Refusal}
@@ -55,7 +55,7 @@ OnlyTwelve = (m : Message) (src s : List ℕ) → lies m src ≡ true → ReadsA
 
 -- Every field is judged (proofs/Steps): the walk's steps never run out before the packet does, however many more it were given.
 abbrev pub StepsSuffice : Type 0
-StepsSuffice = (s : List ℕ) (more : ℕ) → fieldsFrom (length s + more) s headerSize ≡ fieldsIn s
+StepsSuffice = (s : List ℕ) (more : ℕ) → fieldsFrom (length s + more) [] s headerSize ≡ fieldsIn s
 
 -- The same through the promises of the code (proofs/Promised), by the very definitions that `reading::read` and `writing::write` promise:
 -- `Reads` of an answer q to s, `Writes` of an answer r and of the room as it is left. First, the answer q to s is a message, and it says

@@ -1,5 +1,6 @@
 -- Worked packets, each by computing alone: octets written here by hand from document 01 ("The packet", "What is answered to packets",
--- "Thursday's exercise"), so that the definitions are held from outside. A packet's first line is its head. Assumes nothing.
+-- "Thursday's exercise") and document 02 (#107), so that the definitions are held from outside. A packet's first line is its head. Assumes
+-- nothing.
 use Prim.Native.Nat.{ℕ}
 use mathlib.Core.Path.{_≡_, refl}
 use mathlib.Core.Bool.{Bool, true, false}
@@ -11,10 +12,10 @@ use Rattle.octets.specs.Octets.{be16, be32, octets16, octets32, part}
 use Rattle.message.specs.declared.MessageType.{MessageType}
 use Rattle.message.specs.declared.MessageType.the-variants.{Request, Granted, Taken, Deny, Idle, Ack}
 use Rattle.message.specs.declared.Part.{Part}
-use Rattle.message.specs.Table.{rowIn, against, atFault, padding, padded}
+use Rattle.message.specs.Table.{rowIn, listedIn, against, atFault, padding, padded}
 use Rattle.message.specs.Message.{Field, field, Said, said, has, hasAll, complete}
 use Rattle.message.specs.Answers.{refused}
-use Rattle.field.specs.Fields.{stepAt, fieldsFrom, fieldsIn}
+use Rattle.field.specs.Fields.{stepAt, among, fieldsFrom, fieldsIn}
 use Rattle.walk.specs.Starts.{startOf}
 use Rattle.reading.specs.Reading.{octetAt, wordAt, numberAt, queueAt, partAt, causeAt, messageAt, reading}
 use Rattle.field_writing.specs.Wire.{fieldOctets, optional, body}
@@ -42,7 +43,7 @@ with k asksAck ssrc fs =
 -- all that reading and writing stand on, opened, so that a packet computes
 opened : Type 0
 unfolding
-    reading opening ends messageAt octetAt wordAt numberAt queueAt partAt causeAt fieldsIn fieldsFrom stepAt startOf
+    reading opening ends messageAt octetAt wordAt numberAt queueAt partAt causeAt fieldsIn fieldsFrom stepAt among listedIn startOf
     wire header headed firstOctet body optional fieldOctets said complete hasAll has against atFault rowIn padded padding
     be16 be32 octets16 octets32 part if_then_else_
 opened = ℕ
@@ -139,13 +140,13 @@ pub acked-read : ReadsAs acked (with Ack false 1 (field 10 (some (0 ∷ 2 ∷ []
 unfolding opened
 acked-read = record { message = _; read = refl; same = refl }
 
--- "Every other ID below 192 is skipped by its length": ID 7 with three octets; then "of a repeated ID the first counts": priority 5, then 9
+-- "Every other ID below 192 is skipped by its length", "skipped IDs may still repeat": ID 7 with three octets, priority 5, and 7 again
 abbrev asks : List ℕ
 asks =
     0x80 ∷ 0xCC ∷ 0x00 ∷ 0x06 ∷ 0x00 ∷ 0x00 ∷ 0x00 ∷ 0x01 ∷ 0x4D ∷ 0x43 ∷ 0x50 ∷ 0x54
     ∷ 0x07 ∷ 0x03 ∷ 0x00 ∷ 0x02 ∷ 0x09 ∷ 0x00 ∷ 0x00 ∷ 0x00
     ∷ 0x00 ∷ 0x02 ∷ 0x05 ∷ 0x00
-    ∷ 0x00 ∷ 0x02 ∷ 0x09 ∷ 0x00 ∷ []
+    ∷ 0x07 ∷ 0x02 ∷ 0x09 ∷ 0x00 ∷ []
 
 pub asks-read : ReadsAs asks (with Request false 1 (field 0 (some (5 ∷ [])) ∷ []))
 unfolding opened
@@ -169,3 +170,57 @@ above =
 pub above-refused : reading above ≡ refused 10
 unfolding opened
 above-refused = refl
+
+-- "A faulty handset sent two Floor Priority fields": 14. The second is priority 9; it has a wrong L; it runs past the end.
+abbrev twice : ℕ → List ℕ
+twice l =
+    0x80 ∷ 0xCC ∷ 0x00 ∷ 0x04 ∷ 0x00 ∷ 0x00 ∷ 0x00 ∷ 0x01 ∷ 0x4D ∷ 0x43 ∷ 0x50 ∷ 0x54
+    ∷ 0x00 ∷ 0x02 ∷ 0x05 ∷ 0x00
+    ∷ 0x00 ∷ l ∷ 0x09 ∷ 0x00 ∷ []
+
+pub twice-refused : reading (twice 2) ≡ refused 14
+unfolding opened
+twice-refused = refl
+
+-- "at the second field, after 9 and before 10"
+pub twice-before-10 : reading (twice 1) ≡ refused 14
+unfolding opened
+twice-before-10 = refl
+
+pub twice-after-9 : reading (twice 3) ≡ refused 9
+unfolding opened
+twice-after-9 = refl
+
+-- front to back: a field between the two that is against the table (Source 4) is met first; behind them it comes too late
+abbrev between : List ℕ
+between =
+    0x80 ∷ 0xCC ∷ 0x00 ∷ 0x05 ∷ 0x00 ∷ 0x00 ∷ 0x00 ∷ 0x01 ∷ 0x4D ∷ 0x43 ∷ 0x50 ∷ 0x54
+    ∷ 0x00 ∷ 0x02 ∷ 0x05 ∷ 0x00
+    ∷ 0x0A ∷ 0x02 ∷ 0x00 ∷ 0x04
+    ∷ 0x00 ∷ 0x02 ∷ 0x09 ∷ 0x00 ∷ []
+
+pub between-refused : reading between ≡ refused 10
+unfolding opened
+between-refused = refl
+
+abbrev behind : List ℕ
+behind =
+    0x80 ∷ 0xCC ∷ 0x00 ∷ 0x05 ∷ 0x00 ∷ 0x00 ∷ 0x00 ∷ 0x01 ∷ 0x4D ∷ 0x43 ∷ 0x50 ∷ 0x54
+    ∷ 0x00 ∷ 0x02 ∷ 0x05 ∷ 0x00
+    ∷ 0x00 ∷ 0x02 ∷ 0x09 ∷ 0x00
+    ∷ 0x0A ∷ 0x02 ∷ 0x00 ∷ 0x04 ∷ []
+
+pub behind-refused : reading behind ≡ refused 14
+unfolding opened
+behind-refused = refl
+
+-- 11 last: a Granted that says its priority twice and no duration
+abbrev lacks : List ℕ
+lacks =
+    0x81 ∷ 0xCC ∷ 0x00 ∷ 0x04 ∷ 0x00 ∷ 0x00 ∷ 0x00 ∷ 0x01 ∷ 0x4D ∷ 0x43 ∷ 0x50 ∷ 0x54
+    ∷ 0x00 ∷ 0x02 ∷ 0x05 ∷ 0x00
+    ∷ 0x00 ∷ 0x02 ∷ 0x05 ∷ 0x00 ∷ []
+
+pub lacks-refused : reading lacks ≡ refused 14
+unfolding opened
+lacks-refused = refl

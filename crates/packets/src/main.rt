@@ -23,31 +23,31 @@ const FIELDS: usize = 11;
 
 const REFUSALS: usize = 26;
 
-const SSRC: usize = 40;
+const SSRC: usize = 41;
 
-const ACK_ASKED: usize = 41;
+const ACK_ASKED: usize = 42;
 
-const PHRASE: usize = 42;
+const PHRASE: usize = 43;
 
-const LETTERS: usize = 43;
+const LETTERS: usize = 44;
 
-const ALL: usize = 44;
+const ALL: usize = 45;
 
-const MORE: usize = 45;
+const MORE: usize = 46;
 
-const OCTETS: usize = 46;
+const OCTETS: usize = 47;
 
-const AGAIN: usize = 47;
+const AGAIN: usize = 48;
 
-const OTHER: usize = 48;
+const OTHER: usize = 49;
 
-const SAME: usize = 49;
+const SAME: usize = 50;
 
-const WRITTEN: usize = 50;
+const WRITTEN: usize = 51;
 
-const TITLE: usize = 51;
+const TITLE: usize = 52;
 
-const EDGES: usize = 52;
+const EDGES: usize = 53;
 
 fn say(k: usize, a: u64, b: u64) {
     printing::row(
@@ -92,6 +92,7 @@ fn say(k: usize, a: u64, b: u64) {
           refused %: a required field is missing\n^\
           refused %: no reader would accept it\n^\
           refused %: the room is too short\n^\
+          refused %: a second field with its ID\n^\
           , SSRC %\n^\
           , an Ack is asked for, SSRC %\n^\
           , ^\

@@ -18,9 +18,10 @@ fn place_behind(step: FieldStep, at: usize) -> usize
 {
     match step {
         FieldStep::Field(f) => f.next,
+        FieldStep::Skipped(f) => f.next,
         FieldStep::End => at,
         FieldStep::PastTheEnd => at,
-        FieldStep::AgainstTheTable => at,
+        FieldStep::AgainstTheTable(_) => at,
     }
 }
 

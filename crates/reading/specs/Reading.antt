@@ -1,5 +1,5 @@
--- What the reader answers (document 01, "What is answered to packets", 1 to 11, in that order), and the message that a packet is (document
--- 01, "The packet"). Assumes nothing.
+-- What the reader answers (document 01, "What is answered to packets", 1 to 11, in that order, with 14 of document 02, #107, among the
+-- checks of a field), and the message that a packet is (document 01, "The packet"). Assumes nothing.
 use Prim.Native.Nat.{ℕ, _+_, _-_}
 use mathlib.Core.List.{List}
 use mathlib.Core.Path.{_≡_}
@@ -64,7 +64,7 @@ messageAt k s start =
       «ssrc_field» = numberAt s (start 14);
     }
 
--- 9 and 10 as the fields are judged, 11 last
+-- 9, 14 and 10 as the fields are judged, 11 last
 abbrev pub judged : MessageType → List ℕ → Fields → Answer Message
 judged k s (fault n) = refused n
 judged k s (whole fs) =

@@ -1,5 +1,5 @@
-// Reading (document 01, "The packet" and "What is answered to packets", 1 to 11): the header, all fields as the reader that rests on the
-// packet hands them out, and then the message.
+// Reading (document 01, "The packet" and "What is answered to packets", 1 to 11; document 02, #107, 14): the header, all fields as the reader
+// that rests on the packet hands them out, and then the message.
 use header::Opening;
 use message::Cause;
 use message::Has;
@@ -132,7 +132,7 @@ fn has_all(kind: MessageType, starts: &[usize; 16]) -> bool
     message::has_required(kind, has)
 }
 
-// Checks 9 to 11.
+// Checks 9, 14 and 10 of each field, then 11.
 fn judge_fields(s: &[u8], kind: MessageType, starts: &mut [usize; 16]) -> Opening
     requires { ⌜ now starts ≡ replicate 16 0 ⌝ }
     requires { ⌜ opening (now s) ≡ result kind ⌝ }
@@ -148,6 +148,7 @@ fn judge_fields(s: &[u8], kind: MessageType, starts: &mut [usize; 16]) -> Openin
         }
         Walk::PastTheEnd => Opening::Refused(Refusal::PastTheEnd),
         Walk::AgainstTheTable => Opening::Refused(Refusal::AgainstTheTable),
+        Walk::Repeated => Opening::Refused(Refusal::Repeated),
     }
 }
 

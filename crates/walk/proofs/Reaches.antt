@@ -2,7 +2,7 @@
 -- Assumes nothing.
 use Prim.Native.Nat.{ℕ, zero, suc, _+_, _-_, _≤_}
 use native.Mathlib.Omega.{arith}
-use mathlib.Core.Bool.{false}
+use mathlib.Core.Bool.{Bool, true, false}
 use mathlib.Core.List.{List, [], _∷_}
 use mathlib.Core.Path.{_≡_, refl, sym, ap, subst}
 use lib.Dec.{ltb, eqb, lit<}
@@ -15,8 +15,8 @@ use Rattle.message.proofs.Paddings.{padded-least, padded-holds}
 use Rattle.header.specs.Header.{headerSize}
 use Rattle.field.specs.declared.FieldFound.{FieldFound}
 use Rattle.field.specs.declared.FieldStep.{FieldStep}
-use Rattle.field.specs.declared.FieldStep.the-variants.{Field, End, PastTheEnd, AgainstTheTable}
-use Rattle.field.specs.Fields.{idAt, lengthAt, stepAt, Fields, whole, fault, infront, stepThen, fieldsFrom, fieldsIn}
+use Rattle.field.specs.declared.FieldStep.the-variants.{Field, Skipped, End, PastTheEnd, AgainstTheTable}
+use Rattle.field.specs.Fields.{idAt, lengthAt, stepAt, Fields, whole, fault, infront, among, stepThen, fieldsFrom, fieldsIn}
 use Rattle.field.proofs.Steps.{Sound, step-sound}
 use Rattle.walk.specs.Starts.{startOf}
 use Rattle.walk.specs.Walk.{Notes, Reach}
@@ -34,10 +34,10 @@ not-short i l n e = ltb-false l (rowOf i .least) (neither-left _ _ (neither-left
 
 sound-lies : (s : List ℕ) (at : ℕ) (f : FieldFound) → Sound s at f → Lies s f
 sound-lies s at f k =
-    rw (k .is)
+    rw (k .lies .is)
     (record {
-      two = omega (arith, padded-least (lengthAt s at), k .fits);
-      all = omega (arith, padded-holds (lengthAt s at), k .fits);
+      two = omega (arith, padded-least (lengthAt s at), k .lies .fits);
+      all = omega (arith, padded-holds (lengthAt s at), k .lies .fits);
       least = not-short (idAt s at) (lengthAt s at) _ (k .fine);
       before = ap (λ (n : ℕ). getD s n 0) (omega arith);
     })
@@ -63,29 +63,42 @@ behind s f fs i (whole gs) l e next =
     subst (λ (hs : List FieldFound). Start s hs i) q (start-more s f gs i l (next gs refl))
 behind s f fs i (fault n) l e next = absurd (differ (cc))
 
-by-step : (s : List ℕ) (at : ℕ) (fs : List FieldFound) (i : ℕ) (x : FieldStep) (rest : ℕ → Fields) → stepAt s at ≡ x →
-    stepThen x rest ≡ whole fs
-    → ((next : ℕ) (gs : List FieldFound) → rest next ≡ whole gs → Start s gs i) → Start s fs i
-unfolding startOf
-by-step s at fs i (Field f) rest q e next = behind s f fs i (rest (f .next)) (sound-lies s at f (step-sound s at f q)) e (next (f .next))
-by-step s at fs i End rest q e next =
-    let z : [] ≡ fs = cc in
-    subst (λ (hs : List FieldFound). Start s hs i) z (none refl)
-by-step s at fs i PastTheEnd rest q e next = absurd (differ (cc))
-by-step s at fs i AgainstTheTable rest q e next = absurd (differ (cc))
+-- where the fields are whole no fault was met
+pub no-fault : {P : Type 0} (t : Bool) (n : ℕ) (rest : Fields) (fs : List FieldFound) → (if t then fault n else rest) ≡ whole fs
+    → (t ≡ false → rest ≡ whole fs → P) → P
+unfolding if_then_else_
+no-fault true n rest fs e then-so = absurd (differ (cc))
+no-fault false n rest fs e then-so = then-so refl e
 
-starts : (steps : ℕ) (s : List ℕ) (at : ℕ) (fs : List FieldFound) → fieldsFrom steps s at ≡ whole fs → (i : ℕ) → Start s fs i
-unfolding fieldsFrom startOf
-starts zero s at fs e i =
+by-step : (s : List ℕ) (at : ℕ) (fs : List FieldFound) (i : ℕ) (before : List ℕ) (x : FieldStep) (rest : List ℕ → ℕ → Fields)
+    → stepAt s at ≡ x → stepThen before x rest ≡ whole fs
+    → ((past : List ℕ) (next : ℕ) (gs : List FieldFound) → rest past next ≡ whole gs → Start s gs i) → Start s fs i
+unfolding startOf
+by-step s at fs i before (Field f) rest q e next =
+    no-fault (among before (f .id)) 14 (infront f (rest (f .id ∷ before) (f .next))) fs e
+    (λ new z.
+    behind s f fs i (rest (f .id ∷ before) (f .next)) (sound-lies s at f (step-sound s at f q)) z (next (f .id ∷ before) (f .next)))
+by-step s at fs i before (Skipped f) rest q e next = next before (f .next) fs e
+by-step s at fs i before End rest q e next =
     let z : [] ≡ fs = cc in
     subst (λ (hs : List FieldFound). Start s hs i) z (none refl)
-starts (suc steps) s at fs e i =
-    by-step s at fs i (stepAt s at) (λ next. fieldsFrom steps s next) refl e (λ next gs q. starts steps s next gs q i)
+by-step s at fs i before PastTheEnd rest q e next = absurd (differ (cc))
+by-step s at fs i before (AgainstTheTable j) rest q e next =
+    no-fault (among before j) 14 (fault 10) fs e (λ new (z : fault 10 ≡ whole fs). absurd (differ (cc)))
+
+starts : (steps : ℕ) (before s : List ℕ) (at : ℕ) (fs : List FieldFound) → fieldsFrom steps before s at ≡ whole fs → (i : ℕ) → Start s fs i
+unfolding fieldsFrom startOf
+starts zero before s at fs e i =
+    let z : [] ≡ fs = cc in
+    subst (λ (hs : List FieldFound). Start s hs i) z (none refl)
+starts (suc steps) before s at fs e i =
+    by-step s at fs i before (stepAt s at) (λ past next. fieldsFrom steps past s next) refl e
+    (λ past next gs q. starts steps past s next gs q i)
 
 pub reach : (s : List ℕ) (fs : List FieldFound) → headerSize ≤ length s → fieldsIn s ≡ whole fs → Reach s (startOf fs)
 unfolding fieldsIn rowIn if_then_else_
 reach s fs h e =
-    let at : (i : ℕ) → Start s fs i = starts (length s) s headerSize fs e in
+    let at : (i : ℕ) → Start s fs i = starts (length s) [] s headerSize fs e in
     record {
       long = h;
       two = λ i. elim (at i) [ none z ↦ omega arith | one f k q z ↦ omega (arith, k .two) ];

@@ -5,8 +5,8 @@ use lib.Dec.{eqb}
 use Rattle.words.specs.Choice.{if_then_else_}
 use Rattle.field.specs.declared.FieldFound.{FieldFound}
 
--- "of a repeated ID the first counts": where the content of the first field with this ID starts; 0 if there is none, since none starts
--- there
+-- A message's fields are found by their ID: where the content of the field with this ID starts; 0 if there is none, since none starts
+-- there. There is one of each (document 02, #107; `OneOfEach` of packet_laws/specs/Repeats).
 unfoldable pub startOf : List FieldFound → ℕ → ℕ
 startOf [] i = 0
 startOf (f ∷ fs) i = if eqb i (f .id) then f .start else startOf fs i

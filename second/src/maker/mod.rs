@@ -7,6 +7,7 @@ mod dice;
 mod papers;
 mod parcel;
 mod people;
+mod twice;
 mod wording;
 
 use std::collections::VecDeque;
@@ -85,6 +86,7 @@ enum Act {
     StrangerPacket,
     EdgePacket,
     DamagedPacket,
+    TwicePacket,
     Read,
     Rewrite,
     Write,
@@ -99,7 +101,7 @@ enum Act {
     Comment,
 }
 
-const ACTS: [(usize, Act); 32] = [
+const ACTS: [(usize, Act); 33] = [
     (300, Act::Ask),
     (60, Act::AskAgain),
     (25, Act::HolderReleases),
@@ -120,6 +122,7 @@ const ACTS: [(usize, Act); 32] = [
     (15, Act::StrangerPacket),
     (10, Act::EdgePacket),
     (45, Act::DamagedPacket),
+    (25, Act::TwicePacket),
     (70, Act::Read),
     (40, Act::Rewrite),
     (30, Act::Write),
@@ -558,16 +561,17 @@ impl Maker {
 
     /// Mostly a start; now and then what a call that is Stopped refuses.
     fn act_while_stopped(&mut self) {
-        if self.dice.chance(85) {
+        if self.dice.chance(80) {
             return self.say("start");
         }
         let timer = self.dice.any_of([1, 4, 7, 99]);
         let ssrc = self.some_ssrc();
-        match self.dice.below(4) {
+        match self.dice.below(6) {
             0 => self.say("stop"),
             1 => self.say(format!("timer {timer}")),
             2 => self.say(format!("media {ssrc}")),
-            _ => self.ask(),
+            3 => self.ask(),
+            _ => self.perform(Act::TwicePacket),
         }
     }
 
@@ -593,6 +597,11 @@ impl Maker {
             Act::DamagedPacket => {
                 let ssrc = self.some_ssrc();
                 let packet = parcel::damaged(&mut self.dice, ssrc);
+                self.say(format!("packet {}", Hex(&packet)));
+            }
+            Act::TwicePacket => {
+                let ssrc = self.some_ssrc();
+                let packet = twice::packet(&mut self.dice, ssrc);
                 self.say(format!("packet {}", Hex(&packet)));
             }
             Act::Read => self.read("read"),
@@ -698,8 +707,8 @@ impl Maker {
             };
             parcel.fields.push(Raw::new(0, vec![priority, spare]));
         }
-        // Of a repeated ID the first counts.
-        if self.dice.chance(4) && priority.is_some() {
+        // A faulty handset sends a second one, for which the whole packet is refused.
+        if self.dice.chance(3) && priority.is_some() {
             parcel.fields.push(parcel::sound_field(&mut self.dice, 0));
         }
         self.dress(&mut parcel);
@@ -711,11 +720,15 @@ impl Maker {
         parcel.ack = self.dice.chance(12);
         if self.dice.chance(12) {
             let id = self.dice.any_of([6, 13, 14, 11, 9, 191, 2, 12]);
-            let field = parcel::sound_field(&mut self.dice, id);
-            if self.dice.chance(50) {
-                parcel.fields.insert(0, field);
-            } else {
-                parcel.fields.push(field);
+            // What is skipped may be there twice.
+            let again = matches!(id, 9 | 11 | 191) && self.dice.chance(40);
+            for _ in 0..=u8::from(again) {
+                let field = parcel::sound_field(&mut self.dice, id);
+                if self.dice.chance(50) {
+                    parcel.fields.insert(0, field);
+                } else {
+                    parcel.fields.push(field);
+                }
             }
         }
     }
@@ -774,10 +787,11 @@ impl Maker {
     fn read(&mut self, command: &str) {
         let ssrc = people::ssrc(&mut self.dice);
         let kind = self.dice.any_of(LISTED);
-        let packet = match self.dice.below(10) {
+        let packet = match self.dice.below(12) {
             0..=4 => parcel::sound(&mut self.dice, kind, ssrc).octets(&mut self.dice),
             5..=8 => parcel::damaged(&mut self.dice, ssrc),
-            _ => parcel::at_an_edge(&mut self.dice, ssrc),
+            9 => parcel::at_an_edge(&mut self.dice, ssrc),
+            _ => twice::packet(&mut self.dice, ssrc),
         };
         self.say(format!("{command} {}", Hex(&packet)));
     }
@@ -856,7 +870,11 @@ impl Maker {
             ids.clear();
         }
         for _ in 0..self.dice.any_of([0, 1, 2, 5]) {
-            ids.push(self.dice.any_of([0, 1, 2, 3, 4, 5, 6, 8, 10, 12, 13, 14]));
+            let id = parcel::any_tabled(&mut self.dice);
+            // A line that names an ID twice is malformed, so few do.
+            if !ids.contains(&id) || self.dice.chance(6) {
+                ids.push(id);
+            }
         }
         self.dice.shuffle(&mut ids);
         let fields: Vec<String> = ids.iter().map(|&id| self.drafted(id)).collect();
@@ -902,6 +920,8 @@ impl Maker {
     /// Takes a desk to just below the greatest number by the shortest way, and past it by
     /// ordinary steps.
     fn past_the_greatest_sequence(&mut self) {
+        // Where few stop, few are given the floor: the number would take thousands of lines.
+        self.crowded = false;
         self.say("make 9 200 15 255 2 30");
         self.fill(6);
         self.say("start");

@@ -7,8 +7,11 @@ use super::people;
 /// The numbers of the types, those that are listed and those that are not.
 pub const LISTED: [u8; 10] = [0, 1, 2, 3, 4, 5, 6, 8, 9, 10];
 const UNLISTED: [u8; 6] = [7, 11, 12, 13, 14, 15];
-const TABLED: [u8; 12] = [0, 1, 2, 3, 4, 5, 6, 8, 10, 12, 13, 14];
-const SKIPPED: [u8; 8] = [7, 9, 11, 15, 16, 100, 190, 191];
+/// The IDs of the table's fields.
+pub const TABLED: [u8; 12] = [0, 1, 2, 3, 4, 5, 6, 8, 10, 12, 13, 14];
+/// Some of those that are skipped. One who keeps a mark for each ID in too few bits takes 16,
+/// 32, 64 or 128 for 0.
+const SKIPPED: [u8; 11] = [7, 9, 11, 15, 16, 32, 64, 100, 128, 190, 191];
 
 /// A field before it becomes octets. It may claim a length that it does not have.
 #[derive(Clone, Debug)]
@@ -22,6 +25,11 @@ impl Raw {
     pub fn new(id: u8, content: Vec<u8>) -> Raw {
         let claim = content.len().min(255) as u8;
         Raw { id, claim, content }
+    }
+
+    /// The octets that it takes in a packet, its padding with them.
+    pub fn size(&self) -> usize {
+        (2 + self.content.len() + 3) / 4 * 4
     }
 }
 
@@ -112,15 +120,40 @@ fn number(dice: &mut Dice) -> Vec<u8> {
     number.to_be_bytes().to_vec()
 }
 
+pub fn any_tabled(dice: &mut Dice) -> u8 {
+    dice.any_of(TABLED)
+}
+
+pub fn any_skipped(dice: &mut Dice) -> u8 {
+    dice.any_of(SKIPPED)
+}
+
 fn any_id(dice: &mut Dice) -> u8 {
     if dice.chance(75) {
-        dice.any_of(TABLED)
+        any_tabled(dice)
     } else {
-        dice.any_of(SKIPPED)
+        any_skipped(dice)
     }
 }
 
-/// A packet that is in order: any type, fields of any ID in any order, some repeated.
+/// An ID for one more field beside these that leaves a packet in order: of the table's one
+/// that is not there yet, and at times a skipped one that is there already.
+pub fn further_id(dice: &mut Dice, fields: &[Raw]) -> u8 {
+    let is_there = |id: u8| fields.iter().any(|field| field.id == id);
+    let mut ids = Vec::new();
+    if dice.chance(75) {
+        ids.extend(TABLED.into_iter().filter(|&id| !is_there(id)));
+    } else if dice.chance(50) {
+        ids.extend(SKIPPED.into_iter().filter(|&id| is_there(id)));
+    }
+    match dice.pick(&ids) {
+        Some(id) => id,
+        None => any_skipped(dice),
+    }
+}
+
+/// A packet that is in order: any type, fields of any ID in any order, the skipped ones
+/// repeated at times.
 pub fn sound(dice: &mut Dice, kind: u8, ssrc: u32) -> Parcel {
     let mut parcel = Parcel::new(kind, ssrc);
     parcel.ack = dice.chance(25);
@@ -128,7 +161,7 @@ pub fn sound(dice: &mut Dice, kind: u8, ssrc: u32) -> Parcel {
         parcel.fields.push(sound_field(dice, id));
     }
     for _ in 0..dice.any_of([0, 0, 1, 1, 2, 3, 6, 12]) {
-        let id = any_id(dice);
+        let id = further_id(dice, &parcel.fields);
         // Longer ones would be refused for their length, which is done elsewhere.
         if parcel.clone().octets(dice).len() < 1024 - 260 {
             parcel.fields.push(sound_field(dice, id));
@@ -146,7 +179,7 @@ pub fn of_size(dice: &mut Dice, mut parcel: Parcel, octets: usize) -> Vec<u8> {
         let most = (words * 4 - 2).min(255);
         let length = dice.between((words * 4).saturating_sub(5).min(most), most);
         let content = dice.octets(length);
-        parcel.fields.push(Raw::new(dice.any_of(SKIPPED), content));
+        parcel.fields.push(Raw::new(any_skipped(dice), content));
         left -= words;
     }
     dice.shuffle(&mut parcel.fields);
@@ -198,7 +231,7 @@ enum Harm {
     WrongLength,
     BadContent,
     Missing,
-    LateFault,
+    Twice,
 }
 
 const HARMS: [(usize, Harm); 16] = [
@@ -217,7 +250,7 @@ const HARMS: [(usize, Harm); 16] = [
     (10, Harm::WrongLength),
     (8, Harm::BadContent),
     (8, Harm::Missing),
-    (4, Harm::LateFault),
+    (6, Harm::Twice),
 ];
 
 /// A packet with one thing wrong in it, or more.
@@ -248,23 +281,22 @@ fn spoil_fields(dice: &mut Dice, parcel: &mut Parcel, harm: Harm) {
             put_somewhere(dice, &mut parcel.fields, field);
         }
         Harm::WrongLength => {
-            let field = wrong_length(dice);
-            put_somewhere(dice, &mut parcel.fields, field);
+            let id = any_tabled(dice);
+            let field = wrong_length(dice, id);
+            put_instead(dice, &mut parcel.fields, field);
         }
         Harm::BadContent => {
-            let field = bad_content(dice);
-            put_somewhere(dice, &mut parcel.fields, field);
+            let id = dice.any_of([5, 10]);
+            let field = bad_content(dice, id);
+            put_instead(dice, &mut parcel.fields, field);
         }
         Harm::Missing => drop_required(dice, parcel),
-        Harm::LateFault => {
-            // The second of an ID supplies nothing, and is judged all the same.
-            let bad = if dice.chance(50) {
-                wrong_length(dice)
-            } else {
-                bad_content(dice)
-            };
-            parcel.fields.insert(0, sound_field(dice, bad.id));
-            parcel.fields.push(bad);
+        Harm::Twice => {
+            let id = any_tabled(dice);
+            for _ in 0..2 {
+                let field = sound_field(dice, id);
+                put_somewhere(dice, &mut parcel.fields, field);
+            }
         }
         _ => {}
     }
@@ -273,6 +305,13 @@ fn spoil_fields(dice: &mut Dice, parcel: &mut Parcel, harm: Harm) {
 fn put_somewhere(dice: &mut Dice, fields: &mut Vec<Raw>, field: Raw) {
     let place = dice.between(0, fields.len());
     fields.insert(place, field);
+}
+
+/// Puts a field somewhere and takes out the one of its ID that there was, beside which it
+/// would be at fault for being the second.
+fn put_instead(dice: &mut Dice, fields: &mut Vec<Raw>, field: Raw) {
+    fields.retain(|other| other.id != field.id);
+    put_somewhere(dice, fields, field);
 }
 
 /// A last field that claims more octets than there are.
@@ -302,7 +341,8 @@ fn overrun(dice: &mut Dice) -> Raw {
     field
 }
 
-fn high(dice: &mut Dice) -> Raw {
+/// A field whose ID is above all that a packet can have.
+pub fn high(dice: &mut Dice) -> Raw {
     let length = dice.any_of([0, 1, 2, 6, 20]);
     let content = dice.octets(length);
     let mut field = Raw::new(dice.any_of([192, 193, 200, 254, 255]), content);
@@ -312,8 +352,8 @@ fn high(dice: &mut Dice) -> Raw {
     field
 }
 
-fn wrong_length(dice: &mut Dice) -> Raw {
-    let id = dice.any_of(TABLED);
+/// A field with an ID of the table and a length against it.
+pub fn wrong_length(dice: &mut Dice, id: u8) -> Raw {
     let length = match id {
         2 => dice.any_of([0, 1]),
         4 | 6 => dice.any_of([0, 63, 63, 64, 255]),
@@ -323,17 +363,12 @@ fn wrong_length(dice: &mut Dice) -> Raw {
     Raw::new(id, dice.octets(length))
 }
 
-fn bad_content(dice: &mut Dice) -> Raw {
-    let (id, content) = dice.any_of([
-        (5, [0, 2]),
-        (5, [1, 0]),
-        (5, [1, 1]),
-        (5, [255, 255]),
-        (10, [0, 4]),
-        (10, [1, 0]),
-        (10, [3, 0]),
-        (10, [255, 255]),
-    ]);
+/// A field of ID 5 or 10 with a content against the table.
+pub fn bad_content(dice: &mut Dice, id: u8) -> Raw {
+    let content = match id {
+        5 => dice.any_of([[0, 2], [1, 0], [1, 1], [255, 255]]),
+        _ => dice.any_of([[0, 4], [1, 0], [3, 0], [255, 255]]),
+    };
     Raw::new(id, content.to_vec())
 }
 

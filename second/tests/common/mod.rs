@@ -2,8 +2,10 @@
 #![allow(dead_code)]
 
 use second::desk::{Desk, Event};
+use second::maker::{Maker, Order};
 use second::packet::{Field, Kind, Message};
 use second::report::Report;
+use second::script::Player;
 use second::seats::{Seat, Seats};
 use second::settings::{Settings, Wishes};
 
@@ -76,4 +78,32 @@ pub fn refusal(report: &Report) -> u8 {
             .map_or_else(Report::refused, |()| report.clone())
     );
     report.number()
+}
+
+/// A script of so many lines, with nothing special asked for.
+pub fn order(seed: u64, count: usize) -> Order {
+    Order {
+        seed,
+        count,
+        wrap: false,
+        write: false,
+        figures: false,
+    }
+}
+
+/// All lines that are answered, with their answers.
+pub fn played(order: Order) -> Vec<(String, String)> {
+    let mut player = Player::new();
+    let answer = |line: String| player.answer(line.as_bytes()).map(|answer| (line, answer));
+    Maker::new(order).filter_map(answer).collect()
+}
+
+/// The refusal that an answer tells, if it tells one.
+pub fn told(answer: &str) -> Option<u8> {
+    let mut words = answer.split(' ');
+    let number: u8 = match words.next() {
+        Some("A" | "R") => words.next()?.parse().ok()?,
+        _ => return None,
+    };
+    (number != 0).then_some(number)
 }

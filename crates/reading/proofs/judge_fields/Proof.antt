@@ -1,9 +1,9 @@
--- Checks 9 to 11, by how the walk ended and by what it noted.
+-- Checks 9, 14 and 10 of each field, then 11, by how the walk ended and by what it noted.
 use mathlib.Core.Path.{sym, _∙_}
 use lib.Dec.{lit<}
-use Rattle.message.specs.declared.Refusal.the-variants.{PastTheEnd, AgainstTheTable}
+use Rattle.message.specs.declared.Refusal.the-variants.{PastTheEnd, AgainstTheTable, Repeated}
 use Rattle.field.specs.Fields.{fieldsIn}
-use Rattle.walk.proofs.Walks.{walked-of, none-left, past-not-whole, against-not-whole}
+use Rattle.walk.proofs.Walks.{walked-of, none-left, past-not-whole, against-not-whole, repeated-not-whole}
 use Rattle.reading.proofs.Judges.{judges-fault, judges-missing, judges-whole}
 use borrow.Author.Needs.{needs}
 use Rattle.reading.proofs.judge_fields.Statement.{statement}
@@ -35,6 +35,9 @@ enum-told-2 c = search needs
 
 enum-told-3 : tie.Need-enum-told-3
 enum-told-3 c = search needs
+
+enum-told-4 : tie.Need-enum-told-4
+enum-told-4 c = search needs
 
 returns-2 : tie.Need-returns-2
 returns-2 c =
@@ -70,6 +73,17 @@ returns-4 c =
       none-left (fieldsIn (a .s .now)) (v .result) (v .last .1 .0) (λ q. against-not-whole (sym w ∙ q)) (v .ensures),
     )
 
+returns-5 : tie.Need-returns-5
+returns-5 c =
+    let d = c .before .before .before .before .before in
+    let a = d .args in
+    let v = c .before .before .all-starts in
+    let w = c .enum-told4 .given .1 in (
+      judges-fault (a .kind) (a .s .now) (v .last .1 .0) (v .result) (d .pre .1)
+          (walked-of (fieldsIn (a .s .now)) (v .result) (v .last .1 .0) (v .ensures)) Repeated (rw w) (rw w (lit< tt)),
+      none-left (fieldsIn (a .s .now)) (v .result) (v .last .1 .0) (λ q. repeated-not-whole (sym w ∙ q)) (v .ensures),
+    )
+
 pub judge-fields-spec : {M : Type 1} → statement M
 judge-fields-spec =
     tie.close
@@ -81,6 +95,8 @@ judge-fields-spec =
     forget-requires
     enum-told-2
     enum-told-3
+    enum-told-4
     returns-2
     returns-3
-    returns-4)
+    returns-4
+    returns-5)

@@ -1,5 +1,5 @@
--- `walk::note` keeps its promise, `now (starts .exit) ≡ noted (now (starts .entry)) id start`. Notes where a field's content starts, unless
--- one with its ID came before it: of a repeated ID the first counts. Assumes nothing.
+-- `walk::note` keeps its promise: whether none with this ID came before, and the array with its start. Assumes nothing.
+use mathlib.Core.Path.{refl}
 use borrow.Author.Tests.{lt-ltb, le-ltb, eq-eqb, ne-eqb}
 use Rattle.words.specs.Choice.{if_then_else_}
 use Rattle.walk.specs.Walk.{noted}
@@ -21,15 +21,15 @@ element-write-starts c = search needs
 
 returns : tie.Need-returns
 unfolding noted if_then_else_
-returns c = rw (lt-ltb _ _ (c .before .before .if1 .taken), eq-eqb _ _ (c .if2 .taken))
+returns c = rw (lt-ltb _ _ (c .before .before .if1 .taken), eq-eqb _ _ (c .if2 .taken)) (refl, refl)
 
 returns-2 : tie.Need-returns-2
 unfolding noted if_then_else_
-returns-2 c = rw (lt-ltb _ _ (c .before .before .if1 .taken), ne-eqb _ _ (c .if2 .left))
+returns-2 c = rw (lt-ltb _ _ (c .before .before .if1 .taken), ne-eqb _ _ (c .if2 .left)) (refl, refl)
 
 returns-3 : tie.Need-returns-3
 unfolding noted if_then_else_
-returns-3 c = rw (le-ltb _ _ (c .if1 .left))
+returns-3 c = rw (le-ltb _ _ (c .if1 .left)) (refl, refl)
 
 pub note-spec : {M : Type 1} → statement M
 note-spec =

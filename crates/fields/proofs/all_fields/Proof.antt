@@ -1,15 +1,15 @@
--- `fields::walk` is safe and ends: each turn moves one place nearer to the packet's length. Assumes nothing.
+-- `fields::all_fields` is safe and ends: each turn moves one place nearer to the packet's length. Assumes nothing.
 use Prim.Native.Nat.{_≤_, _-_}
 use lib.ListN.{length}
 use borrow.Author.Needs.{needs}
-use Rattle.fields.proofs.walk.Statement.{statement}
-use Rattle.fields.proofs.walk.Tie as tie
+use Rattle.fields.proofs.all_fields.Statement.{statement}
+use Rattle.fields.proofs.all_fields.Tie as tie
 
 abbrev Inv-loop : tie.InvT-loop
-Inv-loop title packet at₀ n₀ at n = n ≤ length packet
+Inv-loop title packet starts₀ at₀ n₀ starts at n = n ≤ length packet
 
 abbrev μ-loop : tie.MeasureT-loop
-μ-loop title packet at₀ n₀ at n = length packet - n
+μ-loop title packet starts₀ at₀ n₀ starts at n = length packet - n
 
 text-requires : tie.Need-text-requires Inv-loop μ-loop
 text-requires c κs = search needs
@@ -35,8 +35,8 @@ returns c = search needs
 returns-2 : tie.Need-returns-2 Inv-loop μ-loop
 returns-2 c = search needs
 
-pub walk-spec : {M : Type 1} → statement M
-walk-spec =
+pub all-fields-spec : {M : Type 1} → statement M
+all-fields-spec =
     tie.close
     (tie.spec
     Inv-loop
