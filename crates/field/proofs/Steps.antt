@@ -3,7 +3,7 @@ use Prim.Native.Nat.{ℕ, _+_, _≤_, _<_}
 use mathlib.Core.Bool.{true, false}
 use mathlib.Core.List.{List}
 use mathlib.Core.Logic.{_⊎_, inl, inr}
-use mathlib.Core.Path.{_≡_, refl, sym, subst}
+use mathlib.Core.Path.{_≡_, refl, sym, ap, subst}
 use lib.Dec.{leb, ltb}
 use lib.ListN.{length}
 use borrow.Author.Tests.{le-leb, lt-leb, le-ltb, lt-ltb, leb-true, leb-false, ltb-true, ltb-false}
@@ -47,6 +47,10 @@ pub record Inside (s : List ℕ) (at : ℕ) (f : FieldFound) : Type 0 where
   pub inside : at < length s
   pub fits : at + padded (lengthAt s at) ≤ length s
   pub is : f ≡ fieldAt s at
+
+-- where the next field starts
+pub next-there : (s : List ℕ) (at : ℕ) (f : FieldFound) → Inside s at f → f .next ≡ at + padded (lengthAt s at)
+next-there s at f k = ap (λ (g : FieldFound). g .next) (k .is)
 
 -- of a field of the table moreover that it is there, and not against it
 pub record Sound (s : List ℕ) (at : ℕ) (f : FieldFound) : Type 0 where

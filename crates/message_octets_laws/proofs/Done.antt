@@ -1,13 +1,12 @@
 -- 0 is answered only where a packet was read and the room has 40 octets. Assumes nothing.
 use Prim.Native.Nat.{ℕ, zero, suc, _≤_}
 use native.Mathlib.Omega.{arith}
-use mathlib.Core.Bool.{Bool, true, false}
 use mathlib.Core.List.{List, [], _∷_}
 use mathlib.Core.Path.{_≡_, refl, sym, _∙_}
 use lib.Dec.{ltb}
 use lib.ListN.{length}
 use borrow.Author.Tests.{ltb-false}
-use Rattle.words.specs.Choice.{if_then_else_, by-test, if-yes}
+use Rattle.words.specs.Choice.{by-test, by-if, if-yes}
 use Rattle.message.specs.Answers.{Answer, refused, result}
 use Rattle.message.specs.Types.{typed}
 use Rattle.message.specs.Message.{said, complete}
@@ -41,19 +40,14 @@ front-ended : (f : FieldFound) (fs : Fields) → Ended fs → Ended (infront f f
 front-ended f (whole fs) e = tt
 front-ended f (fault n) e = e
 
-either-ended : (t : Bool) (a b : Fields) → Ended a → Ended b → Ended (if t then a else b)
-unfolding if_then_else_
-either-ended true a b p q = p
-either-ended false a b p q = q
-
 step-ended : (before : List ℕ) (t : FieldStep) (rest : List ℕ → ℕ → Fields) → ((past : List ℕ) (next : ℕ) → Ended (rest past next))
     → Ended (stepThen before t rest)
 step-ended before End rest e = tt
 step-ended before PastTheEnd rest e = omega arith
-step-ended before (AgainstTheTable i) rest e = either-ended (among before i) (fault 14) (fault 10) (omega arith) (omega arith)
+step-ended before (AgainstTheTable i) rest e = by-if Ended (among before i) (λ t. omega arith) (λ t. omega arith)
 step-ended before (Field f) rest e =
-    either-ended (among before (f .id)) (fault 14) (infront f (rest (f .id ∷ before) (f .next))) (omega arith)
-    (front-ended f (rest (f .id ∷ before) (f .next)) (e (f .id ∷ before) (f .next)))
+    by-if Ended (among before (f .id)) (λ t. omega arith)
+    (λ t. front-ended f (rest (f .id ∷ before) (f .next)) (e (f .id ∷ before) (f .next)))
 step-ended before (Skipped f) rest e = e before (f .next)
 
 ended : (steps : ℕ) (before s : List ℕ) (at : ℕ) → Ended (fieldsFrom steps before s at)
@@ -62,15 +56,10 @@ ended zero before s at = tt
 ended (suc steps) before s at =
     step-ended before (stepAt s at) (λ past next. fieldsFrom steps past s next) (λ past next. ended steps past s next)
 
-choice : {A : Type 0} (t : Bool) (a b : Answer A) → Numbered a → Numbered b → Numbered (if t then a else b)
-unfolding if_then_else_
-choice true a b p q = p
-choice false a b p q = q
-
 judged-numbered : (k : MessageType) (s : List ℕ) (fs : Fields) → Ended fs → Numbered (judged k s fs)
 judged-numbered k s (fault n) e = e
 judged-numbered k s (whole fs) e =
-    choice (complete (said (messageAt k s (startOf fs)) s)) (result (messageAt k s (startOf fs))) (refused 11) tt (omega arith)
+    by-if Numbered (complete (said (messageAt k s (startOf fs)) s)) (λ t. tt) (λ t. omega arith)
 
 type-numbered : (t : Typed) → Numbered (ofType t)
 type-numbered Unlisted = omega arith
@@ -82,9 +71,9 @@ some n = omega arith
 opening-numbered : (s : List ℕ) → Numbered (opening s)
 unfolding opening
 opening-numbered s =
-    choice _ (refused 1) _ (some 0) (choice _ (refused 2) _ (some 1) (choice _ (refused 3) _ (some 2) (choice _ (refused 4) _ (some 3)
-    (choice _ (refused 5) _ (some 4)
-    (choice _ (refused 6) _ (some 5) (choice _ (refused 7) _ (some 6) (type-numbered (typed (typeBits s)))))))))
+    by-if Numbered _ (λ t. some 0) (λ t. by-if Numbered _ (λ t. some 1) (λ t. by-if Numbered _ (λ t. some 2) (λ t.
+    by-if Numbered _ (λ t. some 3) (λ t. by-if Numbered _ (λ t. some 4) (λ t. by-if Numbered _ (λ t. some 5) (λ t.
+    by-if Numbered _ (λ t. some 6) (λ t. type-numbered (typed (typeBits s)))))))))
 
 opened-numbered : (s : List ℕ) (a : Answer MessageType) → Numbered a → Numbered (opened a s)
 unfolding fieldsIn

@@ -12,6 +12,7 @@ use Rattle.octets.specs.Octets.{octets16, octets32}
 use Rattle.message.specs.Table.{rowIn, atFault}
 use Rattle.message.specs.Message.{said, fieldsOf, complete, lies}
 use Rattle.message.specs.Answers.{refused, result}
+use Rattle.message.proofs.Answers.{never}
 use Rattle.message.specs.declared.MessageType.{MessageType}
 use Rattle.message.specs.declared.Message.{Message}
 use Rattle.field.specs.declared.FieldFound.{FieldFound}
@@ -44,12 +45,9 @@ unfolding if_then_else_
 chosen true a m e = (refl, cc)
 chosen false a m e = (cc, cc)
 
-never : {P : Type 0} (n : ℕ) (m : Message) → refused n ≡ result m → P
-never n m e = let z : _≡_ {A = ℕ} 0 1 = cc in absurd (omega arith)
-
 by-fields : (k : MessageType) (s : List ℕ) (m : Message) (fields : Fields) → fieldsIn s ≡ fields → judged k s fields ≡ result m →
     Accepted s m
-by-fields k s m (fault n) q e = never n m e
+by-fields k s m (fault n) q e = never e
 by-fields k s m (whole found) q e =
     let a : Message = messageAt k s (startOf found) in
     let c = chosen (complete (said a s)) a m e in

@@ -10,9 +10,8 @@ use Rattle.header.specs.declared.Opening.{Opening}
 use Rattle.header.specs.declared.Opening.the-variants.{Of}
 use Rattle.field.specs.Fields.{Fields, whole, fault, fieldsIn}
 use Rattle.walk.specs.Walk.{Noted, WholeAnswer, faultNumber}
-use Rattle.walk.proofs.Reaches.{differ}
-use Rattle.message.specs.Answers.{Answer, refused, result}
-use Rattle.message.proofs.Answers.{number-one, refusal-one}
+use Rattle.message.specs.Answers.{Answer, result}
+use Rattle.message.proofs.Answers.{number-one, never, refusal-one}
 use Rattle.writing.proofs.Ways.{told-one}
 use Rattle.header.proofs.Openings.{told-one as opening-one}
 use Rattle.walk.specs.declared.Walk.{Walk}
@@ -46,9 +45,6 @@ same-notes (whole fs) starts starts′ n n′ =
     ext-getD 0 starts starts′ (n .long ∙ sym (n′ .long)) (λ i h. let h′ = rw (n .long) at h in n .has i h′ ∙ sym (n′ .has i h′))
 same-notes (fault k) starts starts′ n n′ = absurd n
 
-differs : {m : Message} {n : ℕ} → _≡_ {A = Answer Message} (result m) (refused n) → ⊥
-differs e = differ (cc)
-
 message-of : (m m′ : Message) → _≡_ {A = Answer Message} (result m) (result m′) → m ≡ m′
 message-of m m′ e = cc
 
@@ -59,8 +55,8 @@ judges-coincide s (Of k) (Of k′) starts starts′ p p′ =
       answers = ap (λ (m : Message). Of (m .kind)) (message-of _ _ (sym (p .0) ∙ p′ .0));
       noted = same-notes (fieldsIn s) starts starts′ (p .2) (p′ .2);
     }
-judges-coincide s (Of k) (Opening.Refused r) starts starts′ p p′ = absurd (differs (sym (p .0) ∙ p′ .0))
-judges-coincide s (Opening.Refused r) (Of k) starts starts′ p p′ = absurd (differs (sym (p′ .0) ∙ p .0))
+judges-coincide s (Of k) (Opening.Refused r) starts starts′ p p′ = never (sym (p′ .0) ∙ p .0)
+judges-coincide s (Opening.Refused r) (Of k) starts starts′ p p′ = never (sym (p .0) ∙ p′ .0)
 judges-coincide s (Opening.Refused r) (Opening.Refused r′) starts starts′ p p′ =
     record { answers = ap Opening.Refused (refusal-one r r′ (sym (p .0) ∙ p′ .0)); noted = p .1 ∙ sym (p′ .1) }
 

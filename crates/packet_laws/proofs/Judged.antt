@@ -2,7 +2,7 @@
 -- Assumes nothing.
 use Prim.Native.Nat.{ℕ, zero, suc, _+_, _-_, _≤_, _<_}
 use native.Mathlib.Omega.{arith}
-use mathlib.Core.Path.{_≡_, refl, ap}
+use mathlib.Core.Path.{_≡_, refl}
 use mathlib.Core.Logic.{_⊎_, inl, inr}
 use mathlib.Core.List.{List, [], _∷_}
 use lib.Dec.{eqb}
@@ -16,7 +16,7 @@ use Rattle.field.specs.declared.FieldFound.{FieldFound}
 use Rattle.field.specs.declared.FieldStep.{FieldStep}
 use Rattle.field.specs.Fields.{Fields, whole, fault, infront, among, stepThen, stepAt, fieldsFrom, idAt, lengthAt}
 use Rattle.walk.specs.Starts.{startOf}
-use Rattle.field.proofs.Steps.{Inside, Sound, step-sound, step-inside}
+use Rattle.field.proofs.Steps.{Inside, next-there, Sound, step-sound, step-inside}
 use Rattle.walk.proofs.Reaches.{no-fault}
 use Rattle.packet_laws.proofs.Numbers.{length-place}
 use Rattle.packet_laws.proofs.Fits.{Agrees, agrees}
@@ -59,7 +59,7 @@ good s p f h =
 front : (s : List ℕ) (p : ℕ) (f : FieldFound) (fs : List FieldFound) → Sound s p f → AllJudged s (f .next) fs → AllJudged s p (f ∷ fs)
 unfolding startOf sizeOf total if_then_else_
 front s p f fs h w =
-    let n : f .next ≡ p + padded (lengthAt s p) = ap (λ (g : FieldFound). g .next) (h .lies .is) in
+    let n : f .next ≡ p + padded (lengthAt s p) = next-there s p f (h .lies) in
     rw (h .lies .is)
     (record {
       each = λ i.
@@ -84,7 +84,7 @@ rest-of f (fault n) fs e = record { found = []; all = cc; is = cc }
 -- a field that is skipped takes its octets, and is none of them
 past : (s : List ℕ) (p : ℕ) (f : FieldFound) (fs : List FieldFound) → Inside s p f → AllJudged s (f .next) fs → AllJudged s p fs
 past s p f fs k w =
-    let n : f .next ≡ p + padded (lengthAt s p) = ap (λ (g : FieldFound). g .next) (k .is) in
+    let n : f .next ≡ p + padded (lengthAt s p) = next-there s p f k in
     record { each = w .each; ends = λ l. omega (arith, k .fits, w .ends (omega (arith, k .fits))) }
 
 pub all-judged : (s before : List ℕ) (steps p : ℕ) (fs : List FieldFound) → fieldsFrom steps before s p ≡ whole fs → AllJudged s p fs

@@ -11,8 +11,8 @@ use borrow.Author.Tests.{eqb-true}
 use Rattle.words.specs.Choice.{if_then_else_, by-test, if-yes, if-no}
 use Rattle.words.proofs.Tests.{clash, or-right}
 use Rattle.message.specs.declared.MessageType.{MessageType}
-use Rattle.message.specs.declared.Message.{Message}
 use Rattle.message.specs.Answers.{Answer, refused, result}
+use Rattle.message.proofs.Answers.{never}
 use Rattle.header.specs.Header.{headerSize}
 use Rattle.header.specs.Opening.{opening}
 use Rattle.field.specs.declared.FieldFound.{FieldFound}
@@ -82,9 +82,6 @@ head s = go (opening s) refl
     go : (a : Answer MessageType) → opening s ≡ a → Head s
     go (refused n) e = refuses n (rw e) (rw e)
     go (result k) e = opens k e
-
-never : {P : Type 0} {n : ℕ} {m : Message} → _≡_ {A = Answer Message} (refused n) (result m) → P
-never e = let z : _≡_ {A = ℕ} 0 1 = cc in absurd (omega arith)
 
 pub read-as-before : ReadAsBefore
 read-as-before s m e =

@@ -2,17 +2,16 @@
 use Prim.Native.Nat.{ℕ, zero, suc, _+_, _≤_}
 use native.Mathlib.Nat.{zero-add, suc-add}
 use native.Mathlib.Omega.{arith}
-use mathlib.Core.Path.{_≡_, refl, ap}
+use mathlib.Core.Path.{_≡_, refl}
 use mathlib.Core.List.{List, [], _∷_}
 use lib.ListN.{length}
-use Rattle.message.specs.Table.{padded}
 use Rattle.field.specs.declared.FieldFound.{FieldFound}
 use Rattle.field.specs.declared.FieldStep.{FieldStep}
 use Rattle.field.specs.Fields.{whole, stepThen, stepAt, fieldsFrom, fieldsIn, lengthAt}
 use Rattle.header.specs.Header.{headerSize}
 use Rattle.packet_laws.specs.Again.{StepsSuffice}
 use Rattle.message.proofs.Paddings.{padded-least}
-use Rattle.field.proofs.Steps.{step-end, Inside, step-sound, step-inside}
+use Rattle.field.proofs.Steps.{step-end, Inside, next-there, step-sound, step-inside}
 
 at-the-end : (s before : List ℕ) (more p : ℕ) → length s ≤ p → fieldsFrom more before s p ≡ whole []
 unfolding fieldsFrom
@@ -26,9 +25,7 @@ enough s before zero more p h = rw zero-add (at-the-end s before more p (omega a
 enough s before (suc steps) more p h = rw suc-add (go (stepAt s p) refl (λ past q l. enough s past steps more q l))
   where
     nearer : (f : FieldFound) → Inside s p f → length s ≤ f .next + steps
-    nearer f k =
-        let n : f .next ≡ p + padded (lengthAt s p) = ap (λ (g : FieldFound). g .next) (k .is) in
-        omega (arith, padded-least (lengthAt s p))
+    nearer f k = omega (arith, next-there s p f k, padded-least (lengthAt s p))
 
     go : (t : FieldStep) → stepAt s p ≡ t
         → ((past : List ℕ) (q : ℕ) → length s ≤ q + steps → fieldsFrom (steps + more) past s q ≡ fieldsFrom steps past s q)

@@ -22,7 +22,7 @@ use Rattle.walk.specs.Walk.{hasCome, noted, isPassed, notedStep, endedBy
 use Rattle.reader.specs.Reader.{behind}
 use Rattle.message.proofs.Paddings.{padded-least}
 use Rattle.message.proofs.Rows.{listed-below}
-use Rattle.field.proofs.Steps.{step-end, Inside, Sound, step-sound, step-inside}
+use Rattle.field.proofs.Steps.{step-end, Inside, next-there, Sound, step-sound, step-inside}
 
 -- fields found before the others
 abbrev allInfront : List FieldFound → Fields → Fields
@@ -153,7 +153,7 @@ unfolding if_then_else_
 walking-on s starts at f e new w =
     let k : Sound s at f = step-sound s at f e in
     let a : Ahead s at (w .steps) (w .before) = ahead s at (w .steps) (w .before) (k .lies .inside) (w .enough) in
-    let n : f .next ≡ at + padded (lengthAt s at) = ap (λ (g : FieldFound). g .next) (k .lies .is) in
+    let n : f .next ≡ at + padded (lengthAt s at) = next-there s at f (k .lies) in
     let b : f .start ≡ at + 2 = ap (λ (g : FieldFound). g .start) (k .lies .is) in
     let low : f .id < 16 = rw (k .lies .is) (listed-below (idAt s at) (k .known)) in
     let first : among (w .before) (f .id) ≡ false = w .come (f .id) ∙ new in
@@ -175,7 +175,7 @@ walking-past : (s starts : List ℕ) (at : ℕ) (f : FieldFound) → stepAt s at
 walking-past s starts at f e w =
     let k : Inside s at f = step-inside s at f e in
     let a : Ahead s at (w .steps) (w .before) = ahead s at (w .steps) (w .before) (k .inside) (w .enough) in
-    let n : f .next ≡ at + padded (lengthAt s at) = ap (λ (g : FieldFound). g .next) (k .is) in
+    let n : f .next ≡ at + padded (lengthAt s at) = next-there s at f k in
     record {
       seen = w .seen;
       before = w .before;
@@ -241,7 +241,7 @@ walked-against s starts at i e w =
 -- a turn goes on towards the end
 walking-less : (s : List ℕ) (at : ℕ) (f : FieldFound) → Inside s at f → length s - f .next < length s - at
 walking-less s at f k =
-    let n : f .next ≡ at + padded (lengthAt s at) = ap (λ (g : FieldFound). g .next) (k .is) in
+    let n : f .next ≡ at + padded (lengthAt s at) = next-there s at f k in
     omega (arith, padded-least (lengthAt s at), k .inside)
 
 holds-true : (t : Bool) → Holds t → t ≡ true
