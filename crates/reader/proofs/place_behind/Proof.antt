@@ -1,5 +1,6 @@
 -- `reader::place_behind` keeps its promise, `r ≡ behind step at`. The place behind what stands at a place, once that is known. Assumes
 -- nothing.
+use mathlib.Core.Path.{refl}
 use borrow.Author.Needs.{needs}
 use Rattle.reader.proofs.place_behind.Statement.{statement}
 use Rattle.reader.proofs.place_behind.Tie as tie
@@ -23,7 +24,7 @@ returns : tie.Need-returns
 returns c = search needs
 
 returns-2 : tie.Need-returns-2
-returns-2 c = search needs
+returns-2 c = rw (c .before .step2 .given .1) refl
 
 returns-3 : tie.Need-returns-3
 returns-3 c = search needs

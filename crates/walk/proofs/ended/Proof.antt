@@ -1,6 +1,6 @@
 -- `walk::ended` keeps its promise, `r ≡ endedBy (now (starts .entry)) step`. How a walk ended, by what was handed out last and by what was
 -- noted before it. Assumes nothing.
-use mathlib.Core.Path.{sym, _∙_}
+use mathlib.Core.Path.{refl, sym, _∙_}
 use Rattle.words.specs.Choice.{if-yes, if-no}
 use borrow.Author.Needs.{needs}
 use Rattle.walk.proofs.ended.Statement.{statement}
@@ -37,7 +37,7 @@ returns-4 : tie.Need-returns-4
 returns-4 c = search needs
 
 returns-5 : tie.Need-returns-5
-returns-5 c = search needs
+returns-5 c = rw (c .enum-told4 .given .1) refl
 
 returns-6 : tie.Need-returns-6
 returns-6 c = rw (c .before .before .before .step .given .1) (sym (if-no _ _ _ (sym (c .before .has-come .ensures) ∙ c .if1 .left)))
