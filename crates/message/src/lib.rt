@@ -5,7 +5,6 @@ ghost use mathlib.Core.List.{List};
 ghost use Prim.Native.Nat.{ℕ, _≤_};
 ghost use Rattle.message.specs.Types.{typed, typeNumber};
 ghost use Rattle.message.specs.Table.{listed, atFault, against, padded, padding};
-ghost use lib.Dec.{ltb};
 ghost use Rattle.message.specs.Answers.{refusalNumber};
 ghost use Rattle.message.specs.Message.{ofOctet, ofWord, ofCause, ofQueue, ofPart, isThere, said, required, hasAll, complete};
 ghost use Rattle.message.specs.Asked.{hasId};
@@ -185,18 +184,12 @@ const GREATEST: [u8; 16] = [
     SKIPPED,
 ];
 
-// Whether the table reaches an ID. Those from 16 on are skipped too, and this is the one place that says so.
-fn is_reached(id: u8) -> bool
-    ensures { λ r. ⌜ r ≡ ltb id 16 ⌝ }
-{
-    id < 16
-}
-
-// Whether the table has an ID. Every other below 192 is skipped by its length.
+// Whether the table has an ID. Every other below 192 is skipped by its length: one that has the mark, and all from 16 on, which the table
+// does not reach. This is the one place that says so.
 pub fn is_listed(id: u8) -> bool
     ensures { λ r. ⌜ r ≡ listed id ⌝ }
 {
-    if is_reached(id) {
+    if id < 16 {
         let i = id as usize;
         return GREATEST[i] != SKIPPED;
     }
