@@ -17,7 +17,7 @@
 
 LIB ?= floor
 PREFIX = /usr/local
-VERSION = 3.0
+VERSION = 4.0
 
 ifeq ($(shell uname -m),x86_64)
 RUN =

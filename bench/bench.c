@@ -16,7 +16,7 @@ enum { CALLS = 16, SEATED = 16, DESK_SSRC = 1, FIRST_SSRC = 10, LONGEST = FLOOR_
 
 struct library {
     const char *name;
-    int32_t (*make)(uint8_t *, size_t, uint32_t, uint32_t, uint32_t, uint32_t, uint32_t, uint32_t);
+    int32_t (*make)(uint8_t *, size_t, uint32_t, uint32_t, uint32_t, uint32_t, uint32_t, uint32_t, uint32_t);
     int32_t (*join)(uint8_t *, size_t, const uint8_t *, size_t, uint32_t, uint8_t, uint8_t, uint8_t);
     int32_t (*start)(uint8_t *, size_t, uint8_t *, size_t);
     int32_t (*packet)(uint8_t *, size_t, const uint8_t *, size_t, uint8_t *, size_t);
@@ -176,7 +176,7 @@ static void releases(const struct library *l, uint8_t *desk, unsigned seat)
 static void open_call(const struct library *l, uint8_t *desk, unsigned seats)
 {
     char name[64];
-    must(l->make(desk, FLOOR_DESK, DESK_SSRC, 200, 15, 2, 255, 30) == 0, "make");
+    must(l->make(desk, FLOOR_DESK, DESK_SSRC, 200, 15, 2, 255, 30, 0) == 0, "make");
     for (unsigned s = 0; s < seats; s++) {
         int n = sprintf(name, seats == 4 ? "test%u" : "sip:student%02u@bench.example", s);
         must(l->join(desk, FLOOR_DESK, (const uint8_t *)name, (size_t)n, FIRST_SSRC + s, 255, 1, 0) == (int32_t)s, "join");

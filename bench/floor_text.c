@@ -93,6 +93,7 @@ static const struct name refusals[] = {
     {FLOOR_REFUSAL_SHEET_OFFSETS, "count above 16, settings not 20 octets before the end, or seats' offset not zero", NULL},
     {FLOOR_REFUSAL_SHEET_SETTINGS, "a setting outside its range, or the zeros behind them", NULL},
     {FLOOR_REFUSAL_SHEET_SEATS, "a seat at fault, or seats not ending at the settings", NULL},
+    {FLOOR_REFUSAL_SHEET_CANNOT_HOLD, "a normal level other than 0, which no sheet can hold", NULL},
 };
 
 #define COUNT(array) (sizeof array / sizeof *array)

@@ -386,15 +386,16 @@ static void take_desk(int32_t answer, const struct floor_desk *made)
 
 static void play_make(char **word)
 {
-    uint64_t n[6];
+    uint64_t n[7];
     struct floor_desk made;
-    for (int i = 0; i < 6; i++)
+    for (int i = 0; i < 7; i++)
         if (!number(word[1 + i], UINT32_MAX, &n[i])) {
             malformed(not_a_number);
             return;
         }
     take_desk(floor_desk_make(&made, &(struct floor_making){.ssrc = (uint32_t)n[0], .level = (uint32_t)n[1], .limit = (uint32_t)n[2],
-                                                            .c7 = (uint32_t)n[3], .c20 = (uint32_t)n[4], .duration = (uint32_t)n[5]}), &made);
+                                                            .c7 = (uint32_t)n[3], .c20 = (uint32_t)n[4], .duration = (uint32_t)n[5],
+                                                            .normal = (uint32_t)n[6]}), &made);
 }
 
 static void play_load(const char *word)
@@ -405,6 +406,24 @@ static void play_load(const char *word)
         malformed(not_octets);
     else
         take_desk(floor_desk_load(&made, octets, (size_t)n), &made);
+}
+
+/* In room for any sheet, or for so many octets as a word says. */
+static void play_save(const char *word)
+{
+    struct floor_sheet sheet;
+    uint64_t room = sizeof sheet.octets;
+    if (word && !number(word, UINT32_MAX, &room)) {
+        malformed(not_a_number);
+        return;
+    }
+    if (!has_desk) {
+        malformed("no desk");
+        return;
+    }
+    if (room > sizeof sheet.octets)
+        room = sizeof sheet.octets;
+    print_written(floor_save(desk.octets, sizeof desk.octets, sheet.octets, (size_t)room), sheet.octets);
 }
 
 static void play_screen(const char *word)
@@ -492,11 +511,8 @@ static void play_packet(const char *word)
 static void play_bare(const char *name)
 {
     struct floor_report report;
-    struct floor_sheet sheet;
     if (!has_desk)
         malformed("no desk");
-    else if (strcmp(name, "save") == 0)
-        print_written(floor_desk_save(&desk, &sheet), sheet.octets);
     else if (strcmp(name, "start") == 0)
         print_step(floor_desk_start(&desk, &report), &report);
     else
@@ -510,11 +526,13 @@ static int is(char **word, int words, const char *name, int wanted)
 
 static void play(char **word, int words)
 {
-    if (is(word, words, "make", 7))
+    if (is(word, words, "make", 8))
         play_make(word);
     else if (is(word, words, "load", 2))
         play_load(word[1]);
-    else if (is(word, words, "save", 1) || is(word, words, "start", 1) || is(word, words, "stop", 1))
+    else if (is(word, words, "save", 1) || is(word, words, "save", 2))
+        play_save(words > 1 ? word[1] : NULL);
+    else if (is(word, words, "start", 1) || is(word, words, "stop", 1))
         play_bare(word[0]);
     else if (is(word, words, "screen", 2)) {
         uint64_t room;
@@ -603,7 +621,7 @@ static const char help[] =
     "Example: with these lines in a file exercise.script\n"
     "\n"
     "    # a desk, two handsets, and a call in which both ask for the floor\n"
-    "    make ssrc 1 level 200 limit 2 c7 2 c20 2 duration 30\n"
+    "    make ssrc 1 level 200 limit 2 c7 2 c20 2 duration 30 normal 0\n"
     "    join \"test1\" 10 255 queueing\n"
     "    join \"test2\" 11 255 queueing\n"
     "    start\n"

@@ -581,9 +581,15 @@ static void queue(struct plain_desk *d, struct plain_report *r, unsigned seat, u
         revoke(d, r, FLOOR_REVOKE_MEDIA_BURST_PREEMPTED);
 }
 
-static void request(struct plain_desk *d, struct plain_report *r, unsigned seat, unsigned asked)
+/* What a request asks for: its Floor Priority, a 0 too; without that field the normal level. A seat never has more than its highest. */
+static unsigned effective_priority(const struct plain_desk *d, unsigned seat, const uint8_t *packet, const struct found *f)
 {
-    unsigned priority = asked < d->highest[seat] ? asked : d->highest[seat];
+    unsigned asked = f->has >> FLOOR_FIELD_FLOOR_PRIORITY & 1 ? packet[f->content[FLOOR_FIELD_FLOOR_PRIORITY]] : d->normal;
+    return asked < d->highest[seat] ? asked : d->highest[seat];
+}
+
+static void request(struct plain_desk *d, struct plain_report *r, unsigned seat, unsigned priority)
+{
     if (holds(d, seat)) {
         grant_again(d, r);
     } else if (d->flags[seat] & FLOOR_FLAG_RECEIVE_ONLY) {
@@ -652,7 +658,7 @@ static int32_t packet_step(struct plain_desk *d, const uint8_t *packet, size_t p
         return FLOOR_REFUSAL_NO_ROOM;
     report_nothing(r);
     if (type == FLOOR_TYPE_REQUEST)
-        request(d, r, (unsigned)seat, f.has & 1 ? packet[f.content[0]] : 0);
+        request(d, r, (unsigned)seat, effective_priority(d, (unsigned)seat, packet, &f));
     else if (type == FLOOR_TYPE_RELEASE)
         release(d, r, (unsigned)seat);
     else
@@ -887,10 +893,10 @@ static void fresh(struct plain_desk *d)
 }
 
 int32_t plain_make(uint8_t *desk, size_t desk_len, uint32_t ssrc, uint32_t level, uint32_t limit, uint32_t c7, uint32_t c20,
-                   uint32_t duration)
+                   uint32_t duration, uint32_t normal)
 {
     struct plain_desk *d = (void *)desk;
-    if (!settings_in_range(level, limit, c7, c20, duration))
+    if (!settings_in_range(level, limit, c7, c20, duration) || normal > 255)
         return FLOOR_REFUSAL_OUTSIDE_RANGE;
     if (desk_len < FLOOR_DESK)
         return FLOOR_REFUSAL_NO_ROOM;
@@ -901,6 +907,7 @@ int32_t plain_make(uint8_t *desk, size_t desk_len, uint32_t ssrc, uint32_t level
     d->c7_limit = (uint8_t)c7;
     d->c20_limit = (uint8_t)c20;
     put_two(d->duration, duration);
+    d->normal = (uint8_t)normal;
     return 0;
 }
 
@@ -986,7 +993,8 @@ int32_t plain_message(const uint8_t *desk, size_t desk_len, const uint8_t *repor
 
 /* ---- The sheet ---- */
 
-/* A taken seat and the settings as the sheet lays them out; each answers how many octets it has. */
+/* A taken seat as the sheet lays it out, and the settings, which are a sheet's where the normal level is 0; each answers how many octets it
+ * has. */
 static size_t seat_octets(const struct plain_desk *d, unsigned s, uint8_t *to)
 {
     to[0] = d->flags[s];
@@ -1000,7 +1008,7 @@ static size_t seat_octets(const struct plain_desk *d, unsigned s, uint8_t *to)
 static size_t settings_octets(const struct plain_desk *d, uint8_t *to)
 {
     memcpy(to, d->own_ssrc, 4);
-    memcpy(to + 4, (const uint8_t[]){d->level, d->limit, d->c7_limit, d->c20_limit, d->duration[0], d->duration[1], 0, 0}, 8);
+    memcpy(to + 4, (const uint8_t[]){d->level, d->limit, d->c7_limit, d->c20_limit, d->duration[0], d->duration[1], d->normal, 0}, 8);
     return FLOOR_SETTINGS;
 }
 
@@ -1010,6 +1018,8 @@ int32_t plain_save(const uint8_t *desk, size_t desk_len, uint8_t *room, size_t r
     size_t length = SHORTEST_SHEET, count = 0;
     if (!is_desk(desk, desk_len))
         return FLOOR_REFUSAL_NOT_A_DESK;
+    if (d->normal != 0)
+        return FLOOR_REFUSAL_SHEET_CANNOT_HOLD;
     for (int s = 0; s < FLOOR_SEATS; s++) {
         count += d->taken[s];
         length += d->taken[s] ? SEAT_HEAD + (size_t)d->length[s] : 0;
@@ -1081,7 +1091,7 @@ int32_t plain_load(uint8_t *desk, size_t desk_len, const uint8_t *sheet, size_t 
     if (desk_len < FLOOR_DESK)
         return FLOOR_REFUSAL_NO_ROOM;
     const uint8_t *settings = sheet + sheet_len - SHORTEST_SHEET;
-    fresh(d);
+    fresh(d); /* at normal level 0 */
     memcpy(d->own_ssrc, settings, 4 + 4 + 2);
     for (int i = 0; i < sheet[sheet_len - 4]; i++) {
         const uint8_t *seat = sheet + seats[i];

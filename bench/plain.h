@@ -11,7 +11,7 @@ extern "C" {
 #endif
 
 int32_t plain_make(uint8_t *desk, size_t desk_len, uint32_t ssrc, uint32_t level, uint32_t limit, uint32_t c7, uint32_t c20,
-                   uint32_t duration);
+                   uint32_t duration, uint32_t normal);
 int32_t plain_join(uint8_t *desk, size_t desk_len, const uint8_t *identity, size_t identity_len, uint32_t ssrc, uint8_t highest,
                    uint8_t queueing, uint8_t receive_only);
 int32_t plain_leave(uint8_t *desk, size_t desk_len, uint32_t seat, uint8_t *report, size_t report_len);
@@ -53,7 +53,7 @@ struct plain_desk {
     uint8_t cause[2], sequence[2], c7, c20, waiting, zero_behind_waiting;
     uint8_t line[15], zero_behind_line, priorities[15], zero_behind_priorities;
     uint8_t taken[16], ssrc[16][4], highest[16], flags[16], zeros_behind_flags[16];
-    uint8_t own_ssrc[4], level, limit, c7_limit, c20_limit, duration[2], zeros[6];
+    uint8_t own_ssrc[4], level, limit, c7_limit, c20_limit, duration[2], normal, zeros[5];
     uint8_t length[16], identity[16][62];
 };
 

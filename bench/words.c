@@ -7,10 +7,10 @@
 #include <stdio.h>
 #include <string.h>
 
-#define MOST_WORDS 13                      /* those of a make */
+#define MOST_WORDS 15                      /* those of a make */
 #define LONGEST_SAID (FLOOR_IDENTITY + 1)  /* octets of an identity: with one too many it is refused for its length, as with more */
 #define MOST_32 4294967295u
-#define SETTINGS 6
+#define SETTINGS 7
 
 /* A word of the line; a quoted one is what stands between its quotation marks. */
 struct word {
@@ -124,7 +124,7 @@ static int seat_named(struct saying *line, const struct word *word, uint32_t *se
 
 static int say_make(struct saying *line)
 {
-    static const char *const names[SETTINGS] = {"ssrc", "level", "limit", "c7", "c20", "duration"};
+    static const char *const names[SETTINGS] = {"ssrc", "level", "limit", "c7", "c20", "duration", "normal"};
     uint32_t n[SETTINGS];
     for (int i = 0; i < SETTINGS; i++) {
         int found = 0;
@@ -135,10 +135,10 @@ static int say_make(struct saying *line)
                 found++;
             }
         if (found != 1)
-            return refuse(line, "not the six settings, each once");
+            return refuse(line, "not the seven settings, each once");
     }
-    snprintf(line->room, WORDS_ROOM, "make %" PRIu32 " %" PRIu32 " %" PRIu32 " %" PRIu32 " %" PRIu32 " %" PRIu32, n[0], n[1], n[2], n[3],
-             n[4], n[5]);
+    snprintf(line->room, WORDS_ROOM, "make %" PRIu32 " %" PRIu32 " %" PRIu32 " %" PRIu32 " %" PRIu32 " %" PRIu32 " %" PRIu32, n[0], n[1],
+             n[2], n[3], n[4], n[5], n[6]);
     return 1;
 }
 
@@ -263,7 +263,7 @@ char *words_in_figures(const struct floor_desk *desk, char *line, char *room, co
         const char *name;
         size_t least, most; /* words, the command among them */
         int (*say)(struct saying *line);
-    } forms[] = {{"make", 13, 13, say_make},     {"join", 4, 6, say_join},   {"leave", 2, 2, say_leave}, {"ask", 2, 3, say_ask},
+    } forms[] = {{"make", 15, 15, say_make},     {"join", 4, 6, say_join},   {"leave", 2, 2, say_leave}, {"ask", 2, 3, say_ask},
                  {"release", 2, 2, say_release}, {"place", 2, 2, say_place}, {"talk", 2, 2, say_talk}};
     struct saying said = {.desk = desk, .room = room};
     int good = cut(&said, line);

@@ -24,7 +24,8 @@
  *
  * THE DESK rests in a struct floor_desk; docs/FORMS.md has each place, and a program need not know them. The library keeps no state of its
  * own, allocates nothing, has no clock and calls nothing but C's memory functions. So a desk can be copied, kept in a file and put back, and
- * calls on different desks can be made at the same time.
+ * calls on different desks can be made at the same time. A desk that version 3 left is one with normal level 0; to version 3 a desk with
+ * another level is none.
  *
  * LENT OCTETS are a pointer and a length. A length of 0 may come with a null pointer. Of the buffers lent to one call none may overlap one
  * that is not const; two const ones may. A desk is lent with exactly FLOOR_DESK octets; only floor_make and floor_load, which do not look at
@@ -38,7 +39,7 @@
  *
  * CLOCKS are yours: the library has none. The last part of this page says when to start and to stop them.
  *
- * EXAMPLES. Each stands by itself, behind these lines: a call of two seats, just started, and two packets. tests/examples.test runs them all.
+ * EXAMPLES. Each stands by itself, behind these lines: a call of two seats, just started, and packets. tests/examples.test runs them all.
  * They are C and C++. In C the settings are better written in one place, `&(struct floor_making){.ssrc = 1, .level = 200, ..}`.
  *
  * Before each example:
@@ -52,6 +53,7 @@
  *     static struct floor_newcomer test1, test2, test3;
  *     const uint8_t ask0[] = {0x80, 204, 0, 3, 0, 0, 0, 10, 'M', 'C', 'P', 'T', 0, 2, 5, 0}; // seat 0 asks for the floor at priority 5
  *     const uint8_t ask1[] = {0x80, 204, 0, 3, 0, 0, 0, 11, 'M', 'C', 'P', 'T', 0, 2, 6, 0}; // seat 1 asks for it at priority 6
+ *     const uint8_t bare1[] = {0x80, 204, 0, 2, 0, 0, 0, 11, 'M', 'C', 'P', 'T'};            // seat 1 asks for it and names no priority
  *     settings.ssrc = 1, settings.level = 200, settings.limit = 2, settings.c7 = 2, settings.c20 = 2, settings.duration = 30;
  *     test1.identity = "test1", test1.identity_len = 5, test1.ssrc = 10, test1.highest = 255, test1.queueing = true;
  *     test2 = test1, test2.identity = "test2", test2.ssrc = 11;
@@ -90,7 +92,7 @@ which is plain C for any machine and not proved, and compile with -DFLOOR_ANY_MA
 extern "C" {
 #endif
 
-/* A struct whose members C initialises by name, or not at all: six bare numbers in a row are warned of. */
+/* A struct whose members C initialises by name, or not at all: bare numbers in a row are warned of. */
 #if defined __GNUC__ && !defined __clang__ && !defined __cplusplus
 #define FLOOR_BY_NAME __attribute__((designated_init))
 #else
@@ -99,9 +101,9 @@ extern "C" {
 
 /* ---- Numbers ---- */
 
-/* The version of this face. It goes up where a function, a number or a form comes to mean something else; names are kept from 2 on.
- * floor_version answers that of the archive. */
-#define FLOOR_VERSION 3
+/* The version of this face. It goes up where a function, a number or a form comes to mean something else; names are kept from 2 on, but for
+ * `zeros` of struct floor_settings, whose first octet means something from 4 on. floor_version answers that of the archive. */
+#define FLOOR_VERSION 4
 
 /* Sizes in octets. */
 #define FLOOR_DESK 1200       /* a desk */
@@ -110,7 +112,7 @@ extern "C" {
 #define FLOOR_PACKET_OUT 440  /* the longest packet that is ever written */
 #define FLOOR_PACKET_IN 1024  /* the longest packet that is read. Receive into one octet more, so that a longer one is seen to be longer */
 #define FLOOR_SHEET 1124      /* the longest sheet; the shortest has 20 */
-#define FLOOR_SETTINGS 12     /* the settings, as a sheet has them */
+#define FLOOR_SETTINGS 12     /* the settings */
 #define FLOOR_SEAT 69         /* the longest seat, as a sheet has it; the shortest has 8 */
 #define FLOOR_IDENTITY 62     /* the longest identity; the shortest has 1 */
 
@@ -122,9 +124,9 @@ extern "C" {
 /* Where a seat would stand, and none does. */
 #define FLOOR_NO_SEAT 255
 
-/* Refusals, each minus its number in document 01; -14 has its number from document 02, #107. Those of packets (floor_read, floor_packet):
- * -1 to -8 are tested in this order; then the fields from front to back, each for -9, then -14, then -10 (an ID of 192 or above gets -10);
- * then -11. */
+/* Refusals, each minus its number in document 01; -14 has its number from document 02, #107, and -48 from #101. Those of packets (floor_read,
+ * floor_packet): -1 to -8 are tested in this order; then the fields from front to back, each for -9, then -14, then -10 (an ID of 192 or above
+ * gets -10); then -11. */
 enum floor_refusal {
     FLOOR_REFUSAL_TOO_SHORT = -1,          /* fewer than 12 octets */
     FLOOR_REFUSAL_TOO_LONG = -2,           /* more than 1,024 octets */
@@ -150,12 +152,13 @@ enum floor_refusal {
     FLOOR_REFUSAL_IDENTITY_PRESENT = -26,  /* a seat has this identity already */
     FLOOR_REFUSAL_SSRC_PRESENT = -27,      /* SSRC present already or the desk's */
     FLOOR_REFUSAL_OUTSIDE_RANGE = -28,     /* a setting outside its range */
-    /* of sheets (floor_load) */
+    /* of sheets (floor_load, and -48 of floor_save) */
     FLOOR_REFUSAL_NO_TRAILER = -41,        /* under 20 octets, or no letters FS */
     FLOOR_REFUSAL_SHEET_FORM = -42,        /* form not 1 */
     FLOOR_REFUSAL_SHEET_OFFSETS = -43,     /* count above 16, settings not 20 octets before the end, or seats' offset not zero */
     FLOOR_REFUSAL_SHEET_SETTINGS = -44,    /* a setting outside its range, or one of the two octets behind them not zero */
-    FLOOR_REFUSAL_SHEET_SEATS = -45        /* a seat against the layout or that could not join, or seats that do not end at the settings */
+    FLOOR_REFUSAL_SHEET_SEATS = -45,       /* a seat against the layout or that could not join, or seats that do not end at the settings */
+    FLOOR_REFUSAL_SHEET_CANNOT_HOLD = -48  /* the desk has what no sheet can hold: a normal level other than 0 (floor_save) */
 };
 
 /* Types of packets, and kinds of outgoing messages. */
@@ -292,9 +295,10 @@ struct floor_message {
     struct floor_part user;   /* 6 User ID, 1 to 62 */
 };
 
-/* Settings and a seat, as a sheet has them (docs/SHEET.md). */
+/* The settings as a desk has them, and a seat as a sheet has it (docs/SHEET.md). The settings of a sheet are these too, but that zero stands
+ * there in place of the normal level. */
 struct floor_settings {
-    uint8_t ssrc[4], level, limit, c7, c20, duration[2], zeros[2];
+    uint8_t ssrc[4], level, limit, c7, c20, duration[2], normal, zero;
 };
 struct floor_seat {
     uint8_t flags, highest, ssrc[4], length; /* of the identity */
@@ -326,13 +330,15 @@ typedef char floor_octets_alone[sizeof(struct floor_desk) == FLOOR_DESK && sizeo
 /* ---- Structs of plain numbers: what a desk is made with, who joins, who holds the floor, which clocks run ---- */
 
 /* The settings. Numbers are wide, so that none is cut: one outside its range gets -28. A name that is left out is 0, which gets -28 too, but
- * for ssrc and limit. */
+ * for ssrc, limit and normal. A program that was written for version 3 leaves normal out, and requests that name no priority count as 0, as
+ * they did there. */
 struct FLOOR_BY_NAME floor_making {
     uint32_t ssrc;     /* the desk's own, any number */
     uint32_t level;    /* from this priority on a request is pre-emptive, 1 to 255 */
     uint32_t limit;    /* how many may wait in line, 0 to 15 */
     uint32_t c7, c20;  /* the limits of C7 and C20, 1 to 255 each */
     uint32_t duration; /* that Granted tells, 1 to 65535 seconds */
+    uint32_t normal;   /* the priority of a request that names none, 0 to 255 */
 };
 
 struct FLOOR_BY_NAME floor_newcomer {
@@ -412,7 +418,7 @@ static inline void floor_report_clear(struct floor_report *report)
  *
  * In C     floor_desk_make and floor_desk_load ask it, and stop the program (a trap) where the two do not belong together. A program that
  *          wants to say so in its own words asks first.
- * Answers  3  the version; there is no refusal
+ * Answers  4  the version; there is no refusal
  * Leaves   everything.
  * Example:
  *     assert(floor_version() == FLOOR_VERSION);
@@ -436,23 +442,26 @@ static inline void floor_belong_together(void)
  *                    5), an emergency among them, and then nobody is revoked. At 15 the line is never full
  *          c7, c20   the limits of C7 and C20, 1 to 255 each
  *          duration  that Granted tells, 1 to 65535 seconds; it is the time of T2 too (CLOCKS)
+ *          normal    the normal level: the priority of a request without a Floor Priority field, 0 to 255. It has no tie with level: at
+ *                    level or above, such a request is pre-emptive. Only at 0 can the desk be saved (floor_save). (Version 3 had no such
+ *                    parameter, and was at 0)
  * Answers  0    done
  *          -28  a setting outside its range
  *          -13  fewer than FLOOR_DESK octets lent
  * Leaves   octets behind the first FLOOR_DESK.
  * Example:
- *     assert(floor_desk_make(&desk, &settings) == 0);
+ *     assert(floor_desk_make(&desk, &settings) == 0); // settings.normal is 0
  *     assert(floor_desk_phase(&desk) == FLOOR_PHASE_STOPPED && floor_desk_seats(&desk) == 0);
- *     settings.level = 256;
+ *     settings.normal = 256;
  *     assert(floor_desk_make(&desk, &settings) == FLOOR_REFUSAL_OUTSIDE_RANGE);
  */
 FLOOR_CHECKED int32_t floor_make(uint8_t *desk, size_t desk_len, uint32_t ssrc, uint32_t level, uint32_t limit, uint32_t c7, uint32_t c20,
-                                 uint32_t duration);
+                                 uint32_t duration, uint32_t normal);
 
 static inline FLOOR_CHECKED int32_t floor_desk_make(struct floor_desk *desk, const struct floor_making *with)
 {
     floor_belong_together();
-    return floor_make(desk->octets, FLOOR_DESK, with->ssrc, with->level, with->limit, with->c7, with->c20, with->duration);
+    return floor_make(desk->octets, FLOOR_DESK, with->ssrc, with->level, with->limit, with->c7, with->c20, with->duration, with->normal);
 }
 
 /* Somebody takes the lowest free seat, in any phase. Nobody is told.
@@ -557,8 +566,9 @@ static inline FLOOR_CHECKED int32_t floor_desk_stop(struct floor_desk *desk, str
     return floor_stop(desk->octets, FLOOR_DESK, (uint8_t *)report, FLOOR_REPORT);
 }
 
-/* A packet came in. Request, Release and Queue Position Request have a rule. The priority of a Request is the lower of its field 0 and the
- * seat's highest, and 0 without that field. One who is not in line and asks for its place is told place 255, priority 0.
+/* A packet came in. Request, Release and Queue Position Request have a rule. The priority of a Request is the lower of what it asks for and
+ * the seat's highest. It asks for what its field 0 says, a 0 too, and without that field for the desk's normal level (floor_make). (Version 3
+ * took its absence for 0.) One who is not in line and asks for its place is told place 255, priority 0.
  *
  * Takes    packet  the octets as they came, one whole packet and nothing behind it; who sent it is found by its SSRC
  * Answers  0               done; also if the request was denied: a Deny is a message
@@ -570,10 +580,10 @@ static inline FLOOR_CHECKED int32_t floor_desk_stop(struct floor_desk *desk, str
  *          -13             fewer than FLOOR_REPORT octets lent
  * Leaves   the packet, the seats, the settings; the whole desk on a Deny and on a Queue Position Request.
  * Example:
- *     assert(floor_desk_packet(&desk, ask0, sizeof ask0, &report) == 0);
- *     assert(report.given == 0 && report.how == FLOOR_GIVEN_AT_ONCE);
+ *     assert(floor_desk_packet(&desk, ask0, sizeof ask0, &report) == 0 && report.given == 0 && report.how == FLOOR_GIVEN_AT_ONCE);
  *     assert(floor_sent_type(&report.sent[0]) == FLOOR_TYPE_GRANTED && floor_two(report.sent[0].to) == 1 << 0); // Granted goes to seat 0,
  *     assert(floor_sent_type(&report.sent[1]) == FLOOR_TYPE_TAKEN && floor_two(report.sent[1].to) == 1 << 1);   // Taken to seat 1
+ *     assert(floor_desk_packet(&desk, bare1, sizeof bare1, &report) == 0 && report.sent[0].priority == 0); // seat 1 waits at the normal level
  */
 FLOOR_CHECKED int32_t floor_packet(uint8_t *desk, size_t desk_len, const uint8_t *packet, size_t packet_len, uint8_t *report,
                                    size_t report_len);
@@ -715,15 +725,18 @@ static inline FLOOR_CHECKED int32_t floor_message_write(const struct floor_messa
 
 /* ---- The sheet: seats and settings, to be kept (docs/SHEET.md has its octets) ---- */
 
-/* Saves seats and settings, in any phase.
+/* Saves seats and settings, in any phase. A sheet has no place for the normal level, so a desk is saved only if that is 0.
  *
  * Takes    room  for the sheet; FLOOR_SHEET octets are always enough
  * Answers  20 to 1124  the sheet's length: 20, and for each taken seat 7 and its identity
  *          -20         not a desk
+ *          -48         its normal level is not 0
  *          -13         the room is shorter than the sheet
  * Leaves   the desk.
  * Example:
  *     assert(floor_desk_save(&desk, &sheet) == 20 + (7 + 5) + (7 + 5));
+ *     settings.normal = 100;
+ *     assert(floor_desk_make(&other, &settings) == 0 && floor_desk_save(&other, &sheet) == FLOOR_REFUSAL_SHEET_CANNOT_HOLD);
  */
 FLOOR_CHECKED int32_t floor_save(const uint8_t *desk, size_t desk_len, uint8_t *room, size_t room_len);
 
@@ -732,8 +745,8 @@ static inline FLOOR_CHECKED int32_t floor_desk_save(const struct floor_desk *des
     return floor_save(desk->octets, FLOOR_DESK, room->octets, FLOOR_SHEET);
 }
 
-/* Makes a fresh desk from a sheet in the first FLOOR_DESK octets: Stopped, as floor_make does, its seats numbered from 0 in the order of the
- * sheet. What stood there is not asked.
+/* Makes a fresh desk from a sheet in the first FLOOR_DESK octets: Stopped, as floor_make does, with normal level 0, its seats numbered from 0
+ * in the order of the sheet. What stood there is not asked.
  *
  * Takes    sheet  exactly the octets that floor_save wrote, or such by hand
  * Answers  0    done
@@ -820,9 +833,10 @@ FLOOR_CHECKED int32_t floor_holder(const uint8_t *desk, size_t desk_len);
  *          -22       nobody holds the floor: Stopped or Idle
  * Leaves   the desk.
  * Example:
- *     assert(floor_holder_priority(desk.octets, sizeof desk.octets) == FLOOR_REFUSAL_NO_SUCH_SEAT);
- *     assert(floor_desk_packet(&desk, ask1, sizeof ask1, &report) == 0);
- *     assert(floor_holder_priority(desk.octets, sizeof desk.octets) == 6);
+ *     settings.normal = 100;
+ *     assert(floor_desk_make(&desk, &settings) == 0 && floor_desk_join(&desk, &test1) == 0 && floor_desk_join(&desk, &test2) == 1);
+ *     assert(floor_desk_start(&desk, &report) == 0 && floor_desk_packet(&desk, bare1, sizeof bare1, &report) == 0);
+ *     assert(floor_holder_priority(desk.octets, sizeof desk.octets) == 100); // seat 1 named no priority: it was given the floor at 100
  */
 FLOOR_CHECKED int32_t floor_holder_priority(const uint8_t *desk, size_t desk_len);
 
@@ -946,7 +960,8 @@ static inline FLOOR_CHECKED int32_t floor_desk_seat(const struct floor_desk *des
     return floor_seat(desk->octets, FLOOR_DESK, seat, (uint8_t *)room, FLOOR_SEAT);
 }
 
-/* The settings, as the sheet lays them out (struct floor_settings).
+/* The settings (struct floor_settings): as the sheet lays them out, but with the normal level in place of the first of its two zeros. (Version
+ * 3 wrote zero there.)
  *
  * Takes    room  for the settings: FLOOR_SETTINGS octets or more
  * Answers  12   how many octets they have
@@ -955,7 +970,7 @@ static inline FLOOR_CHECKED int32_t floor_desk_seat(const struct floor_desk *des
  * Leaves   the desk.
  * Example:
  *     struct floor_settings made;
- *     assert(floor_desk_settings(&desk, &made) == 12 && made.level == 200 && floor_two(made.duration) == 30);
+ *     assert(floor_desk_settings(&desk, &made) == 12 && made.level == 200 && floor_two(made.duration) == 30 && made.normal == 0);
  */
 FLOOR_CHECKED int32_t floor_settings(const uint8_t *desk, size_t desk_len, uint8_t *room, size_t room_len);
 

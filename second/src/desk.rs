@@ -1,4 +1,4 @@
-//! The desk and its steps (document 01, "The desk").
+//! The desk and its steps (document 01, "The desk"; document 02, #101).
 
 use crate::line::{Entry, Line};
 use crate::packet::{Field, Kind, Message};
@@ -242,11 +242,11 @@ impl Desk {
 
 /// Packets that are events.
 impl Desk {
-    fn request(&mut self, number: usize, asked: u8) -> Outcome {
+    fn request(&mut self, number: usize, asked: Option<u8>) -> Outcome {
         let seat = self.seats.get(number).ok_or(Refusal::NobodyThere)?;
         let asker = Entry {
             seat: number,
-            priority: asked.min(seat.highest),
+            priority: self.effective(asked, seat),
         };
         let (queueing, receive_only) = (seat.queueing, seat.receive_only);
         if self.holds(number) {
@@ -259,6 +259,13 @@ impl Desk {
             None => Ok(self.ask_in_idle(asker)),
             Some(holder) => Ok(self.ask_to_wait(asker, queueing, holder)),
         }
+    }
+
+    /// The priority that all rules go by: the one asked or, where none is, the normal level;
+    /// but the seat's highest if that is lower.
+    fn effective(&self, asked: Option<u8>, seat: &Seat) -> u8 {
+        let wanted = asked.unwrap_or(self.settings.normal_level());
+        wanted.min(seat.highest)
     }
 
     /// Rule 1.

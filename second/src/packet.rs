@@ -249,11 +249,12 @@ impl<'a> Message<'a> {
         self.fields.get(usize::from(id))?.as_ref()
     }
 
-    /// The priority asked for; a message without the field asks for 0.
-    pub fn asked(&self) -> u8 {
+    /// The priority that a Floor Priority field names, if there is one. What a message without
+    /// it asks for is not the packet's to say.
+    pub fn asked(&self) -> Option<u8> {
         match self.field(0) {
-            Some(&Field::Priority(priority)) => priority,
-            _ => 0,
+            Some(&Field::Priority(priority)) => Some(priority),
+            _ => None,
         }
     }
 

@@ -34,6 +34,8 @@ pub enum Refusal {
     SheetOffsets = 43,
     SheetSettings = 44,
     SheetSeats = 45,
+    /// A desk with something that no sheet has a place for (document 02, #101).
+    NoSheetHoldsIt = 48,
 }
 
 impl Refusal {

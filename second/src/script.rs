@@ -5,12 +5,12 @@ use std::fmt::{self, Display, Write};
 use crate::desk::{Desk, Event, Phase};
 use crate::hex::{self, Hex};
 use crate::line::Entry;
-use crate::packet::{Field, Kind, Message};
+use crate::packet::{Field, Kind, Message, LONGEST_PACKET};
 use crate::refusal::Refusal;
 use crate::report::{How, Notice, Report};
 use crate::seats::{Seat, Seats, SEATS};
 use crate::settings::{Settings, Wishes};
-use crate::sheet;
+use crate::sheet::{self, LONGEST_SHEET};
 use crate::words::{self, Saying, Word};
 
 /// One line of a script, understood.
@@ -18,7 +18,8 @@ use crate::words::{self, Saying, Word};
 enum Command {
     Make(Wishes),
     Load(Vec<u8>),
-    Save,
+    /// In room for so many octets, or for any sheet.
+    Save(Option<u32>),
     Screen(u32),
     Step(Event),
     Read(Vec<u8>),
@@ -101,7 +102,7 @@ impl Player {
                 Ok(self.replace(settings.map(|good| Desk::fresh(good, Seats::default()))))
             }
             Command::Load(octets) => Ok(self.replace(sheet::load(&octets))),
-            Command::Save => Ok(Hex(&sheet::save(self.present()?)).to_string()),
+            Command::Save(room) => Ok(or_refusal(saved(self.present()?, room))),
             Command::Screen(room) => Ok(screen(self.present()?, room)),
             Command::Step(event) => self.step(event),
             Command::Read(octets) => Ok(or_refusal(Message::read(&octets).map(shown))),
@@ -147,16 +148,18 @@ fn in_figures(words: &[Word<'_>]) -> Result<Command, Reason> {
 fn understand(words: &[&[u8]]) -> Result<Command, Reason> {
     let (&name, rest) = words.split_first().ok_or("no command")?;
     match (name, rest) {
-        (b"make", &[ssrc, level, limit, c7, c20, duration]) => Ok(Command::Make(Wishes {
+        (b"make", &[ssrc, level, limit, c7, c20, duration, normal]) => Ok(Command::Make(Wishes {
             ssrc: number(ssrc)?,
             level: number(level)?,
             line_limit: number(limit)?,
             c7_limit: number(c7)?,
             c20_limit: number(c20)?,
             duration: number(duration)?,
+            normal_level: number(normal)?,
         })),
         (b"load", &[octets]) => Ok(Command::Load(hexadecimal(octets)?)),
-        (b"save", []) => Ok(Command::Save),
+        (b"save", []) => Ok(Command::Save(None)),
+        (b"save", &[room]) => Ok(Command::Save(Some(number(room)?))),
         (b"screen", &[room]) => Ok(Command::Screen(number(room)?)),
         (b"read", &[octets]) => Ok(Command::Read(hexadecimal(octets)?)),
         (b"rewrite", &[octets]) => Ok(Command::Rewrite(hexadecimal(octets)?)),
@@ -291,12 +294,8 @@ impl Draft {
         for field in &self.fields {
             message = message.with(field.lent());
         }
-        // No packet is longer than this, so more room makes no difference.
-        let mut room = [0; crate::packet::LONGEST_PACKET];
-        let lent = usize::try_from(self.room)
-            .unwrap_or(room.len())
-            .min(room.len());
-        let length = message.write(&mut room[..lent])?;
+        let mut room = [0; LONGEST_PACKET];
+        let length = message.write(&mut room[..lent(self.room, LONGEST_PACKET)])?;
         Ok(Hex(&room[..length]).to_string())
     }
 }
@@ -333,11 +332,22 @@ impl Display for Entry {
     }
 }
 
+/// How much room is lent where so much is asked for. Nothing takes more than the most, so
+/// more than that makes no difference.
+fn lent(room: u32, most: usize) -> usize {
+    usize::try_from(room).map_or(most, |room| room.min(most))
+}
+
+fn saved(desk: &Desk, room: Option<u32>) -> Result<String, Refusal> {
+    let mut octets = [0; LONGEST_SHEET];
+    let lent = room.map_or(LONGEST_SHEET, |room| lent(room, LONGEST_SHEET));
+    let length = sheet::save_in(desk, &mut octets[..lent])?;
+    Ok(Hex(&octets[..length]).to_string())
+}
+
 fn screen(desk: &Desk, room: u32) -> String {
     let mut entries = [Entry::default(); SEATS];
-    // No line is longer than this, so more room makes no difference.
-    let lent = usize::try_from(room).unwrap_or(SEATS).min(SEATS);
-    let length = desk.screen(&mut entries[..lent]);
+    let length = desk.screen(&mut entries[..lent(room, SEATS)]);
     or_refusal(length.map(|length| format!("L {}", joined(entries.iter().take(length), ","))))
 }
 

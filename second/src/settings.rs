@@ -1,4 +1,4 @@
-//! The settings of a desk (document 01, "The desk").
+//! The settings of a desk (document 01, "The desk"; document 02, #101).
 
 use crate::refusal::Refusal;
 
@@ -11,6 +11,7 @@ pub struct Settings {
     c7_limit: u8,
     c20_limit: u8,
     duration: u16,
+    normal_level: u8,
 }
 
 /// Settings as somebody asks for them, not yet judged.
@@ -22,6 +23,7 @@ pub struct Wishes {
     pub c7_limit: u32,
     pub c20_limit: u32,
     pub duration: u32,
+    pub normal_level: u32,
 }
 
 impl Settings {
@@ -33,6 +35,7 @@ impl Settings {
             c7_limit: narrowed(wishes.c7_limit, 1, 255)?,
             c20_limit: narrowed(wishes.c20_limit, 1, 255)?,
             duration: narrowed(wishes.duration, 1, 65_535)?,
+            normal_level: narrowed(wishes.normal_level, 0, 255)?,
         })
     }
 
@@ -59,6 +62,12 @@ impl Settings {
 
     pub fn duration(&self) -> u16 {
         self.duration
+    }
+
+    /// What a request counts as that names no priority. It may be at the pre-emptive level or
+    /// above it.
+    pub fn normal_level(&self) -> u8 {
+        self.normal_level
     }
 }
 

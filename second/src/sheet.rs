@@ -1,20 +1,31 @@
-//! The sheet: seats and settings, saved and loaded (document 01, "The sheet").
+//! The sheet: seats and settings, saved and loaded (document 01, "The sheet"; document 02,
+//! #101).
 
 use crate::desk::Desk;
+use crate::packet::LONGEST_IDENTITY;
 use crate::refusal::Refusal;
 use crate::seats::{Seat, Seats, SEATS};
 use crate::settings::{Settings, Wishes};
 use crate::slices;
 
+/// The octets of a seat that stand before its identity.
+const BEFORE_IDENTITY: usize = 7;
 const SETTINGS: usize = 12;
 const ENDING: usize = 8;
+/// The sheet of sixteen seats with the longest identities.
+pub const LONGEST_SHEET: usize = SEATS * (BEFORE_IDENTITY + LONGEST_IDENTITY) + SETTINGS + ENDING;
 const THIS_FORM: u8 = 1;
 const FS: [u8; 2] = *b"FS";
 const QUEUEING: u8 = 1;
 const RECEIVE_ONLY: u8 = 2;
+/// The normal level of every desk that a sheet of this form stands for: it has no place for it.
+const NORMAL_LEVEL: u8 = 0;
 
 /// The sheet of a desk, whatever its phase.
-pub fn save(desk: &Desk) -> Vec<u8> {
+pub fn save(desk: &Desk) -> Result<Vec<u8>, Refusal> {
+    if desk.settings().normal_level() != NORMAL_LEVEL {
+        return Err(Refusal::NoSheetHoldsIt);
+    }
     let mut sheet = Vec::new();
     for (_, seat) in desk.seats().taken() {
         lay_out_seat(&mut sheet, seat);
@@ -26,12 +37,13 @@ pub fn save(desk: &Desk) -> Vec<u8> {
     sheet.extend(offset.to_be_bytes());
     sheet.extend([0, 0, count, THIS_FORM]);
     sheet.extend(FS);
-    sheet
+    Ok(sheet)
 }
 
-/// Saves to the front of the lent room and says how long the sheet is.
+/// Saves to the front of the lent room and says how long the sheet is. A desk that has no sheet
+/// is told so first, whatever the room.
 pub fn save_in(desk: &Desk, room: &mut [u8]) -> Result<usize, Refusal> {
-    let sheet = save(desk);
+    let sheet = save(desk)?;
     let front = room.get_mut(..sheet.len());
     let front = front.ok_or(Refusal::RoomTooShort)?;
     front.copy_from_slice(&sheet);
@@ -93,6 +105,7 @@ fn parse_settings(octets: &[u8; SETTINGS]) -> Result<Settings, Refusal> {
         c7_limit: c7_limit.into(),
         c20_limit: c20_limit.into(),
         duration: u16::from_be_bytes([high, low]).into(),
+        normal_level: NORMAL_LEVEL.into(),
     };
     Settings::weigh(wishes).map_err(|_| Refusal::SheetSettings)
 }

@@ -82,7 +82,7 @@ fn split_quoted(octets: &[u8]) -> Result<(Word<'_>, &[u8]), Reason> {
 pub fn understand(words: &[Word<'_>], desk: Option<&Desk>) -> Option<Result<Saying, Reason>> {
     let from = |&seat: &Word<'_>, kind| sent(Message::new(kind, seated(seat, desk)?.1.ssrc));
     let event = match words {
-        [Bare(b"make"), settings @ ..] if settings.len() == 12 => {
+        [Bare(b"make"), settings @ ..] if settings.len() == 14 => {
             return Some(make(settings).map(Saying::Make));
         }
         &[Bare(b"join"), identity, ssrc, highest, ref flags @ ..] if flags.len() <= 2 => {
@@ -150,6 +150,7 @@ fn make(settings: &[Word<'_>]) -> Result<Wishes, Reason> {
         c7_limit: setting(b"c7")?,
         c20_limit: setting(b"c20")?,
         duration: setting(b"duration")?,
+        normal_level: setting(b"normal")?,
     })
 }
 
@@ -233,11 +234,12 @@ mod tests {
         assert_eq!(quoted(b""), Some("\"\"".to_string()));
     }
 
-    /// A call of seats 0, 1 and 2; seat 1 has an identity that quotes cannot hold.
+    /// A call of seats 0, 1 and 2; seat 1 has an identity that quotes cannot hold. Who asks at
+    /// 0 and who names no priority are not the same to the desk.
     fn call() -> Player {
         let mut player = Player::new();
         for line in [
-            "make ssrc 1 level 200 limit 2 c7 2 c20 2 duration 30",
+            "make ssrc 1 level 200 limit 2 c7 2 c20 2 duration 30 normal 100",
             "join \"test1\" 10 255 queueing",
             "join 22 11 255 queueing",
             "join \"Test1\" 4294967295 255",
@@ -249,11 +251,12 @@ mod tests {
         player
     }
 
-    /// What both lines are answered, and the sheet after it.
-    fn both(player: &Player, line: &str, other: &str) -> [Vec<Option<String>>; 2] {
+    /// What both lines are answered, and the desk after it.
+    fn both(player: &Player, line: &str, other: &str) -> [(String, Option<Desk>); 2] {
         [line, other].map(|line| {
             let mut player = player.clone();
-            vec![player.answer(line.as_bytes()), player.answer(b"save")]
+            let answer = player.answer(line.as_bytes()).expect("an answer");
+            (answer, player.desk().cloned())
         })
     }
 
@@ -279,17 +282,21 @@ mod tests {
             ("join \"c\" 12 7 receive-only queueing", "join 63 12 7 1 1"),
             ("join \"c\" 12 7 0 1", "join 63 12 7 0 1"),
             (
-                "make c20 5 c7 4 duration 6 ssrc 1 limit 3 level 2",
-                "make 1 2 3 4 5 6",
+                "make normal 7 c20 5 c7 4 duration 6 ssrc 1 limit 3 level 2",
+                "make 1 2 3 4 5 6 7",
+            ),
+            (
+                "make duration 6 c20 5 c7 4 limit 3 level 2 ssrc 1 normal 0",
+                "make 1 2 3 4 5 6 0",
+            ),
+            (
+                "make ssrc 1 level 2 limit 3 c7 4 c20 5 duration 6 normal 256",
+                "make 1 2 3 4 5 6 256",
             ),
         ] {
             let [said, meant] = both(&call, words, figures);
             assert_eq!(said, meant, "{words}");
-            assert_eq!(
-                said[0].as_ref().map(|answer| answer.starts_with('?')),
-                Some(false),
-                "{words}"
-            );
+            assert!(!said.0.starts_with('?'), "{words}");
         }
     }
 
@@ -330,12 +337,28 @@ mod tests {
             "join \"c\" 12 255 Queueing",
             "join \"c\" 12 255 queueing receive-only 0",
             "join c 12 255 queueing",
-            "make ssrc 1 level 200 limit 2 c7 2 c20 2",
+            "make ssrc 1 level 200 limit 2 c7 2 c20 2 duration 30",
+            "make ssrc 1 level 200 limit 2 c7 2 c20 2 duration 30 normal 0 ssrc 1",
+            "make ssrc 1 level 200 limit 2 c7 2 c20 2 duration 30 normal 0 seconds 30",
+            "make ssrc 1 level 200 limit 2 c7 2 c20 2 duration 30 normal 0 0",
             "make ssrc 1 level 200 limit 2 c7 2 c20 2 duration 30 ssrc 1",
-            "make ssrc 1 level 200 limit 2 c7 2 c20 2 ssrc 1",
-            "make ssrc 1 level 200 limit 2 c7 2 c20 2 seconds 30",
-            "make ssrc 1 level 200 limit 2 c7 2 c20 2 duration x",
-            "make \"ssrc\" 1 level 200 limit 2 c7 2 c20 2 duration 30",
+            "make ssrc 1 level 200 limit 2 c7 2 c20 2 normal 0 normal 0",
+            "make ssrc 1 level 200 limit 2 c7 2 c20 2 normal 0 seconds 30",
+            "make ssrc 1 level 200 limit 2 c7 2 c20 2 duration 30 normal x",
+            "make ssrc 1 level 200 limit 2 c7 2 c20 2 duration 30 normal",
+            "make ssrc 1 level 200 limit 2 c7 2 c20 2 duration 30 normal 4294967296",
+            "make 1 200 2 2 2 30",
+            "make 1 200 2 2 2 30 0 0",
+            "make 1 200 2 2 2 30 -1",
+            "make 1 200 2 2 2 30 4294967296",
+            "save x",
+            "save -",
+            "save 0x14",
+            "save 4294967296",
+            "save 20 20",
+            "save 20 20 20",
+            "save \"20\"",
+            "make \"ssrc\" 1 level 200 limit 2 c7 2 c20 2 duration 30 normal 0",
             "start # now",
             "packet \"80cc\"",
             "timer \"1\"",

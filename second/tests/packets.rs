@@ -450,7 +450,7 @@ fn a_message_has_one_field_of_an_id() {
     let message = Message::new(Kind::Request, 1).with(Field::Priority(9));
     let other = message.with(Field::Priority(8));
     assert_eq!(other.fields().count(), 1);
-    assert_eq!((message.asked(), other.asked()), (9, 8));
+    assert_eq!((message.asked(), other.asked()), (Some(9), Some(8)));
     let octets = other.to_octets().expect("octets");
     assert_eq!(Message::read(&octets), Ok(other));
 }

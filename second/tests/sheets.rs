@@ -3,7 +3,7 @@
 mod common;
 
 use common::{ask, desk, person, started, wishes, with_seats};
-use second::desk::{Event, Phase};
+use second::desk::{Desk, Event, Phase};
 use second::refusal::Refusal;
 use second::settings::Wishes;
 use second::sheet;
@@ -12,8 +12,12 @@ fn refused(octets: &[u8]) -> u8 {
     sheet::load(octets).map_or_else(|refusal| refusal.number(), |_| 0)
 }
 
+fn saved(desk: &Desk) -> Vec<u8> {
+    sheet::save(desk).expect("a sheet")
+}
+
 fn saved_with(seats: usize) -> Vec<u8> {
-    sheet::save(&with_seats(desk(wishes()), seats))
+    saved(&with_seats(desk(wishes()), seats))
 }
 
 #[test]
@@ -32,7 +36,7 @@ fn a_sheet_octet_by_octet() {
         1, 2, 3, 4, 200, 2, 2, 2, 0x12, 0x34, 0, 0, // the settings
         0, 9, 0, 0, 1, 1, b'F', b'S', // the trailer
     ];
-    assert_eq!(sheet::save(&desk), expected);
+    assert_eq!(saved(&desk), expected);
 }
 
 #[test]
@@ -41,9 +45,20 @@ fn loaded_and_saved_again() {
         let octets = saved_with(seats);
         let loaded = sheet::load(&octets).expect("a desk");
         assert_eq!(loaded, with_seats(desk(wishes()), seats));
-        assert_eq!(sheet::save(&loaded), octets);
+        assert_eq!(saved(&loaded), octets);
     }
     assert_eq!(saved_with(0).len(), 20);
+}
+
+#[test]
+fn no_sheet_is_longer_than_that_of_sixteen_long_identities() {
+    let mut desk = desk(wishes());
+    for seat in 0..16u8 {
+        let identity = format!("{}{}", "x".repeat(61), char::from(b'a' + seat));
+        desk.step(Event::Join(person(&identity, 100 + u32::from(seat))));
+    }
+    assert_eq!(saved(&desk).len(), 1_124);
+    assert_eq!(sheet::LONGEST_SHEET, 1_124);
 }
 
 #[test]
@@ -52,7 +67,7 @@ fn a_loaded_desk_is_fresh_and_its_seats_stand_together() {
     ask(&mut desk, 2, 5);
     ask(&mut desk, 3, 5);
     desk.step(Event::Leave(1));
-    let loaded = sheet::load(&sheet::save(&desk)).expect("a desk");
+    let loaded = sheet::load(&saved(&desk)).expect("a desk");
     assert_eq!(loaded.phase(), Phase::Stopped);
     assert_eq!((loaded.sequence(), loaded.c7(), loaded.c20()), (0, 0, 0));
     let names: Vec<_> = loaded
@@ -67,7 +82,7 @@ fn a_loaded_desk_is_fresh_and_its_seats_stand_together() {
 #[test]
 fn room_for_a_sheet() {
     let desk = with_seats(desk(wishes()), 2);
-    let octets = sheet::save(&desk);
+    let octets = saved(&desk);
     let mut room = vec![0x55; octets.len() - 1];
     assert_eq!(sheet::save_in(&desk, &mut room), Err(Refusal::RoomTooShort));
     assert!(room.iter().all(|&octet| octet == 0x55));
@@ -125,7 +140,11 @@ fn refusals_of_the_settings() {
         (9, 0, 44),
         (9, 1, 0),
         (10, 1, 44),
+        (10, 100, 44),
+        (10, 255, 44),
         (11, 1, 44),
+        (11, 100, 44),
+        (11, 255, 44),
     ] {
         let mut octets = good.clone();
         octets[settings + place] = octet;

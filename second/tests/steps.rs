@@ -69,6 +69,36 @@ fn settings_at_their_edges() {
     for (value, good) in [(0, false), (1, true), (65_535, true), (65_536, false)] {
         assert_eq!(weigh(|wishes, value| wishes.duration = value, value), good);
     }
+    for (value, good) in [
+        (0, true),
+        (1, true),
+        (255, true),
+        (256, false),
+        (257, false),
+        (65_536, false),
+        (u32::MAX, false),
+    ] {
+        assert_eq!(
+            weigh(|wishes, value| wishes.normal_level = value, value),
+            good
+        );
+    }
+}
+
+#[test]
+fn the_two_levels_have_nothing_to_do_with_each_other() {
+    for level in [1, 2, 200, 255] {
+        for normal_level in [0, 1, 2, 199, 200, 201, 254, 255] {
+            let settings = Settings::weigh(Wishes {
+                level,
+                normal_level,
+                ..wishes()
+            });
+            let settings = settings.expect("settings");
+            assert_eq!(u32::from(settings.level()), level);
+            assert_eq!(u32::from(settings.normal_level()), normal_level);
+        }
+    }
 }
 
 #[test]
@@ -220,7 +250,7 @@ fn the_effective_priority_is_the_lower_one() {
     ask(&mut desk, 1, 4);
     desk.step(packet(request.with(Field::Priority(4))));
     assert_eq!(line(&desk), [(2, 4), (1, 4)]);
-    // No Floor Priority field is 0.
+    // No Floor Priority field is 0 where the normal level is.
     desk.step(packet(request));
     assert_eq!(line(&desk), [(1, 4), (2, 0)]);
 }

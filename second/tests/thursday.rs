@@ -186,11 +186,17 @@ fn row_by_row() {
 
 #[test]
 fn the_scripts_are_answered_as_worked_out_by_hand() {
-    let expected = include_str!("../../scripts/thursday.expected");
+    let thursday = include_str!("../../scripts/thursday.expected");
     let in_figures = include_str!("../../scripts/thursday.script");
     let in_words = include_str!("../../scripts/words.script");
+    let emergency = include_str!("../../scripts/emergency.expected");
+    let full_line = include_str!("../../scripts/emergency.script");
     assert!(!in_words.contains("packet"));
-    for script in [in_figures, in_words] {
+    for (script, expected) in [
+        (in_figures, thursday),
+        (in_words, thursday),
+        (full_line, emergency),
+    ] {
         let mut player = Player::new();
         let answers = script
             .lines()

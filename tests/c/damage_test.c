@@ -1,8 +1,8 @@
 /* What the library makes of octets that are no desk's, and of desks that no step left but that are in the form (docs/FORMS.md).
  *
- * Named damages first, one for each thing that the page says of the form. Then every bit of several desks: the verdict is the one that
- * bench/plain.c gives; where it is 20, every function answers so and changes nothing; where it is not, every step does what plain.c does,
- * octet for octet, and leaves a desk. */
+ * Named damages first, one for each thing that the page says of the form. Then every normal level, and every bit of several desks: the verdict
+ * is the one that bench/plain.c gives; where it is 20, every function answers so and changes nothing; where it is not, every step does what
+ * plain.c does, octet for octet, and leaves a desk. */
 #include "scene.h"
 #include "desks.h"
 #include "../../bench/plain.h"
@@ -20,7 +20,7 @@ struct damage {
 
 enum { PHASE = 4, TIMERS = 5, HOLDER = 6, GIVEN_AT = 7, CAUSE = 8, SEQUENCE = 10, C7 = 12, C20 = 13, WAITING = 14, LINE = 16, PRIORITIES = 32,
        SEATS = 48, SSRCS = 64, HIGHEST = 128, FLAGS = 144, FLAG_ZEROS = 160, OWN_SSRC = 176, LEVEL = 180, LIMIT = 181, C7_LIMIT = 182,
-       C20_LIMIT = 183, DURATION = 184, ZEROS = 186, LENGTHS = 192, NAMES = 208 };
+       C20_LIMIT = 183, DURATION = 184, NORMAL = 186, ZEROS = 187, LENGTHS = 192, NAMES = 208 };
 
 /* In REVOKING seat 0 holds the floor at 5, seat 3 waits at 200 and seat 1 at 6; seats 0 to 3 are taken, line limit 2, counters' limits 2. */
 static const struct damage damages[] = {
@@ -105,8 +105,14 @@ static const struct damage damages[] = {
     {STOPPED, {C7_LIMIT, 0}, "C7 limit 0"},
     {STOPPED, {C20_LIMIT, 0}, "C20 limit 0"},
     {STOPPED, {DURATION + 1, 0}, "duration 0"},
-    {STOPPED, {ZEROS, 1}, "zeros behind the settings"},
-    {STOPPED, {ZEROS + 5, 1}, "zeros behind the settings"},
+    {STOPPED, {ZEROS, 1}, "zero behind the normal level"},
+    {STOPPED, {NORMAL, 100, ZEROS, 1}, "zero behind the normal level"},
+    {STOPPED, {ZEROS + 1, 1}, "zeros behind the settings"},
+    {STOPPED, {ZEROS + 2, 1}, "zeros behind the settings"},
+    {STOPPED, {ZEROS + 3, 1}, "zeros behind the settings"},
+    {STOPPED, {ZEROS + 4, 1}, "zeros behind the settings"},
+    {REVOKING, {ZEROS, 255}, "zero behind the normal level"},
+    {REVOKING, {ZEROS + 4, 255}, "zeros behind the settings"},
 };
 
 /* Other desks in the form. */
@@ -135,6 +141,10 @@ static const struct damage changes[] = {
     {STOPPED, {C7_LIMIT, 255}, "C7 limit"},
     {STOPPED, {C20_LIMIT, 1}, "C20 limit"},
     {STOPPED, {DURATION, 255}, "duration"},
+    {STOPPED, {NORMAL, 255}, "normal level"},
+    {IDLE, {NORMAL, 5}, "normal level"},
+    {TAKEN, {NORMAL, 200}, "the normal level is pre-emptive"},
+    {REVOKING, {NORMAL, 1, LEVEL, 1}, "the normal level is pre-emptive"},
     {STOPPED, {LENGTHS, 6}, "an identity that ends with a zero"},
     {STOPPED, {NAMES, 0}, "an identity that begins with a zero"},
     {STOPPED, {LENGTHS, 62, NAMES + 61, 1}, "an identity of 62 octets"},
@@ -166,6 +176,23 @@ static void test_named_changes(void **state)
         damage(desk, &changes[i]);
         if (floor_phase(desk, sizeof desk) < 0)
             fail_msg("not taken for a desk: %s", changes[i].why);
+    }
+}
+
+/* Any octet is a normal level, and requests without the field count as it. */
+static void test_every_normal_level(void **state)
+{
+    (void)state;
+    for (int normal = 0; normal <= 255; normal++) {
+        uint8_t desk[FLOOR_DESK], packet[16], report[FLOOR_REPORT], settings[FLOOR_SETTINGS];
+        damage(desk, &(struct damage){IDLE, {NORMAL, normal}, ""});
+        assert_int_equal(floor_settings(desk, sizeof desk, settings, sizeof settings), FLOOR_SETTINGS);
+        assert_memory_equal(settings, desk + OWN_SSRC, FLOOR_SETTINGS);
+        uint8_t n = packet_of(packet, FLOOR_TYPE_REQUEST, FIRST_SSRC + 1, -1);
+        assert_int_equal(floor_packet(desk, sizeof desk, packet, n, report, sizeof report), 0);
+        assert_int_equal(floor_holder(desk, sizeof desk), 1);
+        assert_int_equal(floor_holder_priority(desk, sizeof desk), normal);
+        assert_int_equal(desk[NORMAL], normal);
     }
 }
 
@@ -297,14 +324,23 @@ static void assert_seats(const uint8_t *desk)
     assert_memory_equal(made, second, sizeof made);
 }
 
+/* The sheet, or 48 where the normal level is not 0; the room behind it, or all of it, is as it was. */
+static void assert_sheet(const uint8_t *desk)
+{
+    uint8_t sheet[FLOOR_SHEET] = {0}, other[FLOOR_SHEET] = {0}, loaded[FLOOR_DESK];
+    int32_t n = floor_save(desk, FLOOR_DESK, sheet, sizeof sheet);
+    assert_int_equal(n, plain_save(desk, FLOOR_DESK, other, sizeof other));
+    assert_memory_equal(sheet, other, sizeof sheet);
+    assert_int_equal(n == FLOOR_REFUSAL_SHEET_CANNOT_HOLD, desk[NORMAL] != 0);
+    if (n >= 0)
+        assert_int_equal(floor_load(loaded, sizeof loaded, sheet, (size_t)n), 0);
+}
+
 /* The looks and the sheet of a desk that is in the form. */
 static void assert_looks(const uint8_t *desk)
 {
-    uint8_t sheet[FLOOR_SHEET], other[FLOOR_SHEET], loaded[FLOOR_DESK], line[2 * FLOOR_SEATS], second[2 * FLOOR_SEATS];
-    int32_t n = floor_save(desk, FLOOR_DESK, sheet, sizeof sheet), waiting = floor_screen(desk, FLOOR_DESK, line, sizeof line);
-    assert_int_equal(n, plain_save(desk, FLOOR_DESK, other, sizeof other));
-    assert_memory_equal(sheet, other, (size_t)n);
-    assert_int_equal(floor_load(loaded, sizeof loaded, sheet, (size_t)n), 0);
+    uint8_t line[2 * FLOOR_SEATS], second[2 * FLOOR_SEATS];
+    int32_t waiting = floor_screen(desk, FLOOR_DESK, line, sizeof line);
     assert_int_equal(waiting, plain_screen(desk, FLOOR_DESK, second, sizeof second));
     assert_memory_equal(line, second, 2 * (size_t)waiting);
     assert_int_equal(floor_phase(desk, FLOOR_DESK), plain_phase(desk, FLOOR_DESK));
@@ -316,6 +352,21 @@ static void assert_looks(const uint8_t *desk)
     assert_int_equal(floor_c20(desk, FLOOR_DESK), plain_c20(desk, FLOOR_DESK));
     assert_int_equal(floor_seats(desk, FLOOR_DESK), plain_seats(desk, FLOOR_DESK));
     assert_seats(desk);
+    assert_sheet(desk);
+}
+
+/* Every step on desks of every normal level. */
+static void test_steps_at_every_normal_level(void **state)
+{
+    static const int desks[] = {STOPPED, IDLE, TAKEN, TWO_WAIT, REVOKING, OUT_OF_THE_LINE};
+    (void)state;
+    for (int normal = 0; normal <= 255; normal++)
+        for (size_t i = 0; i < COUNT(desks); i++) {
+            uint8_t desk[FLOOR_DESK];
+            damage(desk, &(struct damage){desks[i], {NORMAL, normal}, ""});
+            assert_looks(desk);
+            assert_steps_soundly(desk);
+        }
 }
 
 static void damage_every_bit(const uint8_t *whole)
@@ -373,9 +424,10 @@ static void test_every_bit_full(void **state)
 int main(void)
 {
     const struct CMUnitTest tests[] = {
-        cmocka_unit_test(test_named_damages),    cmocka_unit_test(test_named_changes),
-        cmocka_unit_test(test_every_bit_stopped), cmocka_unit_test(test_every_bit_idle),
-        cmocka_unit_test(test_every_bit_taken),  cmocka_unit_test(test_every_bit_revoking),
+        cmocka_unit_test(test_named_damages),      cmocka_unit_test(test_named_changes),
+        cmocka_unit_test(test_every_normal_level), cmocka_unit_test(test_steps_at_every_normal_level),
+        cmocka_unit_test(test_every_bit_stopped),  cmocka_unit_test(test_every_bit_idle),
+        cmocka_unit_test(test_every_bit_taken),    cmocka_unit_test(test_every_bit_revoking),
         cmocka_unit_test(test_every_bit_full),
     };
     return cmocka_run_group_tests(tests, NULL, NULL);

@@ -35,12 +35,11 @@ int32_t happen(uint8_t *desk, const struct event *e, uint8_t *report)
     return 0;
 }
 
-const uint8_t *thursday_desk(int n)
+static const uint8_t *play_thursday(uint8_t *desk, uint32_t normal, int n)
 {
-    static uint8_t desks[EVENTS + 1][FLOOR_DESK];
     static const char *const names[] = {"test1", "test10", "test2", "test3"};
-    uint8_t *desk = desks[n], report[FLOOR_REPORT];
-    assert_int_equal(floor_make(desk, FLOOR_DESK, DESK_SSRC, 200, 2, 2, 2, 30), 0);
+    uint8_t report[FLOOR_REPORT];
+    assert_int_equal(floor_make(desk, FLOOR_DESK, DESK_SSRC, 200, 2, 2, 2, 30, normal), 0);
     for (uint32_t seat = 0; seat < 4; seat++)
         assert_int_equal(floor_join(desk, FLOOR_DESK, (const uint8_t *)names[seat], strlen(names[seat]), FIRST_SSRC + seat, 255, seat != 3, 0),
                          seat);
@@ -49,12 +48,24 @@ const uint8_t *thursday_desk(int n)
     return desk;
 }
 
+const uint8_t *thursday_desk(int n)
+{
+    static uint8_t desks[EVENTS + 1][FLOOR_DESK];
+    return play_thursday(desks[n], 0, n);
+}
+
+const uint8_t *thursday_desk_at(uint32_t normal, int n)
+{
+    static uint8_t desks[EVENTS + 1][FLOOR_DESK];
+    return play_thursday(desks[n], normal, n);
+}
+
 const uint8_t *full_desk(void)
 {
     static uint8_t desk[FLOOR_DESK];
     uint8_t report[FLOOR_REPORT], name[FLOOR_IDENTITY];
     memset(name, 'x', sizeof name);
-    assert_int_equal(floor_make(desk, FLOOR_DESK, DESK_SSRC, 200, 15, 255, 255, 65535), 0);
+    assert_int_equal(floor_make(desk, FLOOR_DESK, DESK_SSRC, 200, 15, 255, 255, 65535, 0), 0);
     for (uint32_t seat = 0; seat < FLOOR_SEATS; seat++) {
         size_t length = seat < 8 ? FLOOR_IDENTITY - seat % 3 : seat - 7; /* 62 to 60, and 1 to 8 */
         name[0] = (uint8_t)('a' + seat);

@@ -10,14 +10,16 @@ struct event {
     const char *row;
     enum event_kind kind;
     uint32_t who; /* the seat, or the timer */
-    uint8_t priority;
+    int priority; /* -1 for a request without the field */
 };
 #define EVENTS 13
 extern const struct event thursday[EVENTS];
 
-/* The desk before its event n: 0 Stopped with four seats, 1 Idle, .., EVENTS the last one. */
+/* The desk before its event n: 0 Stopped with four seats, 1 Idle, .., EVENTS the last one. Its normal level is 0; the other one is made with
+ * any, which none of these events asks about: all of them name their priority. */
 enum { STOPPED = 0, IDLE = 1, TAKEN = 2, TWO_WAIT = 4, REVOKING = 9, OUT_OF_THE_LINE = 10, AFTER_THURSDAY = EVENTS };
 const uint8_t *thursday_desk(int n);
+const uint8_t *thursday_desk_at(uint32_t normal, int n);
 
 /* One event on a desk, through the library; a report of 24 octets. Answers what the step answers. */
 int32_t happen(uint8_t *desk, const struct event *e, uint8_t *report);

@@ -30,7 +30,7 @@ static void test_example(void **state)
 {
     uint8_t desk[FLOOR_DESK], report[FLOOR_REPORT], packet[FLOOR_PACKET_OUT];
     (void)state;
-    assert_int_equal(floor_make(desk, sizeof desk, 1, 200, 2, 2, 2, 30), 0);
+    assert_int_equal(floor_make(desk, sizeof desk, 1, 200, 2, 2, 2, 30, 0), 0);
     assert_int_equal(floor_join(desk, sizeof desk, (const uint8_t *)"test1", 5, 10, 255, 1, 0), 0);
     assert_int_equal(floor_join(desk, sizeof desk, (const uint8_t *)"test2", 5, 11, 255, 1, 0), 1);
     assert_int_equal(floor_start(desk, sizeof desk, report, sizeof report), 0);
@@ -287,6 +287,7 @@ static void test_skipped_field_twice(void **state)
 }
 
 #define REQUEST_OF_0 "80cc0003 0000000a 4d435054 00020500"
+#define BARE_REQUEST_OF_0 "80cc0002 0000000a 4d435054"
 #define RELEASE_OF_1 "84cc0002 0000000b 4d435054"
 #define RELEASE_OF_2 "84cc0002 0000000c 4d435054"
 #define ACK_OF_0 "8acc0004 0000000a 4d435054 0a020000 0c020100"
@@ -332,6 +333,7 @@ static const struct {
     {23, "packet", IDLE, RELEASE_OF_1, 0},
     {23, "packet", TAKEN, RELEASE_OF_1, 0},
     {23, "packet", REVOKING, REQUEST_OF_0, 0},
+    {23, "packet", REVOKING, BARE_REQUEST_OF_0, 0},
     {23, "packet", REVOKING, RELEASE_OF_2, 0},
     {23, "media", IDLE, "", FIRST_SSRC},
     {23, "media", REVOKING, "", FIRST_SSRC + 1},
@@ -381,9 +383,13 @@ static void test_join_refusals(void **state)
 /* A setting outside its range, before the room for the desk. */
 static void test_making_refusals(void **state)
 {
-    static const uint32_t outside[][6] = {{1, 0, 2, 2, 2, 30},     {1, 256, 2, 2, 2, 30}, {1, 200, 16, 2, 2, 30}, {1, 200, 2, 0, 2, 30},
-                                          {1, 200, 2, 256, 2, 30}, {1, 200, 2, 2, 0, 30}, {1, 200, 2, 2, 256, 30}, {1, 200, 2, 2, 2, 0},
-                                          {1, 200, 2, 2, 2, 65536}, {1, UINT32_MAX, 2, 2, 2, 30}, {1, 200, UINT32_MAX, 2, 2, 30}};
+    static const uint32_t outside[][7] = {
+        {1, 0, 2, 2, 2, 30, 0},       {1, 256, 2, 2, 2, 30, 0},        {1, 200, 16, 2, 2, 30, 0},       {1, 200, 2, 0, 2, 30, 0},
+        {1, 200, 2, 256, 2, 30, 0},   {1, 200, 2, 2, 0, 30, 0},        {1, 200, 2, 2, 256, 30, 0},      {1, 200, 2, 2, 2, 0, 0},
+        {1, 200, 2, 2, 2, 65536, 0},  {1, UINT32_MAX, 2, 2, 2, 30, 0}, {1, 200, UINT32_MAX, 2, 2, 30, 0}, {1, 200, 2, 2, 2, 30, 256},
+        {1, 200, 2, 2, 2, 30, 257},   {1, 200, 2, 2, 2, 30, 65536},    {1, 200, 2, 2, 2, 30, 1u << 31}, {1, 200, 2, 2, 2, 30, UINT32_MAX},
+        {1, 0, 2, 2, 2, 30, 100},
+    };
     const struct face *make = face("make");
     struct scene s;
     (void)state;
@@ -419,6 +425,10 @@ static const struct {
     {44, SEAT "00000001 c8 02 02 02 0000 0000 000c 0000 01 01 4653"},
     {44, SEAT "00000001 c8 02 02 02 001e 0001 000c 0000 01 01 4653"},
     {44, SEAT "00000001 c8 02 02 02 001e 0100 000c 0000 01 01 4653"},
+    {44, SEAT "00000001 c8 02 02 02 001e 0064 000c 0000 01 01 4653"},
+    {44, SEAT "00000001 c8 02 02 02 001e 6400 000c 0000 01 01 4653"}, /* form 1 has no place for a normal level, */
+    {42, SEAT "00000001 c8 02 02 02 001e 6400 000c 0000 01 02 4653"}, /* and there is no other form */
+    {44, "04 ff 0000000a 05 7465737431 00000001 c8 02 02 02 001e ff00 000c 0000 01 01 4653"},
     {45, SEAT SETTINGS "000c 0000 00 01 4653"},
     {45, SEAT SETTINGS "000c 0000 02 01 4653"},
     {45, SETTINGS "0000 0000 01 01 4653"},
@@ -655,7 +665,7 @@ static void test_room_for_desks(void **state)
     struct scene s;
     (void)state;
     set_scene(&s, face("make"), NULL, "");
-    memcpy(s.number, (const uint32_t[]){1, 200, 2, 2, 2, 30}, sizeof s.number);
+    memcpy(s.number, (const uint32_t[]){1, 200, 2, 2, 2, 30, 100}, sizeof s.number);
     assert_room(face("make"), &s, 0, FLOOR_DESK);
     set_scene(&s, face("load"), NULL, SEAT SETTINGS "000c 0000 01 01 4653");
     assert_room(face("load"), &s, 0, FLOOR_DESK);
@@ -724,7 +734,7 @@ static void test_null(void **state)
         for (int b = 0; b < 3; b++) {
             const struct face *f = face(nulls[i].face);
             set_scene(&s, f, thursday_desk(nulls[i].desk), nulls[i].in);
-            memcpy(s.number, (const uint32_t[]){0, 200, 2, 2, 2, 30}, sizeof s.number);
+            memcpy(s.number, (const uint32_t[]){0, 200, 2, 2, 2, 30, 0}, sizeof s.number);
             lend_null(&s.lent[b]);
             int32_t answer = play(f, &s);
             if (answer != nulls[i].answers[b])
@@ -948,12 +958,249 @@ static void test_saved_again(void **state)
     }
 }
 
+/* ---- The normal level: document 02, #101 ---- */
+
+enum { NORMAL = 186 }; /* its place in a desk; in the settings it is 10 */
+
+/* A desk of any normal level is that of level 0 but for one octet, all through Thursday's events, which name their priorities. */
+static void test_normal_level_stands(void **state)
+{
+    struct scene s;
+    (void)state;
+    for (uint32_t normal = 0; normal <= 255; normal++)
+        for (int n = STOPPED; n <= EVENTS; n++) {
+            uint8_t desk[FLOOR_DESK], settings[] = {0, 0, 0, 1, 200, 2, 2, 2, 0, 30, (uint8_t)normal, 0};
+            memcpy(desk, thursday_desk(n), sizeof desk);
+            desk[NORMAL] = (uint8_t)normal;
+            assert_memory_equal(thursday_desk_at(normal, n), desk, sizeof desk);
+            if (normal % 51 != 0) /* six of them are enough for the slower look */
+                continue;
+            set_scene(&s, face("settings"), desk, "");
+            assert_int_equal(play(face("settings"), &s), FLOOR_SETTINGS);
+            assert_memory_equal(s.lent[2].octets, settings, sizeof settings);
+        }
+}
+
+/* What a request counts as, by the normal level, the seat's highest priority and the field, -1 for none. */
+static const struct counted {
+    uint32_t normal;
+    uint8_t highest;
+    int asked, counts;
+} counted[] = {
+    {0, 255, -1, 0},     {0, 0, -1, 0},       {1, 255, -1, 1},     {100, 255, -1, 100}, {255, 255, -1, 255},
+    {100, 100, -1, 100}, {100, 99, -1, 99},   {100, 1, -1, 1},     {100, 0, -1, 0},     {255, 254, -1, 254}, /* no more than the highest */
+    {100, 255, 0, 0},    {100, 99, 0, 0},     {255, 255, 0, 0},    {1, 255, 0, 0},                           /* a field that says 0 is 0, */
+    {100, 255, 1, 1},    {100, 255, 99, 99},  {100, 255, 101, 101}, {100, 50, 49, 49},  {100, 50, 200, 50},  /* and any other what it says */
+    {199, 255, -1, 199}, {200, 255, -1, 200}, {201, 255, -1, 201}, {255, 199, -1, 199}, {255, 200, -1, 200}, /* 200 is pre-emptive */
+    {200, 255, 199, 199}, {199, 255, 200, 200}, {0, 255, 200, 200}, {7, 255, -1, 7},    {7, 6, -1, 6},
+};
+
+/* Seat 0 and seat 1, which both queue, in Idle; seat 1 has the row's highest priority. */
+static void open_counted(uint8_t *desk, const struct counted *row)
+{
+    uint8_t report[FLOOR_REPORT];
+    assert_int_equal(floor_make(desk, FLOOR_DESK, DESK_SSRC, 200, 2, 2, 2, 30, row->normal), 0);
+    assert_int_equal(floor_join(desk, FLOOR_DESK, (const uint8_t *)"a", 1, FIRST_SSRC, 255, 1, 0), 0);
+    assert_int_equal(floor_join(desk, FLOOR_DESK, (const uint8_t *)"b", 1, FIRST_SSRC + 1, row->highest, 1, 0), 1);
+    assert_int_equal(floor_start(desk, FLOOR_DESK, report, sizeof report), 0);
+}
+
+/* Seat 1 asks while seat 0 holds the floor at 3. It waits at what its request counts as, and presses from 200 on; when the floor of seat 0
+ * ends, it is given the floor at that. */
+static void assert_waits(uint8_t *desk, const struct counted *row)
+{
+    const struct event asks = {"", ASK, 1, row->asked};
+    uint8_t report[FLOOR_REPORT], line[2 * FLOOR_LINE];
+    assert_int_equal(happen(desk, &asks, report), 0);
+    assert_int_equal(report[8], FLOOR_TYPE_QUEUE_POSITION_INFO);
+    assert_int_equal(report[12], row->counts);
+    assert_int_equal(report[16], row->counts >= 200 ? FLOOR_TYPE_REVOKE : FLOOR_TYPE_NOTHING);
+    assert_int_equal(floor_phase(desk, FLOOR_DESK), row->counts >= 200 ? FLOOR_PHASE_REVOKING : FLOOR_PHASE_TAKEN);
+    assert_int_equal(floor_screen(desk, FLOOR_DESK, line, sizeof line), 1);
+    assert_true(line[0] == 1 && line[1] == row->counts);
+    assert_int_equal(floor_timer(desk, FLOOR_DESK, 1, report, sizeof report), 0);
+    assert_int_equal(floor_holder(desk, FLOOR_DESK), 1);
+    assert_int_equal(floor_holder_priority(desk, FLOOR_DESK), row->counts);
+}
+
+/* Given at once; placed; asking again in line, where it is moved; and the holder asking again, which changes nothing. */
+static void test_what_a_request_counts_as(void **state)
+{
+    static const struct event first = {"", ASK, 0, 3}, at_7 = {"", ASK, 1, 7}, again = {"", ASK, 1, -1};
+    (void)state;
+    for (size_t i = 0; i < COUNT(counted); i++) {
+        const struct event asks = {"", ASK, 1, counted[i].asked};
+        uint8_t desk[FLOOR_DESK], before[FLOOR_DESK], report[FLOOR_REPORT];
+        open_counted(desk, &counted[i]);
+        assert_int_equal(happen(desk, &asks, report), 0);
+        assert_true(report[5] == 1 && report[6] == FLOOR_GIVEN_AT_ONCE);
+        assert_true(report[8] == FLOOR_TYPE_GRANTED && report[12] == counted[i].counts);
+        assert_int_equal(floor_holder_priority(desk, sizeof desk), counted[i].counts);
+        memcpy(before, desk, sizeof before);
+        assert_int_equal(happen(desk, &again, report), 0);
+        assert_true(report[5] == FLOOR_NO_SEAT && report[8] == FLOOR_TYPE_GRANTED && report[12] == counted[i].counts);
+        assert_memory_equal(desk, before, sizeof desk);
+        open_counted(desk, &counted[i]);
+        assert_int_equal(happen(desk, &first, report), 0);
+        memcpy(before, desk, sizeof before);
+        assert_waits(desk, &counted[i]);
+        assert_int_equal(happen(before, &at_7, report), 0);
+        assert_waits(before, &counted[i]);
+    }
+}
+
+/* Requests on Thursday's desk with a normal level, -1 for no field: the report and the line. The pre-emptive level is 200. */
+static const struct {
+    uint32_t normal;
+    int desk;
+    uint32_t seat;
+    int priority;
+    const char *report, *line;
+} asked[] = {
+    {0, IDLE, 2, -1, "0000 00 ff ff 02 01 00  01 00 0000 00 00 0004  02 02 0002 00 00 000b", ""},
+    {100, IDLE, 2, -1, "0000 00 ff ff 02 01 00  01 00 0000 64 00 0004  02 02 0002 00 00 000b", ""},
+    {100, IDLE, 2, 0, "0000 00 ff ff 02 01 00  01 00 0000 00 00 0004  02 02 0002 00 00 000b", ""},
+    /* seat 0 holds the floor at 5, and keeps that; seat 3 does not queue, and is placed if it presses */
+    {100, TAKEN, 0, -1, "0000 00 ff ff ff 00 00  01 00 0000 05 00 0001  ff 00 0000 00 00 0000", ""},
+    {200, TAKEN, 0, -1, "0000 00 ff ff ff 00 00  01 00 0000 05 00 0001  ff 00 0000 00 00 0000", ""},
+    {199, TAKEN, 3, -1, "0000 00 ff ff ff 00 00  03 00 0001 00 00 0008  ff 00 0000 00 00 0000", ""},
+    {200, TAKEN, 3, -1, "0000 00 03 ff ff 00 00  06 00 0004 00 00 0001  ff 00 0000 00 00 0000", "03 c8"},
+    {255, TAKEN, 3, 199, "0000 00 ff ff ff 00 00  03 00 0001 00 00 0008  ff 00 0000 00 00 0000", ""},
+    {255, TAKEN, 3, 0, "0000 00 ff ff ff 00 00  03 00 0001 00 00 0008  ff 00 0000 00 00 0000", ""},
+    {255, TAKEN, 1, -1, "0000 00 01 ff ff 00 00  09 00 0001 ff 00 0002  06 00 0004 00 00 0001", "01 ff"},
+    /* seat 2 waits at 6 and seat 1 at 5; the line is at its limit */
+    {200, TWO_WAIT, 3, -1, "0000 00 ff ff ff 00 00  03 00 0007 00 00 0008  ff 00 0000 00 00 0000", "02 06 01 05"},
+    {0, TWO_WAIT, 2, -1, "0000 00 ff ff ff 00 00  09 00 0002 00 00 0004  ff 00 0000 00 00 0000", "01 05 02 00"},
+    {5, TWO_WAIT, 1, -1, "0000 00 ff ff ff 00 00  09 00 0002 05 00 0002  ff 00 0000 00 00 0000", "02 06 01 05"},
+    {5, TWO_WAIT, 2, -1, "0000 00 ff ff ff 00 00  09 00 0002 05 00 0004  ff 00 0000 00 00 0000", "01 05 02 05"},
+    {6, TWO_WAIT, 1, -1, "0000 00 ff ff ff 00 00  09 00 0002 06 00 0002  ff 00 0000 00 00 0000", "02 06 01 06"},
+    {6, TWO_WAIT, 2, -1, "0000 00 ff ff ff 00 00  09 00 0001 06 00 0004  ff 00 0000 00 00 0000", "02 06 01 05"},
+    {100, TWO_WAIT, 1, -1, "0000 00 ff ff ff 00 00  09 00 0001 64 00 0002  ff 00 0000 00 00 0000", "01 64 02 06"},
+    {100, TWO_WAIT, 2, 0, "0000 00 ff ff ff 00 00  09 00 0002 00 00 0004  ff 00 0000 00 00 0000", "01 05 02 00"},
+    {200, TWO_WAIT, 1, -1, "0000 00 ff ff ff 00 00  09 00 0001 c8 00 0002  06 00 0004 00 00 0001", "01 c8 02 06"},
+    /* somebody in line, or who holds the floor, is pre-emptive already */
+    {200, REVOKING, 1, -1, "0000 00 ff ff ff 00 00  09 00 0002 c8 00 0002  ff 00 0000 00 00 0000", "03 c8 01 c8"},
+    {200, OUT_OF_THE_LINE, 2, -1, "0000 00 02 ff ff 00 00  09 00 0001 c8 00 0004  ff 00 0000 00 00 0000", "02 c8 01 06"},
+    {7, OUT_OF_THE_LINE, 3, -1, "0000 00 ff ff ff 00 00  01 00 0000 c8 00 0008  ff 00 0000 00 00 0000", "01 06"},
+};
+
+static void test_asking_without_the_field(void **state)
+{
+    (void)state;
+    for (size_t i = 0; i < COUNT(asked); i++) {
+        const struct event asks = {"", ASK, asked[i].seat, asked[i].priority};
+        uint8_t desk[FLOOR_DESK], report[FLOOR_REPORT], line[2 * FLOOR_LINE];
+        memcpy(desk, thursday_desk_at(asked[i].normal, asked[i].desk), sizeof desk);
+        assert_int_equal(happen(desk, &asks, report), 0);
+        assert_octets(asked[i].report, report, sizeof report);
+        assert_octets(asked[i].line, line, 2 * (size_t)floor_screen(desk, sizeof desk, line, sizeof line));
+        assert_int_equal(desk[NORMAL], asked[i].normal);
+    }
+}
+
+/* No other field is a Floor Priority, and an Ack bit makes no difference; what is spare behind the priority is not looked at. */
+static const struct {
+    int counts; /* at normal level 100 */
+    const char *packet;
+} fields_of_0[] = {
+    {100, BARE_REQUEST_OF_0},
+    {100, "90cc0002 0000000a 4d435054"},
+    {100, "80cc0003 0000000a 4d435054 01020500"},
+    {100, "80cc0003 0000000a 4d435054 03020505"},
+    {100, "80cc0003 0000000a 4d435054 07020500"},
+    {100, "80cc0003 0000000a 4d435054 0d020500"},
+    {100, "80cc0004 0000000a 4d435054 07060002 05000000"},
+    {5, REQUEST_OF_0},
+    {5, "90cc0003 0000000a 4d435054 000205ff"},
+    {5, "80cc0004 0000000a 4d435054 0d028000 00020500"},
+    {0, "80cc0003 0000000a 4d435054 00020000"},
+    {0, "80cc0003 0000000a 4d435054 000200ff"},
+    {0, "80cc0004 0000000a 4d435054 07020500 00020005"},
+};
+
+static void test_fields_that_are_no_priority(void **state)
+{
+    struct scene s;
+    (void)state;
+    for (size_t i = 0; i < COUNT(fields_of_0); i++) {
+        set_scene(&s, face("packet"), thursday_desk_at(100, IDLE), fields_of_0[i].packet);
+        assert_int_equal(play(face("packet"), &s), 0);
+        assert_int_equal(play(face("holder"), &s), 0);
+        assert_int_equal(play(face("holder_priority"), &s), fields_of_0[i].counts);
+    }
+}
+
+/* Without the field, all is as if the field said the normal level: in every phase, from every seat, refused or done. */
+static void test_no_field_is_the_normal_level(void **state)
+{
+    static const uint32_t levels[] = {0, 4, 5, 6, 7, 100, 199, 200, 255};
+    (void)state;
+    for (size_t i = 0; i < COUNT(levels); i++)
+        for (int n = STOPPED; n <= EVENTS; n++)
+            for (uint32_t seat = 0; seat < 4; seat++) {
+                struct scene bare, with;
+                set_scene(&bare, face("packet"), thursday_desk_at(levels[i], n), "");
+                with = bare;
+                bare.lent[1].n = packet_of(bare.lent[1].octets, FLOOR_TYPE_REQUEST, FIRST_SSRC + seat, -1);
+                with.lent[1].n = packet_of(with.lent[1].octets, FLOOR_TYPE_REQUEST, FIRST_SSRC + seat, (int)levels[i]);
+                assert_int_equal(play(face("packet"), &bare), play(face("packet"), &with));
+                assert_memory_equal(bare.lent[0].octets, with.lent[0].octets, MOST);
+                assert_memory_equal(bare.lent[2].octets, with.lent[2].octets, MOST);
+            }
+}
+
+/* 48 in every phase, after 20 and before 13. At level 0 only the room counts. */
+static void test_normal_level_is_not_saved(void **state)
+{
+    static const uint32_t levels[] = {1, 2, 100, 200, 255};
+    const struct face *save = face("save");
+    struct scene s;
+    (void)state;
+    for (int n = STOPPED; n <= EVENTS; n++) {
+        size_t length = n == EVENTS ? 56 : 69; /* the last event is seat 1's leaving */
+        set_scene(&s, save, thursday_desk_at(0, n), "");
+        assert_room(save, &s, 2, length);
+        for (size_t i = 0; i < COUNT(levels); i++) {
+            set_scene(&s, save, thursday_desk_at(levels[i], n), "");
+            assert_refused_first(48, save, &s);
+            lend_room(&s.lent[2], length);
+            assert_refused_first(48, save, &s);
+            lend_room(&s.lent[2], length - 1);
+            assert_refused_first(48, save, &s);
+            lend_room(&s.lent[2], 1);
+            assert_refused_first(48, save, &s);
+            s.lent[0].octets[NORMAL + 1] = 1;
+            assert_refused_first(20, save, &s);
+        }
+    }
+}
+
+/* A sheet loads with normal level 0, whatever desk stood there, and is written back. */
+static void test_loaded_with_level_0(void **state)
+{
+    static const struct event asks = {"", ASK, 1, -1};
+    struct lent sheet;
+    uint8_t desk[FLOOR_DESK], other[FLOOR_DESK] = {0}, again[FLOOR_SHEET], report[FLOOR_REPORT];
+    (void)state;
+    lend_hex(&sheet, SEAT "01 ff 0000000b 05 7465737432 " SETTINGS "0018 0000 02 01 4653");
+    memcpy(desk, thursday_desk_at(255, TAKEN), sizeof desk);
+    assert_int_equal(floor_load(desk, sizeof desk, sheet.octets, sheet.n), 0);
+    assert_int_equal(floor_load(other, sizeof other, sheet.octets, sheet.n), 0);
+    assert_memory_equal(desk, other, sizeof desk);
+    assert_int_equal(desk[NORMAL], 0);
+    assert_int_equal(floor_save(desk, sizeof desk, again, sizeof again), sheet.n);
+    assert_memory_equal(again, sheet.octets, sheet.n);
+    assert_int_equal(floor_start(desk, sizeof desk, report, sizeof report), 0);
+    assert_int_equal(happen(desk, &asks, report), 0);
+    assert_int_equal(floor_holder_priority(desk, sizeof desk), 0);
+}
+
 /* Every refusal of the header, by some function: the tests above saw them. */
 static void test_every_refusal_was_reached(void **state)
 {
     (void)state;
-    for (int n = 1; n <= 45; n++)
-        if ((n <= 14 || (n >= 20 && n <= 28) || n >= 41) && !reached[n])
+    for (int n = 1; n <= 48; n++)
+        if ((n <= 14 || (n >= 20 && n <= 28) || (n >= 41 && n <= 45) || n == 48) && !reached[n])
             fail_msg("no call was refused with %d", n);
 }
 
@@ -990,6 +1237,13 @@ int main(void)
         cmocka_unit_test(test_lengths),
         cmocka_unit_test(test_sequence_turns_over),
         cmocka_unit_test(test_saved_again),
+        cmocka_unit_test(test_normal_level_stands),
+        cmocka_unit_test(test_what_a_request_counts_as),
+        cmocka_unit_test(test_asking_without_the_field),
+        cmocka_unit_test(test_fields_that_are_no_priority),
+        cmocka_unit_test(test_no_field_is_the_normal_level),
+        cmocka_unit_test(test_normal_level_is_not_saved),
+        cmocka_unit_test(test_loaded_with_level_0),
         cmocka_unit_test(test_every_refusal_was_reached),
     };
     return cmocka_run_group_tests(tests, NULL, NULL);

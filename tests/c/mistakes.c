@@ -1,5 +1,5 @@
-/* Mistakes that were easy to make with version 1 of the header. Compiled with the name of one, it must not compile; without any it does, and
- * runs: tests/mistakes.test. */
+/* Mistakes that were easy to make with version 1 of the header, and a call as version 3 had it. Compiled with the name of one, it must not
+ * compile; without any it does, and runs: tests/mistakes.test. */
 #undef NDEBUG
 #include <assert.h>
 #include <floor.h>
@@ -16,8 +16,10 @@ static const struct floor_making settings =
 
 static void make(struct floor_desk *desk)
 {
-#ifdef SIX_BARE_NUMBERS
+#if defined SIX_BARE_NUMBERS
     assert(floor_desk_make(desk, 1, 200, 2, 2, 2, 30) == 0);
+#elif defined SIX_NUMBERS_ON_OCTETS
+    assert(floor_make(desk->octets, sizeof desk->octets, 1, 200, 2, 2, 2, 30) == 0);
 #else
     assert(floor_desk_make(desk, &settings) == 0);
 #endif

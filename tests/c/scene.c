@@ -20,7 +20,7 @@ unsigned char reached[64];
         return answer; \
     }
 
-FACE(make, floor_make(DESK, c->number[0], c->number[1], c->number[2], c->number[3], c->number[4], c->number[5]))
+FACE(make, floor_make(DESK, c->number[0], c->number[1], c->number[2], c->number[3], c->number[4], c->number[5], c->number[6]))
 FACE(join, floor_join(DESK, IN, c->number[0], (uint8_t)c->number[1], (uint8_t)c->number[2], (uint8_t)c->number[3]))
 FACE(leave, floor_leave(DESK, c->number[0], OUT))
 FACE(start, floor_start(DESK, OUT))

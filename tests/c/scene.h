@@ -24,14 +24,14 @@ struct lent {
 
 struct scene {
     struct lent lent[3]; /* [0] the desk, or what stands in its place; [1] what is handed in; [2] room for the result */
-    uint32_t number[6];
+    uint32_t number[7];
 };
 
 /* What a call is handed. */
 struct call {
     uint8_t *at[3];
     size_t n[3];
-    uint32_t number[6];
+    uint32_t number[7];
 };
 
 struct face {

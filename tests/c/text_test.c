@@ -31,6 +31,7 @@ static void test_names(void **state)
     assert_string_equal(floor_text_timer(FLOOR_TIMER_1), "End of RTP media");
     assert_string_equal(floor_text_refusal(FLOOR_REFUSAL_NOT_A_DESK), "the lent octets are not a desk's");
     assert_string_equal(floor_text_refusal(FLOOR_REFUSAL_REPEATED), "a second field with an ID of the table");
+    assert_string_equal(floor_text_refusal(FLOOR_REFUSAL_SHEET_CANNOT_HOLD), "a normal level other than 0, which no sheet can hold");
     assert_string_equal(floor_text_refusal(15), "done");
 }
 
@@ -41,7 +42,7 @@ static void test_which_have_names(void **state)
     for (int32_t n = -300; n <= 300; n++) {
         uint32_t u = (uint32_t)n;
         bool type = (n >= 0 && n <= 10 && n != 7) || n == 255, field = n >= 0 && n <= 14 && n != 7 && n != 9 && n != 11;
-        bool refusal = (n <= -1 && n >= -14) || (n <= -20 && n >= -28) || (n <= -41 && n >= -45);
+        bool refusal = (n <= -1 && n >= -14) || (n <= -20 && n >= -28) || (n <= -41 && n >= -45) || n == -48;
         assert_int_equal(floor_text_type(u, FLOOR_WORDS_WIRESHARK)[0] != '?', type);
         assert_int_equal(floor_text_field(u, FLOOR_WORDS_PAPER)[0] != '?', field);
         assert_int_equal(floor_text_deny(u, FLOOR_WORDS_PAPER)[0] != '?', n == 1 || n == 3 || n == 5 || n == 7);

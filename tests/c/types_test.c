@@ -61,7 +61,8 @@ static const struct place places[] = {
     PLACE(floor_settings, c7, 6, 1),
     PLACE(floor_settings, c20, 7, 1),
     PLACE(floor_settings, duration, 8, 2),
-    PLACE(floor_settings, zeros, 10, 2),
+    PLACE(floor_settings, normal, 10, 1),
+    PLACE(floor_settings, zero, 11, 1),
     PLACE(floor_seat, flags, 0, 1),
     PLACE(floor_seat, highest, 1, 1),
     PLACE(floor_seat, ssrc, 2, 4),
@@ -199,15 +200,15 @@ static void test_done_step_has_its_report(void **state)
 
 /* ---- Settings, newcomers, looks ---- */
 
-/* No number is cut on its way: 256 and its like get -28. */
+/* No number is cut on its way: 256 and its like get -28. A normal level that is not named is 0. */
 static void test_wide_settings(void **state)
 {
     const struct floor_making good = {.ssrc = 1, .level = 200, .limit = 2, .c7 = 2, .c20 = 2, .duration = 30};
     struct floor_desk desk = desk_before(TAKEN), before = desk;
     (void)state;
-    for (int i = 0; i < 5; i++) {
+    for (int i = 0; i < 6; i++) {
         struct floor_making wide = good;
-        uint32_t *const members[] = {&wide.level, &wide.limit, &wide.c7, &wide.c20, &wide.duration};
+        uint32_t *const members[] = {&wide.level, &wide.limit, &wide.c7, &wide.c20, &wide.duration, &wide.normal};
         *members[i] += i == 4 ? 65536 : 256;
         assert_int_equal(floor_desk_make(&desk, &wide), FLOOR_REFUSAL_OUTSIDE_RANGE);
     }
@@ -217,6 +218,11 @@ static void test_wide_settings(void **state)
     struct floor_settings settings;
     assert_int_equal(floor_desk_settings(&desk, &settings), 12);
     assert_memory_equal(&settings, "\0\0\0\1\xc8\2\2\2\0\x1e\0\0", sizeof settings);
+    assert_int_equal(floor_desk_make(&desk, &(struct floor_making){.ssrc = 0x01020304, .level = 5, .limit = 6, .c7 = 7, .c20 = 8,
+                                                                   .duration = 0x090a, .normal = 11}), 0);
+    assert_int_equal(floor_desk_settings(&desk, &settings), 12);
+    assert_memory_equal(&settings, "\1\2\3\4\5\6\7\x8\x9\xa\xb\0", sizeof settings);
+    assert_true(settings.normal == 11 && settings.zero == 0);
 }
 
 static void test_newcomer(void **state)
@@ -255,6 +261,7 @@ static void test_looks(void **state)
     assert_true(floor_desk_holder(&desk).seat == FLOOR_REFUSAL_NOT_A_DESK && floor_desk_holder(&desk).priority == FLOOR_REFUSAL_NOT_A_DESK);
 }
 
+/* What is saved can be loaded; a desk with a normal level other than 0 is not saved. */
 static void test_sheet(void **state)
 {
     struct floor_desk desk, loaded;
@@ -265,6 +272,11 @@ static void test_sheet(void **state)
     assert_int_equal(floor_desk_load(&loaded, sheet.octets, (size_t)n), 0);
     assert_int_equal(floor_desk_save(&loaded, &again), n);
     assert_memory_equal(&sheet, &again, (size_t)n);
+    memcpy(desk.octets, thursday_desk_at(1, TAKEN), FLOOR_DESK);
+    memset(&sheet, 0x5A, sizeof sheet);
+    again = sheet;
+    assert_int_equal(floor_desk_save(&desk, &sheet), FLOOR_REFUSAL_SHEET_CANNOT_HOLD);
+    assert_memory_equal(&sheet, &again, sizeof sheet);
 }
 
 /* A refusal leaves the sets as they were. */

@@ -88,6 +88,7 @@ pub fn saved_number(saving: Saving) -> i32
 {
     match saving {
         Saving::Saved(n) => found(n as u32),
+        Saving::CannotHold => refusal(48),
         Saving::NoRoom => refusal(13),
     }
 }

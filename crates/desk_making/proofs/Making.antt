@@ -3,7 +3,7 @@ use Rattle.words.specs.Choice.{if_then_else_}
 use Rattle.desk_octets.specs.Places.{deskSize}
 use Prim.Native.Nat.{ℕ, _<_}
 use mathlib.Core.Path.{_≡_, refl, sym}
-use mathlib.Core.Bool.{Bool, true, false}
+use mathlib.Core.Bool.{Bool, true, false, _&&_}
 use mathlib.Core.List.{List}
 use lib.Dec.{eqb, leb, ltb}
 use lib.ListN.{length}
@@ -22,7 +22,7 @@ use Rattle.identities.specs.Identity.{noNames}
 use Rattle.events.specs.Events.{fresh}
 use Rattle.seat_octets.specs.Layout.{SettingsFit}
 use Rattle.desk_octets.specs.Form.{deskOctets}
-use Rattle.words.proofs.Tests.{and-five, five}
+use Rattle.words.proofs.Tests.{and-both, and-five, both, five}
 use Rattle.desk_making.specs.Making.{deskWritten, inOctets, settable, makeOn}
 
 module _ (room : List ℕ) (n k : ℕ) (c : Core) (h : Hall) (ns : Names) where
@@ -41,10 +41,14 @@ module _ (room : List ℕ) (n k : ℕ) (c : Core) (h : Hall) (ns : Names) where
 
 -- settings that octets hold, as a test and as facts
 module _ (s : Settings) where
+  abbrev five-hold : Bool
+  five-hold = ltb (s .level) 256 && ltb (s .limit) 256 && ltb (s .c7) 256 && ltb (s .c20) 256 && ltb (s .duration) 65536
+
   pub octets-hold : inOctets s ≡ true → s .ssrc < 4294967296 → SettingsFit s
   unfolding inOctets
   octets-hold q x =
-      let a = and-five (ltb (s .level) 256) (ltb (s .limit) 256) (ltb (s .c7) 256) (ltb (s .c20) 256) (ltb (s .duration) 65536) q in
+      let b = and-both five-hold (ltb (s .normal) 256) q in
+      let a = and-five (ltb (s .level) 256) (ltb (s .limit) 256) (ltb (s .c7) 256) (ltb (s .c20) 256) (ltb (s .duration) 65536) (b .0) in
       record {
         ssrc = x;
         level = ltb-true (s .level) 256 (a .0);
@@ -52,14 +56,17 @@ module _ (s : Settings) where
         c7 = ltb-true (s .c7) 256 (a .2);
         c20 = ltb-true (s .c20) 256 (a .3);
         duration = ltb-true (s .duration) 65536 (a .4);
+        normal = ltb-true (s .normal) 256 (b .1);
       }
 
   pub held-in-octets : SettingsFit s → inOctets s ≡ true
   unfolding inOctets
   held-in-octets f =
-      five (ltb (s .level) 256) (ltb (s .limit) 256) (ltb (s .c7) 256) (ltb (s .c20) 256) (ltb (s .duration) 65536)
+      both five-hold (ltb (s .normal) 256)
+      (five (ltb (s .level) 256) (ltb (s .limit) 256) (ltb (s .c7) 256) (ltb (s .c20) 256) (ltb (s .duration) 65536)
       (lt-ltb (s .level) 256 (f .level)) (lt-ltb (s .limit) 256 (f .limit)) (lt-ltb (s .c7) 256 (f .c7)) (lt-ltb (s .c20) 256 (f .c20))
-      (lt-ltb (s .duration) 65536 (f .duration))
+      (lt-ltb (s .duration) 65536 (f .duration)))
+      (lt-ltb (s .normal) 256 (f .normal))
 
 -- a desk is made by the answer to its settings
 module _ (room : List ℕ) (s : Settings) where

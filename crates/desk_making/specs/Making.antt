@@ -40,10 +40,11 @@ deskWritten room n k c h ns =
 
 -- settings come as numbers of 32 bits: those that no octet holds are outside their range
 abbrev pub narrowed : WideSettings → Settings
-narrowed w = settingsOf (w .ssrc) (w .level) (w .limit) (w .c7) (w .c20) (w .duration)
+narrowed w = settingsOf (w .ssrc) (w .level) (w .limit) (w .c7) (w .c20) (w .duration) (w .normal)
 
 unfoldable pub inOctets : Settings → Bool
-inOctets s = ltb (s .level) 256 && ltb (s .limit) 256 && ltb (s .c7) 256 && ltb (s .c20) 256 && ltb (s .duration) 65536
+inOctets s =
+    ltb (s .level) 256 && ltb (s .limit) 256 && ltb (s .c7) 256 && ltb (s .c20) 256 && ltb (s .duration) 65536 && ltb (s .normal) 256
 
 unfoldable pub settable : Settings → Bool
 settable s = inOctets s && inRange s

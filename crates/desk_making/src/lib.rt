@@ -19,6 +19,7 @@ pub struct WideSettings {
     pub c7: u32,
     pub c20: u32,
     pub duration: u32,
+    pub normal: u32,
 }
 
 // Writes a desk, unless its number refuses it or the room is too short for it. What is done is answered by `done`.
@@ -44,6 +45,7 @@ fn in_octets(wide: WideSettings) -> bool
         & (wide.c7 < 256)
         & (wide.c20 < 256)
         & (wide.duration < 65536)
+        & (wide.normal < 256)
 }
 
 fn narrow(wide: WideSettings) -> Settings
@@ -57,6 +59,7 @@ fn narrow(wide: WideSettings) -> Settings
         wide.c7 as u8,
         wide.c20 as u8,
         wide.duration as u16,
+        wide.normal as u8,
     )
 }
 

@@ -13,7 +13,7 @@ use Rattle.words.specs.Below.{below}
 use Rattle.words.proofs.Tests.{and-five}
 use Rattle.octets.specs.Octets.{be16, Octets, nthOctet}
 use Rattle.line.specs.Line.{entryOf}
-use Rattle.seat_octets.specs.Layout.{flagsTop, zerosFit}
+use Rattle.seat_octets.specs.Layout.{flagsTop, unusedZero}
 use Rattle.desk_octets.specs.Places.{deskSize, phasePlace, timersPlace, holderPlace, heldAtPlace, causePlace, countPlace, countZero}
 use Rattle.desk_octets.specs.Places.{waitingZero, prioritiesZero, takenColumn, flagsColumn, flagsZeros, settingsStart, settingsEnd}
 use Rattle.desk_octets.specs.Places.{lengthsColumn}
@@ -82,16 +82,16 @@ pub record HallFacts (s : List ℕ) : Type 0 where
   pub taken : upTo 1 s takenColumn 16 ≡ true
   pub flags : upTo flagsTop s flagsColumn 16 ≡ true
   pub behind-flags : upTo 0 s flagsZeros 16 ≡ true
-  pub settings-zeros : zerosFit s settingsStart ≡ true
+  pub settings-unused : unusedZero s settingsStart ≡ true
   pub behind-settings : upTo 0 s settingsEnd 4 ≡ true
 
 pub hall-facts : (s : List ℕ) → hallFits s ≡ true → HallFacts s
 unfolding hallFits
 hall-facts s e =
     let f =
-    and-five (upTo 1 s takenColumn 16) (upTo flagsTop s flagsColumn 16) (upTo 0 s flagsZeros 16) (zerosFit s settingsStart)
+    and-five (upTo 1 s takenColumn 16) (upTo flagsTop s flagsColumn 16) (upTo 0 s flagsZeros 16) (unusedZero s settingsStart)
     (upTo 0 s settingsEnd 4) e in
-    record { taken = f .0; flags = f .1; behind-flags = f .2; settings-zeros = f .3; behind-settings = f .4 }
+    record { taken = f .0; flags = f .1; behind-flags = f .2; settings-unused = f .3; behind-settings = f .4 }
 
 -- the identities
 pub fits-length : (s : List ℕ) → namesFit s ≡ true → (seat : ℕ) → seat < 16 → nthOctet s (lengthsColumn + seat) ≤ 62

@@ -26,7 +26,7 @@ use Rattle.desk_octets.specs.Places.{phasePlace, timersPlace, holderPlac
 use Rattle.desk_octets.specs.Places.{countZero, waitingZero, prioritiesZero, takenColumn, ssrcsColumn, highestColumn, flagsColumn}
 use Rattle.desk_octets.specs.Places.{flagsZeros, settingsStart, settingsEnd, lengthsColumn, identitiesColumn, deskSize}
 use Rattle.desk_octets.specs.Columns.{column, rows}
-use Rattle.seat_octets.specs.Layout.{flagsOctet, flagsOf, flagsTop, settingsSize, settingsOctets, zerosFit}
+use Rattle.seat_octets.specs.Layout.{flagsOctet, flagsOf, flagsTop, settingsSize, settingsOctets, unusedZero}
 use Rattle.seat_octets.proofs.Bits.{flags-forth}
 use Rattle.seat_octets.proofs.SettingsLaws.{settings-forth}
 use Rattle.desk_octets.specs.Form.{deskLetters, phaseOctets, lineOctets, coreOctets, boolOctets, octetColumn, seatFlagsOctets}
@@ -100,7 +100,7 @@ zeros-forth : (s : List ℕ) (at n : ℕ) → ((i : ℕ) → i < n → nthOctet 
 zeros-forth s at n z = column-is (nthOctet s) (replicate n 0) at n 0 (length-replicate n 0) (λ i b. zero-in n i ∙ sym (z i b))
 
 -- the settings, and the four zeros behind them
-settings-there : (s : List ℕ) → Octets s → deskSize ≤ length s → zerosFit s settingsStart ≡ true → upTo 0 s settingsEnd 4 ≡ true →
+settings-there : (s : List ℕ) → Octets s → deskSize ≤ length s → unusedZero s settingsStart ≡ true → upTo 0 s settingsEnd 4 ≡ true →
     settingsOctets (settingsAt s) ++ replicate 4 0 ≡ from s settingsStart 16
 settings-there s o l z e =
     let g : settingsOctets (settingsAt s) ≡ from s settingsStart settingsSize =
@@ -126,7 +126,7 @@ hall-forth s o l e =
     (from s takenColumn 16 ++ from s ssrcsColumn 64 ++ from s highestColumn 16 ++ from s flagsColumn 16 ++ from s flagsZeros 16)
     (settingsOctets (settingsAt s)) (replicate 4 0)
     ∙ rw (
-      settings-there s o l (f .settings-zeros) (f .behind-settings),
+      settings-there s o l (f .settings-unused) (f .behind-settings),
       column-two (nthOctet s) takenColumn 16 64,
       column-two (nthOctet s) takenColumn 80 16,
       column-two (nthOctet s) takenColumn 96 16,

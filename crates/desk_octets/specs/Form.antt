@@ -18,7 +18,7 @@ use Rattle.line.specs.Line.{waiting, empty}
 use Rattle.hall.specs.declared.Settings.{Settings}
 use Rattle.hall.specs.declared.Flags.{Flags}
 use Rattle.hall.specs.Seats.{noFlags}
-use Rattle.seat_octets.specs.Layout.{flagsOctet, flagsOf, flagsTop, settingsOctets, settingsIn, zerosFit}
+use Rattle.seat_octets.specs.Layout.{flagsOctet, flagsOf, flagsTop, settingsOctets, settingsIn, unusedZero}
 use Rattle.hall.specs.declared.Hall.{Hall}
 use Rattle.identities.specs.declared.Name.{Name}
 use Rattle.identities.specs.declared.Names.{Names}
@@ -215,7 +215,7 @@ coreFits s =
 
 unfoldable pub hallFits : List ℕ → Bool
 hallFits s =
-    upTo 1 s takenColumn 16 && upTo flagsTop s flagsColumn 16 && upTo 0 s flagsZeros 16 && zerosFit s settingsStart
+    upTo 1 s takenColumn 16 && upTo flagsTop s flagsColumn 16 && upTo 0 s flagsZeros 16 && unusedZero s settingsStart
     && upTo 0 s settingsEnd 4
 
 unfoldable pub namesFit : List ℕ → Bool

@@ -15,7 +15,7 @@ use Rattle.steps.specs.declared.Core.{Core}
 use Rattle.desk_octets.specs.Places.{lengthsColumn}
 use Rattle.desk_octets.specs.Columns.{column, rows}
 use Rattle.hall.specs.declared.Flags.{Flags}
-use Rattle.seat_octets.specs.Layout.{flagsOctet, flagsTop, settingsOctets, zerosFit}
+use Rattle.seat_octets.specs.Layout.{flagsOctet, flagsTop, settingsOctets, unusedZero}
 use Rattle.seat_octets.proofs.Bits.{flags-few}
 use Rattle.desk_octets.specs.Form.{causeIn, phaseOctets, lineOctets, coreOctets, boolOctets, octetColumn, seatFlagsOctets, wordColumn}
 use Rattle.desk_octets.specs.Form.{hallOctets, deskOctets, upTo, lettersFit, coreFits, hallFits, namesFit, canonical}
@@ -40,7 +40,7 @@ module _ (c : Core) (h : Hall) (ns : Names) where
   core-there k = rw (back16 (causeIn (c .phase)), phase-fits (c .phase), le-leb (length (waiting (c .line))) 15 k)
 
   hall-there : hallFits (deskOctets c h ns) ≡ true
-  unfolding hallFits upTo zerosFit be16 deskOctets coreOctets phaseOctets octets16 octets32 lineOctets hallOctets boolOctets wordColumn
+  unfolding hallFits upTo unusedZero deskOctets coreOctets phaseOctets octets16 octets32 lineOctets hallOctets boolOctets wordColumn
       octetColumn seatFlagsOctets settingsOctets column rows
   hall-there = simp (flag-fits, flags-fit)
 

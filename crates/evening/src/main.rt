@@ -177,7 +177,7 @@ pub struct Night {
 
 fn fresh() -> Night {
     let core = events::fresh_core();
-    let hall = hall::empty_hall(hall::settings_of(1, 200, 6, 2, 2, 30));
+    let hall = hall::empty_hall(hall::settings_of(1, 200, 6, 2, 2, 30, 0));
     let names = identities::no_names();
     Night {
         desk: Desk { core, hall, names },

@@ -1,6 +1,6 @@
 -- Thursday's exercise (document 01): a table of what happens and what comes of it, and the statement that the rules give it. What the paper
 -- leaves open is chosen here: the desk's SSRC is 1 and the seats' are 10, 11, 12, 13; their identities are test1, test10, test2, test3;
--- the duration is 30 seconds. Assumes nothing.
+-- the duration is 30 seconds; the normal level is 0, and no row asks for it. Assumes nothing.
 use Prim.Native.Nat.{ℕ, _+_}
 use mathlib.Core.Path.{_≡_, refl}
 use mathlib.Core.Bool.{Bool, true, false}
@@ -40,7 +40,7 @@ use Rattle.history.specs.Doing.{Doing, event, leaves, joins, made, does, afterA
 
 -- The paper's settings; four seats of highest priority 255, of which the last did not negotiate queueing.
 abbrev pub settings : Settings
-settings = settingsOf 1 200 2 2 2 30
+settings = settingsOf 1 200 2 2 2 30 0
 
 abbrev pub test1 : List ℕ
 test1 = 116 ∷ 101 ∷ 115 ∷ 116 ∷ 49 ∷ []

@@ -42,7 +42,7 @@ use Rattle.demands.specs.Demands.{StruckForAReason, GoesToTheFirst, GivenAndEnd
 -- THE EVENING ON WHICH THEY ARE TRIED
 -- Three sit down: test1, test10 and anna, with SSRCs 10, 11 and 12; the line has room for all.
 abbrev settings : Settings
-settings = settingsOf 1 200 15 2 2 30
+settings = settingsOf 1 200 15 2 2 30 0
 
 abbrev anna : List ℕ
 anna = 97 ∷ 110 ∷ 110 ∷ 97 ∷ []

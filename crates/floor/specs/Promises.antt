@@ -26,7 +26,7 @@ use Rattle.clocks_looking.specs.ClockSets.{startsOn, stopsOn}
 
 -- its number, which every change of a function that C programs see counts up
 abbrev pub faceVersion : ℕ
-faceVersion = 3
+faceVersion = 4
 
 abbrev pub VersionPromise : (answer : ℤ) → Type 0
 VersionPromise answer = answer ≡ signed (result faceVersion)

@@ -9,7 +9,7 @@ ghost use Rattle.hall.specs.Seats.{settingsOf};
 ghost use Rattle.floor.specs.Promises.{VersionPromise, MakePromise, JoinPromise, LeavePromise, StartPromise, StopPromise, PacketPromise, MediaPromise, TimerPromise, MessagePromise, ReadPromise, WritePromise, SavePromise, LoadPromise, ScreenPromise, PhasePromise, HolderPromise, HolderPriorityPromise, RunningPromise, SequencePromise, C7Promise, C20Promise, SeatsPromise, SeatBySsrcPromise, SeatByIdentityPromise, SeatPromise, SettingsPromise, StartsPromise, StopsPromise};
 
 // Which face this is. A header and an archive that answer the same number belong together.
-const VERSION: u32 = 3;
+const VERSION: u32 = 4;
 
 #[no_mangle]
 pub extern "C" fn floor_version() -> i32
@@ -92,8 +92,9 @@ pub extern "C" fn floor_make(
     c7: u32,
     c20: u32,
     duration: u32,
+    normal: u32,
 ) -> i32
-    ensures { λ r. ⌜ MakePromise (now (desk .entry)) (settingsOf ssrc level limit c7 c20 duration) r (now (desk .exit)) ⌝ }
+    ensures { λ r. ⌜ MakePromise (now (desk .entry)) (settingsOf ssrc level limit c7 c20 duration normal) r (now (desk .exit)) ⌝ }
 {
     desk_making::make_desk(
         desk,
@@ -104,6 +105,7 @@ pub extern "C" fn floor_make(
             c7,
             c20,
             duration,
+            normal,
         },
     )
 }

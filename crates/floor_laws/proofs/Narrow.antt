@@ -72,7 +72,8 @@ module _ (h : Hall) (top : (s : ℕ) → getD (h .highest) s 0 < 256) where
   unfolding effective
   effective-small s a =
       let m = getD (h .highest) s 0 in
-      by-if (λ (n : ℕ). n < 256) (leb (asked a) m) (λ q. let z : asked a ≤ m = leb-true (asked a) m q in omega (arith, top s)) (λ _. top s)
+      let p = asked (h .settings .normal) a in
+      by-if (λ (n : ℕ). n < 256) (leb p m) (λ q. let z : p ≤ m = leb-true p m q in omega (arith, top s)) (λ _. top s)
 
   pub asker-small : (x : Doing) (t p : ℕ) → asking h x ≡ asks t p → Sits h t → Small (entryOf t p)
   asker-small x t p a s =

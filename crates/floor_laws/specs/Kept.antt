@@ -276,6 +276,14 @@ SavedIsLoaded =
     (desk : List ℕ) (m : ℤ) (desk′ : List ℕ) → LoadPromise desk sheet m desk′ → Octets sheet → deskSize ≤ length desk →
     (m ≡ signed (result 0)) × IsDesk (loadedAs (deskIn desk′)) (seatsOf (hallAt d) (namesAt d)) (hallAt d .settings)
 
+-- "48, ON SAVING AT ANOTHER LEVEL, BEFORE 13" (document 02, #101; proofs/Sheets): `floor_save` answers it to a desk exactly if its normal
+-- level is not 0, whatever the room
+
+abbrev pub SaveAnswers48 : Type 0
+SaveAnswers48 =
+    (d room : List ℕ) (n : ℤ) (room′ : List ℕ) → SavePromise d room n room′ → formed d ≡ true →
+    ((hallAt d .settings .normal ≡ 0 → ⊥) → n ≡ signed (refused 48)) × (n ≡ signed (refused 48) → hallAt d .settings .normal ≡ 0 → ⊥)
+
 -- "THE WALL SCREEN IS HANDED THE LINE AS A LIST OF ENTRIES" (proofs/Wall): two octets an entry, and C is answered as the crate `screen`
 -- answers
 

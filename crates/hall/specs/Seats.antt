@@ -15,9 +15,9 @@ use Rattle.hall.specs.declared.Found.{Found}
 use Rattle.hall.specs.declared.Found.the-variants.{At, Nowhere}
 
 -- the settings of a desk, and what a newcomer says of itself, from their parts
-abbrev pub settingsOf : ℕ → ℕ → ℕ → ℕ → ℕ → ℕ → Settings
-settingsOf ssrc level limit c7 c20 duration =
-    record { ssrc = ssrc; level = level; limit = limit; c7 = c7; c20 = c20; duration = duration }
+abbrev pub settingsOf : ℕ → ℕ → ℕ → ℕ → ℕ → ℕ → ℕ → Settings
+settingsOf ssrc level limit c7 c20 duration normal =
+    record { ssrc = ssrc; level = level; limit = limit; c7 = c7; c20 = c20; duration = duration; normal = normal }
 
 abbrev pub newcomerOf : ℕ → ℕ → Flags → Newcomer
 newcomerOf ssrc highest flags = record { ssrc = ssrc; highest = highest; flags = flags }
@@ -27,10 +27,10 @@ noFlags = record { queueing = false; «receive_only» = false }
 
 -- zeros throughout; out of range, so that no desk is made with them
 abbrev pub noSettings : Settings
-noSettings = settingsOf 0 0 0 0 0 0
+noSettings = settingsOf 0 0 0 0 0 0 0
 
--- 28: level 1..255, line limit 0..15, C7 and C20 limits 1..255, duration 1..65535. The upper ends that a setting's own type has are not
--- asked again.
+-- 28: level 1..255, line limit 0..15, C7 and C20 limits 1..255, duration 1..65535; normal level 0..255 (document 02, #101). The ends that a
+-- setting's own type has are not asked again: both ends of the normal level are such.
 unfoldable pub inRange : Settings → Bool
 inRange s = leb 1 (s .level) && leb (s .limit) 15 && leb 1 (s .c7) && leb 1 (s .c20) && leb 1 (s .duration)
 
@@ -70,16 +70,17 @@ someone (b ∷ bs) = if b then true else someone bs
 unfoldable pub alone : Hall → ℕ → Bool
 alone h s = not (someone (others h s))
 
--- The effective priority: what was asked, but at most the seat's highest. Who sends no Floor Priority field asks 0.
-abbrev pub asked : Asked → ℕ
-asked (Priority p) = p
-asked NoField = 0
+-- The effective priority: what was asked, but at most the seat's highest. "A request without the field counts as that level, still capped
+-- by the seat's highest" (document 02, #101): the normal level. A field that says 0 is 0.
+abbrev pub asked : ℕ → Asked → ℕ
+asked normal (Priority p) = p
+asked normal NoField = normal
 
 abbrev pub lower : ℕ → ℕ → ℕ
 lower a b = if leb a b then a else b
 
 unfoldable pub effective : Hall → ℕ → Asked → ℕ
-effective h s a = lower (asked a) (getD (h .highest) s 0)
+effective h s a = lower (asked (h .settings .normal) a) (getD (h .highest) s 0)
 
 -- the lowest seat for which a test holds
 abbrev pub firstFrom : (ℕ → Bool) → ℕ → ℕ → Found

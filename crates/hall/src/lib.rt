@@ -3,7 +3,7 @@
 ghost use mathlib.Core.Path.{_≡_};
 ghost use mathlib.Core.Bool.{true, false};
 ghost use lib.ListN.{getD, set};
-ghost use Rattle.hall.specs.Seats.{settingsOf, newcomerOf, noFlags, inRange, emptyHall, isPresent, flagsAt, queues, receivesOnly, only, others, alone, effective, seatOf, freeSeat, withSeat, vacated};
+ghost use Rattle.hall.specs.Seats.{settingsOf, newcomerOf, noFlags, inRange, emptyHall, isPresent, flagsAt, queues, receivesOnly, only, others, alone, asked, effective, seatOf, freeSeat, withSeat, vacated};
 ghost use Rattle.hall.specs.Answers.{answerNumber, settingsAnswer};
 
 // What a desk answers; specs/Answers.antt has the paper's number of each.
@@ -24,7 +24,8 @@ pub enum Answer {
 // A set of seats.
 pub type Seats = [bool; 16];
 
-// The desk's SSRC, the pre-emptive level, how long the line may be, how far C7 and C20 count, the duration of a grant in seconds.
+// The desk's SSRC, the pre-emptive level, how long the line may be, how far C7 and C20 count, the duration of a grant in seconds, and the
+// normal level: what a request counts as that names no priority.
 pub struct Settings {
     pub ssrc: u32,
     pub level: u8,
@@ -32,6 +33,7 @@ pub struct Settings {
     pub c7: u8,
     pub c20: u8,
     pub duration: u16,
+    pub normal: u8,
 }
 
 // Those of a desk that nobody can use: zeros, which are out of range.
@@ -42,6 +44,7 @@ pub const NO_SETTINGS: Settings = Settings {
     c7: 0,
     c20: 0,
     duration: 0,
+    normal: 0,
 };
 
 // What a seat is flagged as: that it negotiated queueing, that it is receive only.
@@ -85,8 +88,16 @@ pub enum Found {
 
 // The settings of a desk, and a newcomer, from their parts: what makes one comes through here.
 
-pub fn settings_of(ssrc: u32, level: u8, limit: u8, c7: u8, c20: u8, duration: u16) -> Settings
-    ensures { λ r. ⌜ r ≡ settingsOf ssrc level limit c7 c20 duration ⌝ }
+pub fn settings_of(
+    ssrc: u32,
+    level: u8,
+    limit: u8,
+    c7: u8,
+    c20: u8,
+    duration: u16,
+    normal: u8,
+) -> Settings
+    ensures { λ r. ⌜ r ≡ settingsOf ssrc level limit c7 c20 duration normal ⌝ }
 {
     Settings {
         ssrc,
@@ -95,6 +106,7 @@ pub fn settings_of(ssrc: u32, level: u8, limit: u8, c7: u8, c20: u8, duration: u
         c7,
         c20,
         duration,
+        normal,
     }
 }
 
@@ -278,16 +290,25 @@ pub fn receives_only(hall: Hall, seat: u8) -> bool
     flags.receive_only
 }
 
+// What a request asks for: the priority that its field says, 0 too, or the normal level where it has no field.
+fn asked_priority(normal: u8, wish: Asked) -> u8
+    ensures { λ r. ⌜ r ≡ asked normal wish ⌝ }
+{
+    match wish {
+        Asked::Priority(p) => p,
+        Asked::NoField => normal,
+    }
+}
+
 // The effective priority: the lower of the one asked and the seat's highest.
 pub fn effective_priority(hall: Hall, seat: u8, wish: Asked) -> u8
     ensures { λ r. ⌜ r ≡ effective hall seat wish ⌝ }
 {
     let column = hall.highest;
     let highest = octet(column, seat);
-    match wish {
-        Asked::Priority(p) => if p <= highest { p } else { highest },
-        Asked::NoField => 0,
-    }
+    let settings = hall.settings;
+    let wanted = asked_priority(settings.normal, wish);
+    if wanted <= highest { wanted } else { highest }
 }
 
 // Sets of seats.

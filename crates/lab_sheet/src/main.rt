@@ -31,7 +31,9 @@ const VERDICT: usize = TRAILER + 1;
 
 const SAVED: usize = VERDICT + 6;
 
-const NO_ROOM: usize = SAVED + 1;
+const CANNOT_HOLD: usize = SAVED + 1;
+
+const NO_ROOM: usize = CANNOT_HOLD + 1;
 
 const DAMAGED: usize = NO_ROOM + 1;
 
@@ -59,7 +61,9 @@ const NOBODY: usize = ROOMS + 1;
 
 const EVERYBODY: usize = NOBODY + 1;
 
-const FLAGS: usize = EVERYBODY + 1;
+const OTHER_LEVEL: usize = EVERYBODY + 1;
+
+const FLAGS: usize = OTHER_LEVEL + 1;
 
 fn say(k: usize, n: usize) {
     printing::row(
@@ -89,6 +93,7 @@ fn say(k: usize, n: usize) {
           refused %: a setting\n^\
           refused %: a seat\n^\
           saved, % octets\n^\
+          refused 48: no sheet holds a normal level but 0\n^\
           refused 13: the room is too short\n^\
           \nDamaged:\n^\
           no F: ^\
@@ -129,6 +134,7 @@ fn say(k: usize, n: usize) {
           \nRooms, and back again: ^\
           \nNobody: ^\
           \nEverybody: ^\
+          \nNobody, at normal level 100: ^\
           flags: none\n^\
           flags: queueing\n^\
           flags: receive only\n^\
@@ -243,11 +249,15 @@ pub struct Seated {
 }
 
 // The desk's SSRC is 1, the level 200, the line limit 2, C7 and C20 limits 2, a grant 30 seconds.
-fn nobody() -> Seated {
+fn nobody_at(normal: u8) -> Seated {
     Seated {
-        hall: hall::empty_hall(hall::settings_of(1, 200, 2, 2, 2, 30)),
+        hall: hall::empty_hall(hall::settings_of(1, 200, 2, 2, 2, 30, normal)),
         names: identities::no_names(),
     }
+}
+
+fn nobody() -> Seated {
+    nobody_at(0)
 }
 
 // Somebody joins, whose identity is a part of this text.
@@ -333,6 +343,10 @@ fn save(class: Seated, room: &mut [u8]) -> usize {
         Saving::Saved(n) => {
             say(SAVED, n);
             n
+        }
+        Saving::CannotHold => {
+            say(CANNOT_HOLD, 0);
+            0
         }
         Saving::NoRoom => {
             say(NO_ROOM, 0);
@@ -487,6 +501,14 @@ fn rooms(title: usize, class: Seated) {
     saved(class, &mut room);
 }
 
+// A desk that no sheet can hold, saved with room enough and with none: 48 comes before 13.
+fn unsaved(title: usize, class: Seated) {
+    let mut room = [7u8; SHEET_ROOM];
+    say(title, 0);
+    save(class, &mut room);
+    save_into(class, &mut room, 0);
+}
+
 fn main() {
     let mut room = [0u8; SHEET_ROOM];
     let class = gone(class());
@@ -495,4 +517,5 @@ fn main() {
     rooms(ROOMS, class);
     rooms(NOBODY, nobody());
     rooms(EVERYBODY, everybody());
+    unsaved(OTHER_LEVEL, nobody_at(100));
 }

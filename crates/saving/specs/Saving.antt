@@ -1,7 +1,8 @@
--- Saving (document 01, "The sheet", and 13): its answer, and the room once it has answered. Assumes nothing.
+-- Saving (document 01, "The sheet", and 13; document 02, #101, 48): its answer, and the room once it has answered. No phase is asked.
+-- Assumes nothing.
 use Prim.Native.Nat.{ℕ}
 use mathlib.Core.Path.{_≡_}
-use mathlib.Core.Bool.{Bool}
+use mathlib.Core.Bool.{Bool, not}
 use mathlib.Core.List.{List}
 use lib.Dec.{ltb, eqb}
 use lib.ListN.{length, take}
@@ -11,7 +12,7 @@ use Rattle.hall.specs.declared.Hall.{Hall}
 use Rattle.identities.specs.declared.Names.{Names}
 use Rattle.sheet.specs.Layout.{sheetOf}
 use Rattle.saving.specs.declared.Saving.{Saving}
-use Rattle.saving.specs.declared.Saving.the-variants.{Saved, NoRoom}
+use Rattle.saving.specs.declared.Saving.the-variants.{Saved, CannotHold, NoRoom}
 
 -- the paper's number, 0 for done, and how many octets were written
 pub record Save : Type 0 where
@@ -24,12 +25,19 @@ saved n = record { number = 0; written = n }
 abbrev pub notSaved : ℕ → Save
 notSaved n = record { number = n; written = 0 }
 
+-- 48: "on saving at another level, before 13, until a sheet can hold it"
+abbrev pub cannotHold : Hall → Bool
+cannotHold h = not (eqb (h .settings .normal) 0)
+
 -- 13: the lent room is shorter than the whole sheet
 abbrev pub tooShort : Hall → Names → List ℕ → Bool
 tooShort h ns room = ltb (length room) (length (sheetOf h ns))
 
 unfoldable pub saving : Hall → Names → List ℕ → Save
-saving h ns room = if tooShort h ns room then notSaved 13 else saved (length (sheetOf h ns))
+saving h ns room =
+    if cannotHold h then notSaved 48
+    else if tooShort h ns room then notSaved 13
+    else saved (length (sheetOf h ns))
 
 -- "A refusal .. writes nothing; a result leaves the room past its end untouched."
 unfoldable pub roomAfter : Hall → Names → List ℕ → List ℕ
@@ -42,6 +50,7 @@ writtenBy h ns room = take (saving h ns room .written) (roomAfter h ns room)
 -- saving's answer in the paper's numbers
 abbrev pub savingAnswer : Saving → Save
 savingAnswer (Saved n) = saved n
+savingAnswer CannotHold = notSaved 48
 savingAnswer NoRoom = notSaved 13
 
 -- what `saving::save` promises of its answer r

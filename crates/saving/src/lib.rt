@@ -1,4 +1,4 @@
-// Saves the seats and settings of a desk as a sheet (document 01, "The sheet", and 13).
+// Saves the seats and settings of a desk as a sheet (document 01, "The sheet", and 13; document 02, #101, 48).
 use hall::Hall;
 use identities::Names;
 ghost use mathlib.Core.Path.{_≡_};
@@ -12,6 +12,8 @@ ghost use Rattle.saving.specs.Walk.{countAt, Measured};
 // What saving answers: how many octets the sheet has, or why there is none; specs/Saving.antt has the paper's number of each.
 pub enum Saving {
     Saved(usize),
+    // The normal level is not 0, and a sheet has no place for it.
+    CannotHold,
     NoRoom,
 }
 
@@ -56,19 +58,22 @@ fn put_seats(room: &mut [u8], hall: Hall, names: Names)
     }
 }
 
-// Saves the seats and settings into the room; with too little room it writes nothing.
+// Saves the seats and settings into the room; where a sheet cannot hold them, or with too little room, it writes nothing.
 pub fn save(hall: Hall, names: Names, room: &mut [u8]) -> Saving
     ensures { λ r. ⌜ Saves hall names (now (room .entry)) r ⌝ }
     ensures { λ _. ⌜ now (room .exit) ≡ roomAfter hall names (now (room .entry)) ⌝ }
     ensures { λ r. ⌜ savingAnswer r .written ≤ longestSheet ⌝ }
 {
+    let settings = hall.settings;
+    if settings.normal != 0 {
+        return Saving::CannotHold;
+    }
     let extent = extent_of(hall, names);
     let at = extent.octets;
     if room.len() < at + sheet::TAIL_SIZE {
         return Saving::NoRoom;
     }
     put_seats(room, hall, names);
-    let settings = hall.settings;
     seat_octets::put_settings(room, at, settings);
     sheet::put_trailer(
         room,

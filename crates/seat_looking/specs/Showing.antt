@@ -1,4 +1,5 @@
--- A seat and the settings of a desk in lent octets, each written as the sheet lays it out (sheet/specs/Layout, seat_octets/specs/Layout).
+-- A seat of a desk in lent octets, written as the sheet lays it out (sheet/specs/Layout), and its settings, written as the desk's octets
+-- have them, with the normal level (seat_octets/specs/Layout).
 -- The order of the tests: 20 where the octets are no desk's; 22 where nobody sits there, be the seat free or none of the sixteen; then 13.
 -- A refusal leaves the room as it was, and a result leaves it untouched past its end. Assumes nothing.
 use Prim.Native.Nat.{ℕ}

@@ -1,5 +1,5 @@
-// A seat and the settings of a desk in lent octets, each written into a lent room as the sheet lays it out. specs/Showing.antt has what each
-// answers, and what is left in the room.
+// A seat of a desk in lent octets, written into a lent room as the sheet lays it out, and its settings, as the desk's octets have them.
+// specs/Showing.antt has what each answers, and what is left in the room.
 use hall::Hall;
 use hall::Settings;
 use identities::Names;

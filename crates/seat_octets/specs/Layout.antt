@@ -8,12 +8,13 @@
 --               6       C7 limit
 --               7       C20 limit
 --               8..9    duration
---               10..11  zeros
+--               10      normal level (document 02, #101); a sheet, which is of form 1, has zero there, as document 01 says
+--               11      zero
 --
 -- Assumes nothing.
 use Prim.Native.Nat.{ℕ, _+_, _/_, _%_, _<_}
 use mathlib.Core.Bool.{Bool}
-use mathlib.Core.List.{List, _∷_, _++_}
+use mathlib.Core.List.{List, [], _∷_, _++_}
 use lib.Dec.{eqb}
 use lib.ListN.{getD}
 use Rattle.words.specs.Choice.{if_then_else_}
@@ -51,21 +52,28 @@ c20Within = 7
 abbrev pub durationWithin : ℕ
 durationWithin = 8
 
-abbrev pub zerosWithin : ℕ
-zerosWithin = 10
+abbrev pub normalWithin : ℕ
+normalWithin = 10
+
+abbrev pub unusedWithin : ℕ
+unusedWithin = 11
 
 unfoldable pub settingsOctets : Settings → List ℕ
-settingsOctets s = octets32 (s .ssrc) ++ s .level ∷ s .limit ∷ s .c7 ∷ s .c20 ∷ octets16 (s .duration) ++ octets16 0
+settingsOctets s = octets32 (s .ssrc) ++ s .level ∷ s .limit ∷ s .c7 ∷ s .c20 ∷ octets16 (s .duration) ++ s .normal ∷ 0 ∷ []
 
 -- the settings that stand at a place
 unfoldable pub settingsIn : List ℕ → ℕ → Settings
 settingsIn s at =
     settingsOf (be32 s at) (getD s (at + levelWithin) 0) (getD s (at + limitWithin) 0) (getD s (at + c7Within) 0)
-    (getD s (at + c20Within) 0) (be16 s (at + durationWithin))
+    (getD s (at + c20Within) 0) (be16 s (at + durationWithin)) (getD s (at + normalWithin) 0)
 
--- what no setting has among the twelve is zero: a sheet is asked for it (44), and so are a desk's octets (20)
+-- the octet that no setting has is zero: a desk's octets are asked for it (20)
+unfoldable pub unusedZero : List ℕ → ℕ → Bool
+unusedZero s at = eqb (getD s (at + unusedWithin) 0) 0
+
+-- the two zeros of a sheet (44): it has no normal level, and the octet behind that is zero too
 unfoldable pub zerosFit : List ℕ → ℕ → Bool
-zerosFit s at = eqb (be16 s (at + zerosWithin)) 0
+zerosFit s at = eqb (be16 s (at + normalWithin)) 0
 
 -- each setting fits the octets that it has
 pub record SettingsFit (s : Settings) : Type 0 where
@@ -75,3 +83,4 @@ pub record SettingsFit (s : Settings) : Type 0 where
   pub c7 : s .c7 < 256
   pub c20 : s .c20 < 256
   pub duration : s .duration < 65536
+  pub normal : s .normal < 256

@@ -7,7 +7,7 @@ ghost use Prim.Native.Nat.{_+_, _≤_};
 ghost use lib.ListN.{length};
 ghost use Rattle.words.specs.Choice.{if_then_else_};
 ghost use Rattle.octets.specs.Octets.{over};
-ghost use Rattle.seat_octets.specs.Layout.{flagsOctet, flagsOf, settingsSize, settingsOctets, settingsIn, zerosFit};
+ghost use Rattle.seat_octets.specs.Layout.{flagsOctet, flagsOf, settingsSize, settingsOctets, settingsIn, unusedZero, zerosFit};
 
 // The greatest octet that says flags.
 pub const FLAGS_TOP: u8 = 3;
@@ -25,7 +25,9 @@ pub const C20_WITHIN: usize = 7;
 
 pub const DURATION_WITHIN: usize = 8;
 
-pub const ZEROS_WITHIN: usize = 10;
+pub const NORMAL_WITHIN: usize = 10;
+
+pub const UNUSED_WITHIN: usize = 11;
 
 // A bit of an octet, where its flag is set.
 fn bit(flag: bool, value: u8) -> u8
@@ -57,7 +59,7 @@ pub fn put_settings(room: &mut [u8], at: usize, settings: Settings)
     octets::put_pair(room, at + LEVEL_WITHIN, settings.level, settings.limit);
     octets::put_pair(room, at + C7_WITHIN, settings.c7, settings.c20);
     octets::put16(room, at + DURATION_WITHIN, settings.duration);
-    octets::put16(room, at + ZEROS_WITHIN, 0);
+    octets::put_pair(room, at + NORMAL_WITHIN, settings.normal, 0);
 }
 
 pub fn settings_in(s: &[u8], at: usize) -> Settings
@@ -71,13 +73,22 @@ pub fn settings_in(s: &[u8], at: usize) -> Settings
         c7: s[at + C7_WITHIN],
         c20: s[at + C20_WITHIN],
         duration: octets::number16(s, at + DURATION_WITHIN),
+        normal: s[at + NORMAL_WITHIN],
     }
 }
 
-// Whether what no setting has is zero.
+// Whether the octet that no setting has is zero.
+pub fn unused_zero(s: &[u8], at: usize) -> bool
+    requires { ⌜ at + settingsSize ≤ length (now s) ⌝ }
+    ensures { λ r. ⌜ r ≡ unusedZero (now (s .entry)) at ⌝ }
+{
+    s[at + UNUSED_WITHIN] == 0
+}
+
+// Whether the two zeros of a sheet are zero.
 pub fn zeros_fit(s: &[u8], at: usize) -> bool
     requires { ⌜ at + settingsSize ≤ length (now s) ⌝ }
     ensures { λ r. ⌜ r ≡ zerosFit (now (s .entry)) at ⌝ }
 {
-    octets::number16(s, at + ZEROS_WITHIN) == 0
+    octets::number16(s, at + NORMAL_WITHIN) == 0
 }

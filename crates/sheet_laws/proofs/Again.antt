@@ -9,18 +9,19 @@ use lib.ListN.{length, take, drop, take-append-drop}
 use lib.Seq.{length-take-le, drop-drop}
 use borrow.Author.Tests.{eqb-true, eqb-false}
 use Rattle.words.specs.Choice.{by-test}
+use Rattle.words.proofs.Tests.{and-both}
 use Rattle.octets.specs.Octets.{part, Octets}
 use Rattle.hall.specs.declared.Settings.{Settings}
 use Rattle.hall.specs.Seats.{inRange, emptyHall}
 use Rattle.identities.specs.Identity.{noNames}
-use Rattle.seat_octets.specs.Layout.{settingsSize, settingsOctets, zerosFit}
-use Rattle.seat_octets.proofs.SettingsLaws.{settings-forth}
+use Rattle.seat_octets.specs.Layout.{settingsSize, settingsOctets, unusedZero, zerosFit}
+use Rattle.seat_octets.proofs.SettingsLaws.{settings-forth, zeros-say}
 use Rattle.sheet.specs.Layout.{Seat, tailSize, seatsOctets, trailer, sheet, sheetOf}
 use Rattle.sheet.specs.Framing.{settingsPlace, trailerPlace, settingsOffset, seatCount, verdictNumber, framing}
 use Rattle.sheet.proofs.Frames.{Framed, framed}
 use Rattle.loading.specs.Loading.{Load, notLoaded, settingsOn, Seats, whole, fault, readSeats, joinAll, seatAll, settled, loading}
 use Rattle.loading.proofs.Loads.{loads-framed, loads-refused, settles-range, settles-zeros, settles}
-use Rattle.sheet_laws.specs.Sheets.{IsDesk, WrittenBack}
+use Rattle.sheet_laws.specs.Sheets.{IsDesk, LoadsAtLevel0, WrittenBack}
 use Rattle.sheet_laws.proofs.Read.{sheet-ends}
 use Rattle.sheet_laws.proofs.Printed.{seats-back, trailer-back}
 use Rattle.sheet_laws.proofs.Back.{joined}
@@ -78,6 +79,11 @@ module _ (s : List ℕ) (a : loading s .number ≡ 0) where
   found : Found
   found = find (readSeats (seatCount s) s 0) refl
 
+  -- the two zeros: the level, and the octet that no setting has
+  zeros-apart : (eqb (settingsOn s .normal) 0 ≡ true) × (unusedZero s (settingsPlace s) ≡ true)
+  zeros-apart =
+      and-both (eqb (settingsOn s .normal) 0) (unusedZero s (settingsPlace s)) (sym (zeros-say s (settingsPlace s)) ∙ sound .zeros)
+
   module _ (octets : Octets s) where
     -- the settings and the trailer are the octets behind the seats
     tail-again : (at count : ℕ) → at ≡ settingsOffset s → count ≡ seatCount s
@@ -88,7 +94,7 @@ module _ (s : List ℕ) (a : loading s .number ≡ 0) where
         let p = settingsPlace s in
         let long : tailSize ≤ length s = k .frame .long in
         let q : trailerPlace s ≡ p + settingsSize = omega arith in
-        ap (λ (x : List ℕ). x ++ trailer at count) (settings-forth s p octets (omega arith) (k .zeros))
+        ap (λ (x : List ℕ). x ++ trailer at count) (settings-forth s p octets (omega arith) (zeros-apart .1))
         ∙ ap (λ (x : List ℕ). take settingsSize (drop p s) ++ x)
         (trailer-back s octets (k .frame) at count e f ∙ ap (λ (m : ℕ). drop m s) q ∙ sym (drop-drop settingsSize p s))
         ∙ take-append-drop settingsSize (drop p s)
@@ -120,9 +126,15 @@ module _ (s : List ℕ) (a : loading s .number ≡ 0) where
     unfolding sheetOf
     back = rw (found .is, desk .seats, desk .settings) sheet-again
 
+    level : loading s .hall .settings .normal ≡ 0
+    level = rw (found .is, desk .settings) (eqb-true (settingsOn s .normal) 0 (zeros-apart .0))
+
+pub loads-at-level-0 : LoadsAtLevel0
+loads-at-level-0 s octets a = level s a octets
+
 pub written-back : WrittenBack
 written-back s room octets a =
     let h = loading s .hall in
     let ns = loading s .names in
     let e = back s a octets in
-    record { done = λ l. saves h ns room (rw e l); octets = λ z. written h ns room z ∙ e }
+    record { done = λ l. saves h ns room (level s a octets) (rw e l); octets = λ z. written h ns room z ∙ e }

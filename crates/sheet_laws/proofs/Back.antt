@@ -22,15 +22,15 @@ use Rattle.sheet_laws.proofs.Read.{framed-sheet, zeros-read, settings-r
 use Rattle.sheet_laws.proofs.Rows.{row-starts, row-seats}
 use Rattle.sheet_laws.proofs.Joins.{Filled, filled, all-seated}
 use Rattle.sheet_laws.proofs.Kept.{kept, fine}
-use Rattle.sheet_laws.proofs.Saved.{written}
+use Rattle.sheet_laws.proofs.Saved.{level-0, written}
 
--- a sheet of at most 16 seats, its settings in range, loads as its seats join
-loads-sheet : (zs : List Seat) (st : Settings) → length zs ≤ 16 → inRange st ≡ true →
+-- a sheet of at most 16 seats, its settings in range, its level 0, loads as its seats join
+loads-sheet : (zs : List Seat) (st : Settings) → length zs ≤ 16 → inRange st ≡ true → st .normal ≡ 0 →
     loading (sheet zs st) ≡ joinAll (emptyHall st) noNames zs
-loads-sheet zs st few r =
+loads-sheet zs st few r e =
     let s = sheet zs st in
     loads-framed s (ap verdictNumber (frames s (framed-sheet zs st few)))
-    ∙ settles s (ap inRange (settings-read zs st) ∙ r) (zeros-read zs st)
+    ∙ settles s (ap inRange (settings-read zs st) ∙ r) (zeros-read zs st e)
     ∙ ap (λ (t : Settings). seatAll (emptyHall t) noNames (readSeats (seatCount s) s 0)) (settings-read zs st)
     ∙ ap (λ (x : Seats). seatAll (emptyHall st) noNames x) (seats-again zs st)
 
@@ -74,7 +74,7 @@ saved-loads h ns room r z =
     let st = h .settings in
     let k = kept h ns r in
     let few : length zs ≤ 16 = few-seats h ns in
-    subst (λ (l : Load). IsDesk l zs st) (sym (ap loading (written h ns room z) ∙ loads-sheet zs st few (k .range)))
+    subst (λ (l : Load). IsDesk l zs st) (sym (ap loading (written h ns room z) ∙ loads-sheet zs st few (k .range) (level-0 h ns room z)))
     (joined zs st few
     (all-seated st zs few (length zs) 0 (emptyHall st) noNames (omega arith) (row-starts st zs) (empty-settings st) (fine h ns k)))
 

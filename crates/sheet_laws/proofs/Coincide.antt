@@ -7,7 +7,7 @@ use Rattle.sheet.specs.declared.Verdict.{Verdict}
 use Rattle.sheet.specs.declared.Verdict.the-variants.{Accepted, NotASheet, OtherForm, WrongPlaces, OutsideRange, SeatAtFault}
 use Rattle.loading.specs.declared.Loading.{Loading}
 use Rattle.saving.specs.declared.Saving.{Saving}
-use Rattle.saving.specs.declared.Saving.the-variants.{Saved, NoRoom}
+use Rattle.saving.specs.declared.Saving.the-variants.{Saved, CannotHold, NoRoom}
 use Rattle.sheet.specs.Framing.{verdictNumber}
 use Rattle.loading.specs.Loading.{Load, loadingAnswer}
 use Rattle.saving.specs.Saving.{Save, savingAnswer}
@@ -42,11 +42,12 @@ pub loadings-coincide : LoadingsCoincide
 loadings-coincide s a b e f = sym (loading-again a) ∙ ap loadingOf (e ∙ sym f) ∙ loading-again b
 
 savingOf : Save → Saving
-savingOf s = if eqb (s .number) 0 then Saved (s .written) else NoRoom
+savingOf s = if eqb (s .number) 0 then Saved (s .written) else if eqb (s .number) 48 then CannotHold else NoRoom
 
 saving-again : (a : Saving) → savingOf (savingAnswer a) ≡ a
 unfolding savingOf if_then_else_
 saving-again (Saved n) = refl
+saving-again CannotHold = refl
 saving-again NoRoom = refl
 
 pub savings-coincide : SavingsCoincide

@@ -50,5 +50,5 @@ lengths h ns room =
           let z = eqb-true (saving h ns room .number) 0 t in
           omega (arith, length-sheetOf h ns, length-written h ns room z, seats-long h ns (kept h ns k)))
           (λ t. omega (arith, refused-none h ns room (eqb-false (saving h ns room .number) 0 t)));
-      enough = λ k l. saves h ns room (omega (arith, length-sheetOf h ns, seats-long h ns (kept h ns k)));
+      enough = λ k e l. saves h ns room e (omega (arith, length-sheetOf h ns, seats-long h ns (kept h ns k)));
     }

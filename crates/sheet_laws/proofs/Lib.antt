@@ -9,3 +9,4 @@ pub mod Coincide
 pub mod Lengths
 pub mod Printed
 pub mod Again
+pub mod Savable

@@ -4,16 +4,18 @@ use native.Mathlib.Omega.{arith}
 use mathlib.Core.Bool.{true}
 use mathlib.Core.List.{List, [], _∷_, _++_, append-assoc}
 use mathlib.Core.Path.{_≡_, refl, sym, ap, _∙_}
+use lib.Dec.{eqb}
 use lib.ListN.{length, getD, length-append}
 use lib.Seq.{take-append-seam}
 use borrow.Author.Tests.{le-leb, eq-eqb}
 use Rattle.words.specs.Choice.{if_then_else_}
+use Rattle.words.proofs.Tests.{both}
 use Rattle.octets.specs.Octets.{be16, be32, octets16, octets32, part}
 use Rattle.hall.specs.declared.Settings.{Settings}
-use Rattle.seat_octets.specs.Layout.{flagsOctet, flagsTop, settingsOctets, zerosFit}
+use Rattle.seat_octets.specs.Layout.{flagsOctet, flagsTop, settingsOctets, unusedZero, zerosFit}
 use Rattle.seat_octets.proofs.Numbers.{number-again, long-again, octet-at, be16-at, be32-at, part-at}
 use Rattle.seat_octets.proofs.Bits.{flags-back, flags-few}
-use Rattle.seat_octets.proofs.SettingsLaws.{settings-long, settings-back}
+use Rattle.seat_octets.proofs.SettingsLaws.{settings-long, settings-back, zeros-say}
 use Rattle.sheet.specs.Layout.{Seat, form, sheetLetters, tailSize, seatOctets, seatsOctets, trailer, sheet}
 use Rattle.sheet.specs.Framing.{settingsPlace, trailerPlace, seatCount}
 use Rattle.sheet.proofs.Frames.{Framed}
@@ -97,14 +99,18 @@ module _ (xs : List Seat) (st : Settings) where
         first = word _ 2 refl ∙ seats-there (length o) (length xs);
       }
 
-  settings-again : (settingsOn (sheet xs st) ≡ st) × (zerosFit (sheet xs st) (settingsPlace (sheet xs st)) ≡ true)
+  settings-again : (settingsOn (sheet xs st) ≡ st) × (unusedZero (sheet xs st) (settingsPlace (sheet xs st)) ≡ true)
   settings-again = settings-back s o t (settingsPlace s) st sheet-ends (omega (arith, length-sheet xs st))
 
   pub settings-read : settingsOn (sheet xs st) ≡ st
   settings-read = settings-again .0
 
-  pub zeros-read : zerosFit (sheet xs st) (settingsPlace (sheet xs st)) ≡ true
-  zeros-read = settings-again .1
+  -- its zeros are zero where the level is
+  pub zeros-read : st .normal ≡ 0 → zerosFit (sheet xs st) (settingsPlace (sheet xs st)) ≡ true
+  zeros-read z =
+      zeros-say s (settingsPlace s)
+      ∙ both (eqb (settingsOn s .normal) 0) (unusedZero s (settingsPlace s))
+      (eq-eqb (settingsOn s .normal) 0 (ap (λ (g : Settings). g .normal) settings-read ∙ z)) (settings-again .1)
 
 -- a seat's octets, with others behind them
 module _ (x : Seat) (r : List ℕ) where

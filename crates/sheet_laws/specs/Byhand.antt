@@ -52,7 +52,7 @@ pub its-seats : seatsOf (loading byHand .hall) (loading byHand .names) ≡ two
 unfolding opened
 its-seats = refl
 
-pub its-settings : loading byHand .hall .settings ≡ settingsOf 1 200 2 2 2 30
+pub its-settings : loading byHand .hall .settings ≡ settingsOf 1 200 2 2 2 30 0
 unfolding opened
 its-settings = refl
 

@@ -83,9 +83,9 @@ fn hall_fits(s: &[u8]) -> bool
     let present = up_to(s, 1, TAKEN_COLUMN, 16);
     let flags = up_to(s, seat_octets::FLAGS_TOP, FLAGS_COLUMN, 16);
     let behind_flags = up_to(s, 0, FLAGS_ZEROS, 16);
-    let zeros = seat_octets::zeros_fit(s, SETTINGS_START);
+    let unused = seat_octets::unused_zero(s, SETTINGS_START);
     let behind_settings = up_to(s, 0, SETTINGS_END, 4);
-    present & flags & behind_flags & zeros & behind_settings
+    present & flags & behind_flags & unused & behind_settings
 }
 
 pub fn is_canonical(s: &[u8]) -> bool

@@ -397,10 +397,11 @@ fn play(desk: Desk, from: usize, to: usize) -> Desk
     now
 }
 
-// The desk on the bench: level 200, line limit 2, C7 and C20 limits 2; what the paper leaves open: desk SSRC 1, duration 30 seconds.
+// The desk on the bench: level 200, line limit 2, C7 and C20 limits 2; what the paper leaves open: desk SSRC 1, duration 30 seconds,
+// normal level 0.
 fn empty() -> Desk {
     let core = events::fresh_core();
-    let hall = hall::empty_hall(hall::settings_of(1, 200, 2, 2, 2, 30));
+    let hall = hall::empty_hall(hall::settings_of(1, 200, 2, 2, 2, 30, 0));
     let names = identities::no_names();
     Desk { core, hall, names }
 }

@@ -17,7 +17,7 @@ from FILE or from standard input, and prints one line for each event.
 Example: with these lines in a file exercise.script
 
     # a desk, two handsets, and a call in which one asks for the floor
-    make ssrc 1 level 200 limit 2 c7 2 c20 2 duration 30
+    make ssrc 1 level 200 limit 2 c7 2 c20 2 duration 30 normal 0
     join "test1" 10 255 queueing
     join "test2" 11 255 queueing
     start

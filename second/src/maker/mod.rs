@@ -16,6 +16,7 @@ use crate::desk::{Desk, Phase};
 use crate::hex::Hex;
 use crate::script::Player;
 use crate::seats::SEATS;
+use crate::sheet::{self, LONGEST_SHEET};
 use crate::timers::Timer;
 
 pub use dice::Dice;
@@ -126,7 +127,7 @@ const ACTS: [(usize, Act); 33] = [
     (70, Act::Read),
     (40, Act::Rewrite),
     (30, Act::Write),
-    (12, Act::Save),
+    (30, Act::Save),
     (40, Act::Screen),
     (3, Act::Reload),
     (2, Act::LoadSound),
@@ -137,18 +138,24 @@ const ACTS: [(usize, Act); 33] = [
     (6, Act::Comment),
 ];
 
-const MALFORMED: [&str; 72] = [
+const MALFORMED: [&str; 81] = [
     "make",
-    "make 1 2 3 4 5",
-    "make 1 2 3 4 5 6 7",
-    "make 4294967296 200 2 2 2 30",
-    "make 1 4294967296 2 2 2 30",
-    "make -1 200 2 2 2 30",
+    "make 1 2 3 4 5 6",
+    "make 1 2 3 4 5 6 7 8",
+    "make 4294967296 200 2 2 2 30 0",
+    "make 1 4294967296 2 2 2 30 0",
+    "make 1 200 2 2 2 30 4294967296",
+    "make -1 200 2 2 2 30 0",
+    "make 1 200 2 2 2 30 -",
     "load",
     "load 0",
     "load 0g",
     "load 00 00",
-    "save 1",
+    "save x",
+    "save -",
+    "save 4294967296",
+    "save 1124 1124",
+    "save \"1124\"",
     "screen",
     "screen x",
     "screen -",
@@ -209,8 +216,11 @@ const MALFORMED: [&str; 72] = [
     "join \"a\" 1 255 queueing queueing",
     "join \"a\" 1 255 queueing 0",
     "join \"a\" \"1\" 255 queueing",
-    "make ssrc 1 level 2 limit 3 c7 4 c20 5",
-    "make ssrc 1 level 2 limit 3 c7 4 c20 5 c20 6",
+    "make ssrc 1 level 2 limit 3 c7 4 c20 5 duration 6",
+    "make ssrc 1 level 2 limit 3 c7 4 c20 5 duration 6 duration 7",
+    "make ssrc 1 level 2 limit 3 c7 4 c20 5 duration 6 normal 7 normal 7",
+    "make ssrc 1 level 2 limit 3 c7 4 c20 5 duration 6 normal 7 seconds 6",
+    "make ssrc 1 level 2 limit 3 c7 4 c20 5 normal 6 normal 7",
 ];
 
 impl Maker {
@@ -260,7 +270,7 @@ impl Maker {
         ] {
             self.say(line);
         }
-        self.say("make 1 0 2 2 2 30");
+        self.say("make 1 0 2 2 2 30 0");
         self.say("load -");
         self.say("leave 0");
         self.say("read 80cc0002000000014d435054");
@@ -314,6 +324,17 @@ impl Maker {
         self.desk().map_or(1, |desk| desk.settings().level())
     }
 
+    fn normal_level(&self) -> u8 {
+        self.desk().map_or(0, |desk| desk.settings().normal_level())
+    }
+
+    /// How long the desk's sheet is, or would be if there were one that can hold its level.
+    fn sheet_length(&self) -> usize {
+        let seat = |number: usize| self.desk()?.seats().get(number);
+        let seats = self.present().into_iter().filter_map(seat);
+        20 + seats.map(|seat| 7 + seat.identity.len()).sum::<usize>()
+    }
+
     /// The numbers of all seats that are taken.
     fn present(&self) -> Vec<usize> {
         self.desk().map_or(vec![], |desk| {
@@ -328,6 +349,14 @@ impl Maker {
 
     fn holder(&self) -> Option<usize> {
         self.desk()?.holder().map(|holder| holder.seat)
+    }
+
+    /// The priority that a seat waits with, or holds the floor with.
+    fn priority_of(&self, seat: usize) -> Option<u8> {
+        let desk = self.desk()?;
+        let mut known = desk.line().iter().copied().chain(desk.holder());
+        let entry = known.find(|entry| entry.seat == seat);
+        entry.map(|entry| entry.priority)
     }
 
     fn ssrc_of(&self, seat: usize) -> Option<u32> {
@@ -374,12 +403,21 @@ impl Maker {
             }
         } else {
             self.make();
-            let seats = self.dice.any_of([2, 4, 4, 5, 6, 8, 10, 13, 16, 16, 16, 16]);
+            let seats = self
+                .dice
+                .any_of([1, 2, 4, 4, 5, 6, 8, 10, 13, 16, 16, 16, 16]);
             self.fill(if self.crowded { 16 } else { seats });
+        }
+        if self.dice.chance(30) {
+            self.save();
         }
         self.call_left = self.dice.any_of([15, 60, 150, 300, 600]);
         if self.dice.chance(92) {
             self.say("start");
+        }
+        // Others join soon, and then nobody is denied for being alone.
+        if self.present().len() == 1 {
+            self.ask();
         }
     }
 
@@ -393,7 +431,35 @@ impl Maker {
         let c7 = self.dice.any_of([1, 2, 2, 3, 4, 255]);
         let c20 = self.dice.any_of([1, 2, 2, 3, 4, 255]);
         let duration = self.dice.any_of([1, 30, 255, 256, 65_535]);
-        self.say(format!("make {ssrc} {level} {limit} {c7} {c20} {duration}"));
+        let normal = self.normal_beside(level);
+        self.say(format!(
+            "make {ssrc} {level} {limit} {c7} {c20} {duration} {normal}"
+        ));
+    }
+
+    /// A normal level for a desk with this pre-emptive level: 0 for many, so that they can be
+    /// saved; else low, middle or high, often beside the other level.
+    fn normal_beside(&mut self, level: u8) -> u8 {
+        if self.dice.chance(40) {
+            return 0;
+        }
+        let random = self.dice.octet();
+        self.dice.any_of([
+            1,
+            4,
+            5,
+            6,
+            100,
+            254,
+            255,
+            255,
+            random,
+            level.saturating_sub(1),
+            level.saturating_sub(1),
+            level,
+            level,
+            level.saturating_add(1),
+        ])
     }
 
     fn fill(&mut self, seats: usize) {
@@ -411,20 +477,33 @@ impl Maker {
     }
 
     fn join_as(&mut self, identity: &[u8], ssrc: u32) {
-        let level = self.level();
         let random = self.dice.octet();
-        let around = self
-            .dice
-            .any_of([level.saturating_sub(1), level, level.saturating_add(1)]);
-        let highest = self
-            .dice
-            .any_of([255, 255, 255, 255, 255, 255, around, around, random, 0]);
+        let around = self.around(self.level());
+        let around_normal = self.around(self.normal_level());
+        let highest = self.dice.any_of([
+            255,
+            255,
+            255,
+            255,
+            255,
+            255,
+            around,
+            around,
+            around_normal,
+            random,
+            0,
+        ]);
         let queueing = u8::from(self.dice.chance(if self.crowded { 97 } else { 75 }));
         let receive_only = u8::from(self.dice.chance(if self.crowded { 1 } else { 8 }));
         let identity = Hex(identity);
         self.say(format!(
             "join {identity} {ssrc} {highest} {queueing} {receive_only}"
         ));
+    }
+
+    fn around(&mut self, level: u8) -> u8 {
+        self.dice
+            .any_of([level.saturating_sub(1), level, level.saturating_add(1)])
     }
 
     /// A join that is refused, or could be: 24 to 27, two of them at once at times.
@@ -559,18 +638,19 @@ impl Maker {
         }
     }
 
-    /// Mostly a start; now and then what a call that is Stopped refuses.
+    /// Mostly a start; now and then what a call that is Stopped refuses, or a sheet.
     fn act_while_stopped(&mut self) {
         if self.dice.chance(80) {
             return self.say("start");
         }
         let timer = self.dice.any_of([1, 4, 7, 99]);
         let ssrc = self.some_ssrc();
-        match self.dice.below(6) {
+        match self.dice.below(8) {
             0 => self.say("stop"),
             1 => self.say(format!("timer {timer}")),
             2 => self.say(format!("media {ssrc}")),
             3 => self.ask(),
+            4 | 5 => self.save(),
             _ => self.perform(Act::TwicePacket),
         }
     }
@@ -607,12 +687,12 @@ impl Maker {
             Act::Read => self.read("read"),
             Act::Rewrite => self.read("rewrite"),
             Act::Write if self.order.write => self.write(),
-            Act::Save => self.say("save"),
+            Act::Save => self.save(),
             Act::Screen => self.screen(),
             Act::Reload => self.reload(),
             Act::LoadSound => {
                 let sheet = papers::sound(&mut self.dice);
-                self.say(format!("load {}", Hex(&sheet)));
+                self.load(&sheet);
             }
             Act::LoadDamaged => self.load_damaged(),
             Act::BadMake => self.bad_make(),
@@ -635,7 +715,7 @@ impl Maker {
         }
     }
 
-    /// A priority to ask for, often near the pre-emptive level; or none.
+    /// A priority to ask for, often near the pre-emptive level or the normal one; or none.
     fn priority(&mut self) -> Option<u8> {
         let level = self.level();
         let near = self.dice.any_of([
@@ -644,10 +724,14 @@ impl Maker {
             level,
             level.saturating_add(1),
         ]);
+        let near_normal = self.around(self.normal_level());
         let below = self.dice.below(usize::from(level)) as u8;
         let random = self.dice.octet();
         self.dice.any_of([
             None,
+            None,
+            None,
+            Some(near_normal),
             Some(0),
             Some(1),
             Some(4),
@@ -669,22 +753,21 @@ impl Maker {
         self.request(ssrc, priority);
     }
 
-    /// Someone in line asks again, at the same priority or at another.
+    /// Someone in line asks again, or the holder does, at the same priority or at another.
     fn ask_again(&mut self) {
         let waiting = self.waiting();
-        match self.dice.pick(&waiting) {
-            Some(seat) => self.ask_from_the_line(seat),
+        let holder = self.holder().filter(|_| self.dice.chance(20));
+        match holder.or_else(|| self.dice.pick(&waiting)) {
+            Some(seat) => self.ask_once_more(seat),
             None => self.ask(),
         }
     }
 
-    fn ask_from_the_line(&mut self, seat: usize) {
-        let entry = self
-            .desk()
-            .and_then(|desk| desk.line().iter().find(|entry| entry.seat == seat));
-        let same = entry.map_or(0, |entry| entry.priority);
+    fn ask_once_more(&mut self, seat: usize) {
+        let same = self.priority_of(seat).unwrap_or(0);
         let other = self.priority();
         let priority = self.dice.any_of([
+            None,
             Some(same),
             Some(same),
             Some(same.saturating_add(1)),
@@ -805,21 +888,64 @@ impl Maker {
         self.say(format!("screen {room}"));
     }
 
-    /// Saves the desk and loads what was saved.
-    fn reload(&mut self) {
-        self.say("save");
-        if let Some(sheet) = self.desk().map(crate::sheet::save) {
-            self.say(format!("load {}", Hex(&sheet)));
+    /// Saves the desk, in room that is just enough, just too little, or far from either.
+    fn save(&mut self) {
+        let length = self.sheet_length();
+        let any = self.dice.between(0, LONGEST_SHEET);
+        // Too little or none at all to one who keeps only 16 bits of it.
+        let huge = self.dice.any_of([65_536, 65_555, 4_294_967_295]);
+        let room = self.dice.any_of([
+            length,
+            length,
+            length - 1,
+            length - 1,
+            length + 1,
+            0,
+            20,
+            any,
+            LONGEST_SHEET,
+            huge,
+        ]);
+        if self.dice.chance(60) {
+            self.say(format!("save {room}"));
+        } else {
+            self.say("save");
         }
     }
 
+    /// Saves the desk and loads what was saved, if it could be.
+    fn reload(&mut self) {
+        self.say("save");
+        if let Some(Ok(sheet)) = self.desk().map(sheet::save) {
+            self.load(&sheet);
+        }
+    }
+
+    /// Loads a sheet. The desk of one that is taken has the normal level 0 whatever there was
+    /// before, so its call is a short one, or most calls would be at that level.
+    fn load(&mut self, sheet: &[u8]) {
+        self.say(format!("load {}", Hex(sheet)));
+        if sheet::load(sheet).is_ok() {
+            let lines = self.dice.any_of([15, 30, 60]);
+            self.call_left = self.call_left.min(lines);
+            if self.dice.chance(30) {
+                self.save();
+            }
+        }
+    }
+
+    /// Loads a damaged sheet. Of those that turn out to be in order one in four is loaded: each
+    /// puts another desk in the place of the one at hand.
     fn load_damaged(&mut self) {
         let sheet = papers::damaged(&mut self.dice);
-        self.say(format!("load {}", Hex(&sheet)));
+        if sheet::load(&sheet).is_err() || self.dice.chance(25) {
+            self.load(&sheet);
+        }
     }
 
     fn bad_make(&mut self) {
-        let mut settings = [1u32, 200, 2, 2, 2, 30];
+        let normal = self.dice.any_of([0, 100, 255]);
+        let mut settings = [1u32, 200, 2, 2, 2, 30, normal];
         let bad = [
             (1, 0),
             (1, 256),
@@ -834,6 +960,10 @@ impl Maker {
             (5, 65_536),
             (1, 4_294_967_295),
             (5, 4_294_967_295),
+            (6, 256),
+            (6, 257),
+            (6, 65_536),
+            (6, 4_294_967_295),
         ];
         for _ in 0..self.dice.any_of([1, 1, 2]) {
             let (place, value) = self.dice.any_of(bad);
@@ -847,12 +977,14 @@ impl Maker {
     fn odd_spelling(&mut self) {
         let packet = Parcel::new(8, self.some_ssrc()).octets(&mut self.dice);
         let capitals = Hex(&packet).to_string().to_uppercase();
-        match self.dice.below(6) {
+        match self.dice.below(8) {
             0 => self.say(format!("packet {capitals}")),
             1 => self.say("  timer   007  "),
             2 => self.say("timer 20\r"),
             3 => self.say("\tscreen\t00016"),
             4 => self.say(format!("rewrite {capitals}")),
+            5 => self.say("save\t0000001124"),
+            6 => self.say("  save  00 \r"),
             _ => self.say("leave 0000000000000000000000099"),
         }
     }
@@ -922,7 +1054,7 @@ impl Maker {
     fn past_the_greatest_sequence(&mut self) {
         // Where few stop, few are given the floor: the number would take thousands of lines.
         self.crowded = false;
-        self.say("make 9 200 15 255 2 30");
+        self.say("make 9 200 15 255 2 30 0");
         self.fill(6);
         self.say("start");
         self.run_up();

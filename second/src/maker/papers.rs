@@ -60,9 +60,14 @@ pub fn sound(dice: &mut Dice) -> Vec<u8> {
 fn sound_paper(dice: &mut Dice) -> Paper {
     let desk_ssrc = people::ssrc(dice);
     let count = dice.any_of([0, 1, 2, 4, 5, 8, 15, 16, 16]);
+    // Sixteen of the longest identities make the longest sheet.
+    let long = dice.chance(15);
     let mut chairs: Vec<Chair> = Vec::new();
     while chairs.len() < count {
-        let chair = sound_chair(dice);
+        let mut chair = sound_chair(dice);
+        if long {
+            chair.set_identity(people::long(dice, 62));
+        }
         let known = |other: &Chair| other.ssrc == chair.ssrc || other.identity == chair.identity;
         if chair.ssrc != desk_ssrc && !chairs.iter().any(known) {
             chairs.push(chair);
@@ -150,14 +155,17 @@ fn spoil_paper(dice: &mut Dice, paper: &mut Paper) {
 }
 
 fn spoil_settings(dice: &mut Dice, settings: &mut [u8; 12]) {
-    match dice.below(7) {
+    let octet = dice.any_of([1, 5, 100, 128, 255]);
+    match dice.below(10) {
         0 => settings[4] = 0,
         1 => settings[5] = dice.any_of([16, 17, 255]),
         2 => settings[6] = 0,
         3 => settings[7] = 0,
         4 => settings[8..10].fill(0),
-        5 => settings[10] = dice.any_of([1, 255]),
-        _ => settings[11] = dice.any_of([1, 255]),
+        // One who takes either of the two zeros for a level does not refuse it.
+        5 | 6 => settings[10] = octet,
+        7 | 8 => settings[11] = octet,
+        _ => settings[10..].fill(octet),
     }
 }
 

@@ -10,7 +10,7 @@ use crate::words::quoted;
 pub fn in_words(line: &str, desk: Option<&Desk>, dice: &mut Dice) -> Option<String> {
     let words: Vec<&str> = line.split(' ').collect();
     match words[..] {
-        ["make", ssrc, level, limit, c7, c20, duration] => Some(make(
+        ["make", ssrc, level, limit, c7, c20, duration, normal] => Some(make(
             dice,
             [
                 ("ssrc", ssrc),
@@ -19,6 +19,7 @@ pub fn in_words(line: &str, desk: Option<&Desk>, dice: &mut Dice) -> Option<Stri
                 ("c7", c7),
                 ("c20", c20),
                 ("duration", duration),
+                ("normal", normal),
             ],
         )),
         ["join", identity, ssrc, highest, queueing, receive_only] => {
@@ -39,7 +40,7 @@ pub fn in_words(line: &str, desk: Option<&Desk>, dice: &mut Dice) -> Option<Stri
     }
 }
 
-fn make(dice: &mut Dice, mut settings: [(&str, &str); 6]) -> String {
+fn make(dice: &mut Dice, mut settings: [(&str, &str); 7]) -> String {
     dice.shuffle(&mut settings);
     let pairs = settings.map(|(name, value)| format!(" {name} {value}"));
     format!("make{}", pairs.concat())
@@ -110,11 +111,11 @@ pub fn jumble(dice: &mut Dice) -> String {
     line
 }
 
-const COMMANDS: [&str; 10] = [
-    "ask", "ask", "ask", "release", "place", "talk", "leave", "join", "join", "make",
+const COMMANDS: [&str; 11] = [
+    "ask", "ask", "ask", "release", "place", "talk", "leave", "join", "join", "make", "save",
 ];
 
-const PIECES: [&str; 36] = [
+const PIECES: [&str; 37] = [
     "0",
     "1",
     "2",
@@ -150,5 +151,6 @@ const PIECES: [&str; 36] = [
     "Queueing",
     "ssrc",
     "level",
+    "normal",
     "4294967296",
 ];

@@ -19,6 +19,7 @@ pub fn wishes() -> Wishes {
         c7_limit: 2,
         c20_limit: 2,
         duration: 30,
+        normal_level: 0,
     }
 }
 

@@ -22,6 +22,12 @@ enum-told c = search needs
 refusal-requires : tie.Need-refusal-requires
 refusal-requires c κs = search needs
 
+enum-told-2 : tie.Need-enum-told-2
+enum-told-2 c = search needs
+
+refusal-requires-2 : tie.Need-refusal-requires-2
+refusal-requires-2 c κs = search needs
+
 returns : tie.Need-returns
 unfolding if_then_else_
 returns c = rw (c .before .before .saving .given .1) (passed (c .found .ok) ∙ c .found .ensures)
@@ -29,6 +35,10 @@ returns c = rw (c .before .before .saving .given .1) (passed (c .found .ok) ∙ 
 returns-2 : tie.Need-returns-2
 unfolding if_then_else_
 returns-2 c = rw (c .before .enum-told .given .1) (passed (c .refusal .ok) ∙ c .refusal .ensures)
+
+returns-3 : tie.Need-returns-3
+unfolding if_then_else_
+returns-3 c = rw (c .before .enum-told2 .given .1) (passed (c .refusal2 .ok) ∙ c .refusal2 .ensures)
 
 pub saved-number-spec : {M : Type 1} → statement M
 saved-number-spec =
@@ -39,5 +49,8 @@ saved-number-spec =
     found-requires
     enum-told
     refusal-requires
+    enum-told-2
+    refusal-requires-2
     returns
-    returns-2)
+    returns-2
+    returns-3)

@@ -32,6 +32,13 @@ cast-settings-of-5 c =
     octets-hold (narrowed (c .before .before .before .before .before .args .wide)) (c .before .before .before .before .before .pre)
     (omega arith) in omega (arith, f .duration)
 
+cast-settings-of-6 : tie.Need-cast-settings-of-6
+cast-settings-of-6 c =
+    let f =
+    octets-hold (narrowed (c .before .before .before .before .before .before .args .wide))
+    (c .before .before .before .before .before .before .pre)
+    (omega arith) in omega (arith, f .normal)
+
 settings-of-requires : tie.Need-settings-of-requires
 settings-of-requires c κs = search needs
 
@@ -47,5 +54,6 @@ narrow-spec =
     cast-settings-of-3
     cast-settings-of-4
     cast-settings-of-5
+    cast-settings-of-6
     settings-of-requires
     returns)

@@ -1,5 +1,5 @@
--- `floor::floor_make` keeps its promise, `MakePromise (now (desk .entry)) (settingsOf ssrc level limit c7 c20 duration) r (now (desk
--- .exit))`. Makes a fresh desk. Assumes nothing.
+-- `floor::floor_make` keeps its promise, `MakePromise (now (desk .entry)) (settingsOf ssrc level limit c7 c20 duration normal) r (now
+-- (desk .exit))`. Makes a fresh desk. Assumes nothing.
 use Rattle.signed.proofs.Signed.{passed, pair-same}
 use mathlib.Core.Path.{refl, _∙_}
 use borrow.Author.Needs.{needs}

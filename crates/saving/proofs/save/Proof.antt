@@ -2,7 +2,7 @@
 use lib.ListN.{length}
 use Prim.Native.Nat.{_+_, _≤_, _<_}
 use mathlib.Core.Path.{_≡_, sym, _∙_}
-use Rattle.saving.proofs.Saves.{saves-no-room, room-untouched, saves-whole, room-written}
+use Rattle.saving.proofs.Saves.{saves-none, room-kept, saves-no-room, room-untouched, saves-whole, room-written}
 use Rattle.saving.proofs.Walks.{sheet-made}
 use Rattle.sheet.proofs.Sizes.{length-sheetOf}
 use Rattle.sheet.specs.Layout.{sheetOf}
@@ -11,20 +11,30 @@ use borrow.Author.Needs.{needs}
 use Rattle.saving.proofs.save.Statement.{statement}
 use Rattle.saving.proofs.save.Tie as tie
 
+returns : tie.Need-returns
+returns c =
+    let a = c .before .before .before .before .args in
+    let other = c .if1 .taken in (
+      sym (saves-none (a .hall) (a .names) (a .room .now) other),
+      (sym (room-kept (a .hall) (a .names) (a .room .now) other), omega arith),
+    )
+
 extent-of-requires : tie.Need-extent-of-requires
 extent-of-requires c κs = search needs
 
-add-if1 : tie.Need-add-if1
-add-if1 c = search needs
+add-if2 : tie.Need-add-if2
+add-if2 c = search needs
 
-returns : tie.Need-returns
-returns c =
-    let h = c .before .before .before .args .hall in
-    let ns = c .before .before .before .args .names in
-    let room = c .before .before .before .args .room .now in
+returns-2 : tie.Need-returns-2
+returns-2 c =
+    let a = c .before .before .before .before .before .before .args in
+    let h = a .hall in
+    let ns = a .names in
+    let room = a .room .now in
+    let zero : h .settings .normal ≡ 0 = c .before .before .if1 .left in
     let k : length room < length (sheetOf h ns) =
-    omega (arith, length-sheetOf h ns, c .before .extent-of .ensures .octets, c .if1 .taken) in
-    (sym (saves-no-room h ns room k), (sym (room-untouched h ns room k), omega arith))
+    omega (arith, length-sheetOf h ns, c .before .extent-of .ensures .octets, c .if2 .taken) in
+    (sym (saves-no-room h ns room zero k), (sym (room-untouched h ns room zero k), omega arith))
 
 put-seats-requires : tie.Need-put-seats-requires
 put-seats-requires c κs = search needs
@@ -41,41 +51,33 @@ cast-put-trailer c = search needs
 put-trailer-requires : tie.Need-put-trailer-requires
 put-trailer-requires c κs = search needs
 
-add-t8 : tie.Need-add-t8
-add-t8 c = search needs
+add-t9 : tie.Need-add-t9
+add-t9 c = search needs
 
 same-length : tie.Need-same-length
 same-length c = search needs
 
-returns-2 : tie.Need-returns-2
-returns-2 c =
-    let h =
+returns-3 : tie.Need-returns-3
+returns-3 c =
+    let a =
     c .before .before .before .before .before .before .before .before .before .before .before .before .before .before .before .before
-    .args .hall in
-    let ns =
-    c .before .before .before .before .before .before .before .before .before .before .before .before .before .before .before .before
-    .args .names in
-    let room =
-    c .before .before .before .before .before .before .before .before .before .before .before .before .before .before .before .before
-    .args .room .now in
-    let m =
-    c .before .before .before .before .before .before .before .before .before .before .before .before .before .before .extent-of
-    .ensures in
-    let q : c .before .before .before .before .before .before .before .before .before .before .before .before .before .before .extent-of
-    .result .octets + 20 ≡ length (sheetOf h ns) = omega (arith, length-sheetOf h ns, m .octets) in
+    .before .before .args in
+    let h = a .hall in
+    let ns = a .names in
+    let room = a .room .now in
+    let zero : h .settings .normal ≡ 0 =
+    c .before .before .before .before .before .before .before .before .before .before .before .before .before .before .if1 .left in
+    let e = c .before .before .before .before .before .before .before .before .before .before .before .before .before .extent-of in
+    let m = e .ensures in
+    let q : e .result .octets + 20 ≡ length (sheetOf h ns) = omega (arith, length-sheetOf h ns, m .octets) in
     let k : length (sheetOf h ns) ≤ length room =
-    omega (
-      arith,
-      q,
-      c .before .before .before .before .before .before .before .before .before .before .before .before .before .if1
-          .left,
-    ) in (
-      rw q (sym (saves-whole h ns room k)),
+    omega (arith, q, c .before .before .before .before .before .before .before .before .before .before .before .before .if2 .left) in (
+      rw q (sym (saves-whole h ns room zero k)),
       (
         sheet-made h ns room _ _ _ _ _ (m .octets) (m .count)
-            (c .before .before .before .before .before .before .before .before .before .before .before .put-seats .ensures)
+            (c .before .before .before .before .before .before .before .before .before .before .put-seats .ensures)
             (c .before .before .before .before .before .before .put-settings .ensures) (c .before .before .put-trailer .ensures)
-            ∙ sym (room-written h ns room k),
+            ∙ sym (room-written h ns room zero k),
         omega (arith, m .few),
       ),
     )
@@ -84,14 +86,15 @@ pub save-spec : {M : Type 1} → statement M
 save-spec =
     tie.close
     (tie.spec
-    extent-of-requires
-    add-if1
     returns
+    extent-of-requires
+    add-if2
+    returns-2
     put-seats-requires
     put-settings-requires
     add-put-trailer
     cast-put-trailer
     put-trailer-requires
-    add-t8
+    add-t9
     same-length
-    returns-2)
+    returns-3)

@@ -5,7 +5,7 @@ use lib.ListN.{length}
 use Prim.Native.Nat.{_≤_}
 use mathlib.Core.Path.{refl}
 use Rattle.octets.proofs.Over.{run}
-use Rattle.seat_octets.specs.Layout.{levelWithin, c7Within, durationWithin, zerosWithin, settingsOctets}
+use Rattle.seat_octets.specs.Layout.{levelWithin, c7Within, durationWithin, normalWithin, settingsOctets}
 use native.Mathlib.Omega.{arith}
 use borrow.Author.Needs.{needs}
 use Rattle.seat_octets.proofs.put_settings.Statement.{statement}
@@ -32,11 +32,11 @@ add-put16 c = search needs
 put16-requires : tie.Need-put16-requires
 put16-requires c κs = search needs
 
-add-put16-2 : tie.Need-add-put16-2
-add-put16-2 c = search needs
+add-put-pair-3 : tie.Need-add-put-pair-3
+add-put-pair-3 c = search needs
 
-put16-requires-2 : tie.Need-put16-requires-2
-put16-requires-2 c κs = search needs
+put-pair-requires-3 : tie.Need-put-pair-requires-3
+put-pair-requires-3 c κs = search needs
 
 same-length : tie.Need-same-length
 same-length c = search needs
@@ -69,8 +69,8 @@ returns c =
     let e4 =
     run room _ _ at durationWithin (octets32 (s .ssrc) ++ (s .level ∷ s .limit ∷ []) ++ (s .c7 ∷ s .c20 ∷ [])) (octets16 (s .duration)) h
     refl e3 (c .before .before .before .before .before .before .put16 .ensures) in
-    run room _ _ at zerosWithin (octets32 (s .ssrc) ++ (s .level ∷ s .limit ∷ []) ++ (s .c7 ∷ s .c20 ∷ []) ++ octets16 (s .duration))
-    (octets16 0) h refl e4 (c .before .before .put162 .ensures)
+    run room _ _ at normalWithin (octets32 (s .ssrc) ++ (s .level ∷ s .limit ∷ []) ++ (s .c7 ∷ s .c20 ∷ []) ++ octets16 (s .duration))
+    (s .normal ∷ 0 ∷ []) h refl e4 (c .before .before .put-pair3 .ensures)
 
 pub put-settings-spec : {M : Type 1} → statement M
 put-settings-spec =
@@ -83,7 +83,7 @@ put-settings-spec =
     put-pair-requires-2
     add-put16
     put16-requires
-    add-put16-2
-    put16-requires-2
+    add-put-pair-3
+    put-pair-requires-3
     same-length
     returns)

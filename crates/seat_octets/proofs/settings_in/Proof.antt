@@ -37,9 +37,15 @@ add-number16 c = search needs
 number16-requires : tie.Need-number16-requires
 number16-requires c κs = search needs
 
+add-t18 : tie.Need-add-t18
+add-t18 c = search needs
+
+shared-slice-read-t20 : tie.Need-shared-slice-read-t20
+shared-slice-read-t20 c = search needs
+
 returns : tie.Need-returns
 unfolding settingsIn
-returns c = rw (c .number16 .ensures, c .before .before .before .before .before .number32 .ensures)
+returns c = rw (c .before .number16 .ensures, c .before .before .before .before .before .before .number32 .ensures)
 
 pub settings-in-spec : {M : Type 1} → statement M
 settings-in-spec =
@@ -56,4 +62,6 @@ settings-in-spec =
     shared-slice-read-t15
     add-number16
     number16-requires
+    add-t18
+    shared-slice-read-t20
     returns)

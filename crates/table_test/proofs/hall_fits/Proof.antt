@@ -13,8 +13,8 @@ up-to-requires-2 c κs = search needs
 up-to-requires-3 : tie.Need-up-to-requires-3
 up-to-requires-3 c κs = search needs
 
-zeros-fit-requires : tie.Need-zeros-fit-requires
-zeros-fit-requires c κs = search needs
+unused-zero-requires : tie.Need-unused-zero-requires
+unused-zero-requires c κs = search needs
 
 up-to-requires-4 : tie.Need-up-to-requires-4
 up-to-requires-4 c κs = search needs
@@ -26,10 +26,10 @@ returns c =
       c .before .before .before .before .up-to .ensures,
       c .before .before .before .up-to2 .ensures,
       c .before .before .up-to3 .ensures,
-      c .before .zeros-fit .ensures,
+      c .before .unused-zero .ensures,
       c .up-to4 .ensures,
     )
 
 pub hall-fits-spec : {M : Type 1} → statement M
 hall-fits-spec =
-    tie.close (tie.spec up-to-requires up-to-requires-2 up-to-requires-3 zeros-fit-requires up-to-requires-4 returns)
+    tie.close (tie.spec up-to-requires up-to-requires-2 up-to-requires-3 unused-zero-requires up-to-requires-4 returns)
