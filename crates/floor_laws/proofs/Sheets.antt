@@ -33,6 +33,13 @@ use borrow.Author.Tests.{eqb-true, eqb-false, ltb-true, ltb-false}
 use Rattle.saving.proofs.Saves.{saves-none, room-kept, saves-no-room, room-untouched, saves-whole, room-written}
 use Rattle.identities.specs.declared.Names.{Names}
 
+-- what is done is not refused, and a refusal has one number
+not-refused : (m n : ℕ) → pos m ≡ negsuc n → ⊥
+not-refused m n e = let z : _≡_ {A = ℕ} 0 1 = cc in omega arith
+
+one-refusal : (m n : ℕ) → negsuc m ≡ negsuc n → m ≡ n
+one-refusal m n e = cc
+
 -- what is saved, by cases
 module _ (d room : List ℕ) where
   abbrev sheet : List ℕ
@@ -64,7 +71,7 @@ module _ (d room : List ℕ) where
     pub octets : take n room′ ≡ sheet
 
   no-number : (n m : ℕ) (room′ : List ℕ) → _≡_ {A = ℤ × List ℕ} (pos n, room′) (negsuc m, room) → Saved n room′
-  no-number n m room′ p = let e : pos n ≡ negsuc m = ap (λ (w : ℤ × List ℕ). w .0) p in let z : _≡_ {A = ℕ} 0 1 = cc in absurd (omega arith)
+  no-number n m room′ p = absurd (not-refused n m (ap (λ (w : ℤ × List ℕ). w .0) p))
 
   whole : (n : ℕ) (room′ : List ℕ) → formed d ≡ true → level ≡ 0 →
       _≡_ {A = ℤ × List ℕ} (pos n, room′) (pos (length sheet), over room 0 sheet) → Saved n room′
@@ -144,12 +151,6 @@ saved-is-loaded d room n room′ p k desk m desk′ q o l =
     taken d desk m desk′ (take n room′) (w .octets) q o l k (w .inForm) (w .level-0)
 
 -- 48, and only where the level is not 0
-negsuc-same : (m n : ℕ) → negsuc m ≡ negsuc n → m ≡ n
-negsuc-same m n e = cc
-
-not-done : (m n : ℕ) → pos m ≡ negsuc n → ⊥
-not-done m n e = let z : _≡_ {A = ℕ} 0 1 = cc in omega arith
-
 module _ (d room : List ℕ) (n : ℤ) (room′ : List ℕ) (p : SavePromise d room n room′) (q : formed d ≡ true) where
   told : (w : ℤ × List ℕ) → saveOn d room ≡ w → n ≡ w .0
   told w e = ap (λ (v : ℤ × List ℕ). v .0) (p ∙ e)
@@ -159,10 +160,10 @@ module _ (d room : List ℕ) (n : ℤ) (room′ : List ℕ) (p : SavePromise d r
       by-test (tooShort (hallAt d) (namesAt d) room)
       (λ t.
       let k : 12 ≡ 47 =
-      negsuc-same 12 47 (sym (told _ (saves-short d room q e (ltb-true (length room) (length (sheet d room)) t))) ∙ z) in
+      one-refusal 12 47 (sym (told _ (saves-short d room q e (ltb-true (length room) (length (sheet d room)) t))) ∙ z) in
       omega arith)
       (λ t.
-      not-done (length (sheet d room)) 47
+      not-refused (length (sheet d room)) 47
       (sym (told _ (saves d room q e (ltb-false (length room) (length (sheet d room)) t))) ∙ z))
 
 pub save-answers-48 : SaveAnswers48
