@@ -6,15 +6,14 @@ use mathlib.Core.List.{List, [], _∷_}
 use mathlib.Core.Path.{_≡_, refl}
 use Rattle.words.specs.Choice.{if_then_else_}
 use Rattle.line.specs.declared.Entry.{Entry}
-use Rattle.line.specs.Line.{waiting, lineOf, before, ahead, entryOf, enter, anotherAtLeast, without, priorityOf}
+use Rattle.line.specs.Line.{waiting, lineOf, before, ahead, entryOf, enter, without, priorityOf}
 use Rattle.hall.specs.declared.Asked.{Asked}
 use Rattle.hall.specs.declared.Asked.the-variants.{Priority, NoField}
 use Rattle.hall.specs.Seats.{settingsOf, newcomerOf, emptyHall, alone, effective, seatOf, freeSeat, withSeat}
 use Rattle.identities.specs.Identity.{octetsOf, nameOf, noNames, withName, same, seatNamed, lengthAllowed}
 use Rattle.joining.specs.Join.{ssrcTaken, seated, join}
-use Rattle.steps.specs.Words.{next}
-use Rattle.giving.specs.Floor.{given, givenAtOnce, entersIdle, revokes}
-use Rattle.request.specs.Request.{waits, priorityIn, full, presses, denied, infoOf, holderAsks, informed, pressed, rule6, asksAgain, placed}
+use Rattle.giving.specs.Floor.{given, givenAtOnce, entersIdle}
+use Rattle.request.specs.Request.{waits, priorityIn, full, presses, informed, pressed, rule6, asksAgain, placed}
 use Rattle.request.specs.Request.{request}
 use Rattle.events.specs.declared.Event.the-variants.{Start, Request}
 use Rattle.events.specs.Events.{fresh, starts, callerOf, step}
@@ -41,11 +40,9 @@ lineAt normal xs = waiting (afterAll (afterAll (made (settingsOf 1 200 15 2 2 30
 -- all that the desk's steps stand on, opened, so that an evening computes
 opens : Type 0
 unfolding
-    if_then_else_ waiting lineOf before ahead enter anotherAtLeast without emptyHall alone effective seatOf freeSeat withSeat octetsOf
-    nameOf
-    noNames withName same seatNamed lengthAllowed ssrcTaken seated join next given givenAtOnce entersIdle revokes waits priorityIn
-    priorityOf
-    full presses denied infoOf holderAsks informed pressed rule6 asksAgain placed request fresh starts callerOf step does
+    if_then_else_ waiting lineOf before ahead enter without emptyHall alone effective seatOf freeSeat withSeat octetsOf nameOf noNames
+    withName same seatNamed lengthAllowed ssrcTaken seated join given givenAtOnce entersIdle waits priorityIn priorityOf full presses
+    informed pressed rule6 asksAgain placed request fresh starts callerOf step does
 opens = ℕ
 
 -- At level 0, as in document 01, the third is before the second. At level 100 it is behind.

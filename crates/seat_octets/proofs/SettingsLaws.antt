@@ -12,8 +12,7 @@ use Rattle.words.specs.Choice.{by-test}
 use Rattle.octets.specs.Octets.{be16, be32, octets16, octets32, part, Octets}
 use Rattle.hall.specs.declared.Settings.{Settings}
 use Rattle.seat_octets.specs.Layout.{levelWithin, limitWithin, c7Within, c20Within, durationWithin, normalWithin, unusedWithin}
-use Rattle.seat_octets.specs.Layout.{settingsSize}
-use Rattle.seat_octets.specs.Layout.{settingsOctets, settingsIn, unusedZero, zerosFit}
+use Rattle.seat_octets.specs.Layout.{settingsSize, settingsOctets, settingsIn, unusedZero, zerosFit}
 use Rattle.seat_octets.specs.Laws.{SettingsLong, SettingsBack, SettingsForth, ZerosSay, SettingsAreOctets, SettingsReadFit}
 use Rattle.seat_octets.proofs.Numbers.{number-again, long-again, octet-at, be16-at, be32-at, run, run-is, word-back, long-back}
 

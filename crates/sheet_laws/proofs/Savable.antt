@@ -18,7 +18,7 @@ use Rattle.sheet_laws.proofs.Back.{saved-loads}
 use Rattle.sheet_laws.proofs.Lengths.{lengths}
 
 -- at level 0 saving ends with 13, or is done
-pub never-48 : (h : Hall) (ns : Names) (room : List ℕ) → h .settings .normal ≡ 0 → saving h ns room .number ≡ 48 → ⊥
+never-48 : (h : Hall) (ns : Names) (room : List ℕ) → h .settings .normal ≡ 0 → saving h ns room .number ≡ 48 → ⊥
 never-48 h ns room e n =
     by-test (tooShort h ns room)
     (λ t.
