@@ -113,9 +113,9 @@ how_given_lem NotGiven = refl
 how_given_lem (AtOnce s) = refl
 how_given_lem (OutOfLine s) = refl
 
-pub starts-told : StartsTold
+pub starts_told : StartsTold
 unfolding starts_on if◌then◌else◌
-starts-told before after fired r =
+starts_told before after fired r =
     rw (
       twenty_four r,
       how_said r,
@@ -125,5 +125,5 @@ starts-told before after fired r =
       set_back after,
     )
 
-pub stops-told : StopsTold
-stops-told before after = rw (set_back before, set_back after)
+pub stops_told : StopsTold
+stops_told before after = rw (set_back before, set_back after)

@@ -30,14 +30,13 @@ use Rattle.history.specs.Doing.{Doing}
 use Rattle.history.specs.Asking.{Becoming, no_event, an_event, becomes, Asking, nobody, asks, asked_by, asked_in, asking, gives_up, stops_by}
 use Rattle.history.specs.Asking.{stops_in, stops_call}
 use Rattle.ways.specs.Ways.{Unmoved, quiet, holder, only_receives, outside, same_priority}
-use Rattle.ways.proofs.Apart.{is_cancel}
 use Rattle.ways.proofs.Phases.{idle_quiet, idle_none}
 use Rattle.marks.specs.Marks.{is_seat}
 use Rattle.marks.proofs.InLine.{none_in, first_in, behind_in, only_at, gone_out, in_added}
 use Rattle.marks.proofs.Did.{Did, rests, gives, places, shifts, strikes, passes, frees, halts, closes}
 use Rattle.reach.specs.Sound.{Sound}
 use Rattle.reach.proofs.Reach.{fits}
-use Rattle.demands.specs.Demands.{moves, comes_into, goes_out, held_after, is_placed, is_struck, is_given_out, is_ended, Place, away}
+use Rattle.demands.specs.Demands.{moves, comes_into, goes_out, held_after, is_placed, is_struck, is_given_out, is_ended, reason, Place, away}
 use Rattle.demands.specs.Demands.{in_line, placed_at, asked_again, place_after, is_moved}
 use Rattle.demands.proofs.Places.{place_in, place_out, place_at, place_enter, place_without}
 
@@ -151,12 +150,6 @@ module _ (s : ℕ) (a : Asking) (m : Marks) (w : Place) where
   unfolding place_after if◌then◌else◌
   place_goes p = rw p
 
--- the first two of three
-or_first : (p q r : Bool) → (p || q) ≡ true → (p || q || r) ≡ true
-or_first true q r e = refl
-or_first false true r e = refl
-or_first false false r e = clash e refl
-
 module _ (d : Desk) (x : Doing) (new : Core) (m : Marks) where
   abbrev before : List Entry
   before = waiting d.core.line
@@ -170,28 +163,24 @@ module _ (d : Desk) (x : Doing) (new : Core) (m : Marks) where
   placed_why (gives t p a i l f e) s z = clash z (ap (is_placed s) e)
   placed_why (places t p a w r l f e) s z = let y : t ≡ s = eqb-true t s (sym (ap (is_placed s) e) ∙ z) in rw (sym y) (p, a, r)
   placed_why (shifts t p b a w n l f e) s z = clash z (ap (is_placed s) e)
-  placed_why (strikes seats a g w l f e) s z = clash z (ap (is_placed s) e)
+  placed_why (strikes t b a g w l f e) s z = clash z (ap (is_placed s) e)
   placed_why (passes t y es a h b w l f e) s z = clash z (ap (is_placed s) e)
   placed_why (frees t a h w l f e) s z = clash z (ap (is_placed s) e)
   placed_why (halts t y h l f e) s z = clash z (ap (is_placed s) e)
   placed_why (closes y i l f e) s z = clash z (ap (is_placed s) e)
 
-  -- 2: who is struck off gives up its place, or is cancelled, or the call stops
-  abbrev Why : ℕ → Type 0
-  Why s = (gives_up d.hall x s || is_cancel x || stops_call x) ≡ true
-
-  pub struck_why : Did d x new m → (s : ℕ) → is_struck s m ≡ true → Why s
+  -- 2: who is struck off has a reason
+  pub struck_why : Did d x new m → (s : ℕ) → is_struck s m ≡ true → reason d.hall x s ≡ true
   struck_why (rests u l f e) s z = clash z (ap (is_struck s) e ∙ get_d_fill false 16 s)
   struck_why (gives t p a i l f e) s z = clash z (ap (is_struck s) e ∙ get_d_fill false 16 s)
   struck_why (places t p a w r l f e) s z = clash z (ap (is_struck s) e ∙ get_d_fill false 16 s)
   struck_why (shifts t p b a w n l f e) s z = clash z (ap (is_struck s) e ∙ get_d_fill false 16 s)
-  struck_why (strikes seats a g w l f e) s z = or_first (gives_up d.hall x s) (is_cancel x) (stops_call x) (g s (sym (ap (is_struck s) e) ∙ z))
+  struck_why (strikes t b a g w l f e) s z =
+      or_left _ _ (ap (gives_up d.hall x) (sym (eqb-true t s (sym (ap (is_struck s) e ∙ only_at t s b) ∙ z))) ∙ g)
   struck_why (passes t y es a h b w l f e) s z = clash z (ap (is_struck s) e ∙ get_d_fill false 16 s)
   struck_why (frees t a h w l f e) s z = clash z (ap (is_struck s) e ∙ get_d_fill false 16 s)
-  struck_why (halts t y h l f e) s z =
-      or_right (gives_up d.hall x s) (is_cancel x || stops_call x) (or_right (is_cancel x) (stops_call x) y)
-  struck_why (closes y i l f e) s z =
-      or_right (gives_up d.hall x s) (is_cancel x || stops_call x) (or_right (is_cancel x) (stops_call x) y)
+  struck_why (halts t y h l f e) s z = or_right (gives_up d.hall x s) (stops_call x) y
+  struck_why (closes y i l f e) s z = or_right (gives_up d.hall x s) (stops_call x) y
 
   -- 3: a floor that ends with a line waiting, the call going on, goes to its head
   pub goes_to_head : Did d x new m → (t u : ℕ) → is_ended t m ≡ true → is_in u before ≡ true → is_stopped new.phase ≡ false →
@@ -200,7 +189,7 @@ module _ (d : Desk) (x : Doing) (new : Core) (m : Marks) where
   goes_to_head (gives s p a j l f e) t u z i n = clash z (ap (is_ended t) e)
   goes_to_head (places s p a w r l f e) t u z i n = clash z (ap (is_ended t) e)
   goes_to_head (shifts s p b a w o l f e) t u z i n = clash z (ap (is_ended t) e)
-  goes_to_head (strikes seats a g w l f e) t u z i n = clash z (ap (is_ended t) e)
+  goes_to_head (strikes s b a g w l f e) t u z i n = clash z (ap (is_ended t) e)
   goes_to_head (passes s y es a h b w l f e) t u z i n = (y, es, w, ap (λ (o : Marks). o.given) e)
   goes_to_head (frees s a h w l f e) t u z i n = clash i (none_in u w)
   goes_to_head (halts s y h l f e) t u z i n = clash (ap is_stopped f) n
@@ -213,7 +202,7 @@ module _ (d : Desk) (x : Doing) (new : Core) (m : Marks) where
   holder-changed (gives t p a i l f e) b g s = rw e (f s)
   holder-changed (places t p a w r l f e) b g s = rw e (f s ∙ g s)
   holder-changed (shifts t p y a w n l f e) b g s = rw e (f s ∙ g s)
-  holder-changed (strikes seats a o w l f e) b g s = rw e (f s ∙ g s)
+  holder-changed (strikes t y a o w l f e) b g s = rw e (f s ∙ g s)
   holder-changed (passes t y es a h o w l f e) b g s = rw e (f s)
   holder-changed (frees t a h w l f e) b g s = rw e (f s)
   holder-changed (halts t y h l f e) b g s = rw (e, f)
@@ -232,7 +221,7 @@ module _ (d : Desk) (x : Doing) (new : Core) (m : Marks) where
     line-changed (gives t p a i l f e) = rw (e, l, without_none before) (still_line before 0 what (idle_still i))
     line-changed (places t p a w r l f e) = rw (e, a, l, without_none before)
     line-changed (shifts t p b a w n l f e) = rw (e, a, l, without_none before) (if_yes _ _ _ (moves_so t p before w n))
-    line-changed (strikes seats a g w l f e) = rw (e, a, l)
+    line-changed (strikes t b a g w l f e) = rw (e, a, l)
     line-changed (passes t y es a h b w l f e) = rw (e, a, l, without_none before, w)
     line-changed (frees t a h w l f e) = rw (e, a, l, without_none before, w)
     line-changed (halts t y h l f e) = rw (e, stops-nobody d.hall x y, l) (all_struck before (fits d k).seats)
@@ -293,12 +282,13 @@ module _ (d : Desk) (x : Doing) (new : Core) (m : Marks) where
         ∙ rw (a, place_at s before i) (if_yes _ _ _ z) ∙ sym (ap (place_in s) l ∙ n ∙ if_yes _ _ _ z))
         (λ z. other_place s t p a z (unstruck s (struck_of e)) (ap (is_given_out s) e) (ap (is_placed s) e)
         ∙ sym (ap (place_in s) l ∙ n ∙ if_no _ _ _ z ∙ place_without s (only t) before ∙ if_no _ _ _ (only_at t s b ∙ z)))
-    place_changed (strikes seats a g w l f e) s =
-        let i : is_struck s m ≡ get_or seats s false = ap (is_struck s) e in
-        let n = place_without s seats before in
-        by_test (get_or seats s false)
-        (λ z. place_goes s what m (place_in s before) (or_left _ _ (i ∙ z)) ∙ sym (ap (place_in s) l ∙ n ∙ if_yes _ _ _ z))
-        (λ z. quiet_place s a (i ∙ z) (ap (is_given_out s) e) (ap (is_placed s) e) ∙ sym (ap (place_in s) l ∙ n ∙ if_no _ _ _ z))
+    place_changed (strikes t b a g w l f e) s =
+        let i : is_struck s m ≡ eqb t s = ap (is_struck s) e ∙ only_at t s b in
+        let n = place_without s (only t) before in
+        by_test (eqb t s)
+        (λ z. place_goes s what m (place_in s before) (or_left _ _ (i ∙ z)) ∙ sym (ap (place_in s) l ∙ n ∙ if_yes _ _ _ (only_at t s b ∙ z)))
+        (λ z. quiet_place s a (i ∙ z) (ap (is_given_out s) e) (ap (is_placed s) e)
+        ∙ sym (ap (place_in s) l ∙ n ∙ if_no _ _ _ (only_at t s b ∙ z)))
     place_changed (passes t y es a h b w l f e) s =
         let n = place_without s (only y.seat) (y ∷ es) in
         by_test (eqb y.seat s)

@@ -109,8 +109,8 @@ module _ (d : Desk) (x : Doing) (new : Core) (m : Marks) (at : ℕ → ℕ) (n :
       (ap (λ (y : Asking). is_moved t y (place_in t line)) q ∙ moved_by t t p line ∙ rw (eq-eqb t t refl, moves_so t p line w o))))
       (λ s z. kept s (ap (is_placed s) e) (other t p s q z))
       (without_ok d.hall (only t) line ok.core.line.list).sorted (along_without (Later at) (only t) line k))
-  order_kept (strikes seats q g w l f e) =
-      rw l (quiet_order (without seats line) q (λ s. ap (is_placed s) e) (along_without (Later at) seats line k))
+  order_kept (strikes t b q g w l f e) =
+      rw l (quiet_order (without (only t) line) q (λ s. ap (is_placed s) e) (along_without (Later at) (only t) line k))
   order_kept (passes t y es q h b w l f e) =
       rw l (quiet_order (without (only y.seat) (y ∷ es)) q (λ s. ap (is_placed s) e)
       (rw w at (along_without (Later at) (only y.seat) line k)))

@@ -3,49 +3,41 @@
 -- nothing.
 use Prim.Native.Nat.{ℕ, ◌<◌}
 use mathlib.Core.Path.{◌≡◌, refl, ap, sym, ◌∙◌}
-use mathlib.Core.Bool.{Bool, true, false, not, ◌&&◌, ◌||◌}
+use mathlib.Core.Bool.{true, false}
 use mathlib.Core.List.{List, [], ◌∷◌}
 use native.Mathlib.Omega.{arith}
 use lib.Dec.{eqb}
 use lib.ListN.{length}
 use lib.Seq.{get_or-set_other}
-use borrow.Author.Tests.{not-false}
 use Rattle.words.specs.Choice.{by_test, by_if}
-use Rattle.words.specs.Table.{get_d_fill}
-use Rattle.words.proofs.Tests.{clash, three}
-use Rattle.line.specs.Line.{waiting, is_in, anyone}
+use Rattle.words.proofs.Tests.{clash}
+use Rattle.line.specs.Line.{waiting, is_in}
 use Rattle.hall.specs.declared.Flags.{Flags}
 use Rattle.hall.specs.declared.Hall.{Hall}
 use Rattle.identities.specs.declared.Names.{Names}
 use Rattle.hall.specs.declared.Newcomer.{Newcomer}
 use Rattle.joining.specs.declared.Joined.{Joined}
-use Rattle.hall.specs.Seats.{no_flags, is_present, receives_only, dispatches, with_seat, vacated}
+use Rattle.hall.specs.Seats.{no_flags, is_present, receives_only, with_seat, vacated}
 use Rattle.joining.specs.Join.{join}
 use Rattle.joining.specs.Joins.{Joins, turned_away, sits_down}
 use Rattle.joining.proofs.Joins.{every_join}
-use Rattle.steps.specs.declared.Core.{Core}
-use Rattle.steps.specs.declared.Step.{Step}
-use Rattle.steps.specs.Words.{no_marks}
 use Rattle.giving.specs.Floor.{holds}
-use Rattle.request.specs.Request.{is_idle, waits}
-use Rattle.timers.specs.Timers.{is_stopped}
-use Rattle.cancelling.specs.Cancel.{Wanted, is_wanted, is_allowed, wanted_in, told, cleared, found, results, cancel}
+use Rattle.request.specs.Request.{waits}
 use Rattle.events.specs.declared.Outcome.{Outcome}
 use Rattle.events.specs.Events.{leave}
 use Rattle.events.specs.declared.Desk.{Desk}
-use Rattle.history.specs.Doing.{Doing, event, packet, leaves, joins, cancels, does, after, Fresh}
-use Rattle.history.specs.Asking.{asks, asking, gives_up, stops_call}
-use Rattle.ways.proofs.Apart.{is_cancel}
+use Rattle.history.specs.Doing.{Doing, event, packet, leaves, joins, does, after, Fresh}
+use Rattle.history.specs.Asking.{asks, asking}
 use Rattle.ways.proofs.Walk.{every_way}
 use Rattle.marks.specs.Marks.{is_seat}
-use Rattle.marks.proofs.InLine.{none_in, set_in, wanted_is}
+use Rattle.marks.proofs.InLine.{none_in}
 use Rattle.marks.proofs.Did.{Did, did}
 use Rattle.reach.specs.Sound.{Sound}
 use Rattle.reach.proofs.InLine.{present_below}
 use Rattle.reach.proofs.Hall.{stored, hall_ok}
 use Rattle.reach.proofs.Reach.{fits, marks_counted}
 use Rattle.demands.specs.Demands.{History, desk_after, log, is_placed, is_struck, is_given_out, changed, line_from, holder_from, place_of}
-use Rattle.demands.specs.Demands.{is_told0, reason, StruckForAReason, WorkedOut}
+use Rattle.demands.specs.Demands.{StruckForAReason, WorkedOut}
 use Rattle.demands.proofs.Counts.{fresh-line, fresh-holder, sound_after, comes_by}
 use Rattle.demands.proofs.Places.{place_in, place_out}
 use Rattle.demands.proofs.OfEach.{NoneReceivesOnly, placed_why, struck_why, line-changed, holder-changed, place_changed}
@@ -75,7 +67,6 @@ hall_not_only d (leaves t) k s p v =
     (λ q. vacated-not-only d.hall t s
     (let b = present_below d.hall (hall_ok d.hall d.names k.seats) t q in omega (arith, k.seats.columns.3)) v)
     (λ _. v)
-hall_not_only d (cancels t w) k s p v = v
 hall_not_only d (joins o n) k s p v =
     joined-not-only d.hall d.names o n s p v (join d.hall d.names o n) (every_join d.hall d.names o n)
 
@@ -86,7 +77,6 @@ asker_not_only d (event e) s p q v = v
 asker_not_only d (packet o) s p q v = v
 asker_not_only d (leaves t) s p q v = let z : ◌≡◌ {A = ℕ} 0 1 = cc in absurd (omega arith)
 asker_not_only d (joins o n) s p q v = let z : ◌≡◌ {A = ℕ} 0 1 = cc in absurd (omega arith)
-asker_not_only d (cancels t w) s p q v = v
 
 -- what each step of a sound desk does
 pub step-does : (d : Desk) (x : Doing) → Sound d → Did d x (does d x).desk.core (does d x).report.marks
@@ -110,48 +100,10 @@ none_after start f [] = λ s i. clash i (none_in s (fresh-line start f))
 none_after start f (x ∷ past) = none_kept (desk_after does start past) x (sound_after start f past) (none_after start f past)
 
 -- 2
--- a cancel strikes off those whom it is for, if a dispatcher asks, and tells it 0
-module _ (c : Core) (h : Hall) (ns : Names) (t : ℕ) (w : Wanted) (s : ℕ) where
-  abbrev Only : Step → Type 0
-  Only r = is_struck s r.report.marks ≡ true → (dispatches h t && is_wanted ns w s && is_told0 r.report.first.kind) ≡ true
-
-  none_struck : {r : Step} → r.report.marks ≡ no_marks → Only r
-  none_struck q z = clash z (ap (is_struck s) q ∙ get_d_fill false 16 s)
-
-  cancel_strikes : Only (cancel c h ns t w)
-  unfolding cancel results found told cleared
-  cancel_strikes =
-      by_if Only (is_stopped c.phase) (λ _. none_struck refl)
-      (λ _. by_if Only (not (is_present h t)) (λ _. none_struck refl)
-      (λ _. by_if Only (is_idle c.phase) (λ _. none_struck refl)
-      (λ _. by_if Only (not (is_allowed w)) (λ _. none_struck refl)
-      (λ _. by_if Only (not (dispatches h t)) (λ _. none_struck refl)
-      (λ i. by_if Only (eqb (length (waiting c.line)) 0) (λ _. none_struck refl)
-      (λ _. by_if Only (anyone (λ e. is_wanted ns w e.seat) (waiting c.line))
-      (λ _ z. three (dispatches h t) (is_wanted ns w s) true (not-false _ i)
-      (wanted_is ns w s (waiting c.line) (set_in s (wanted_in ns w (waiting c.line)) z)) refl)
-      (λ _. none_struck refl)))))))
-
--- so each reason is one of the four
-no_cancel : (p q : Bool) → (p || (false || q)) ≡ true → (p || (q || false)) ≡ true
-no_cancel true q e = refl
-no_cancel false true e = refl
-no_cancel false false e = e
-
-reason_of : (d : Desk) (x : Doing) (s : ℕ) → (gives_up d.hall x s || is_cancel x || stops_call x) ≡ true →
-    is_struck s (does d x).report.marks ≡ true → reason d x (does d x).report s ≡ true
-unfolding does
-reason_of d (event e) s y z = no_cancel _ _ y
-reason_of d (packet o) s y z = no_cancel _ _ y
-reason_of d (leaves t) s y z = no_cancel _ _ y
-reason_of d (joins o n) s y z = no_cancel _ _ y
-reason_of d (cancels t w) s y z = cancel_strikes d.core d.hall d.names t w s z
-
 pub struck_for_a_reason : StruckForAReason does
 struck_for_a_reason start f past now s z =
     let d = desk_after does start past in
-    reason_of d now s
-    (struck_why d now (does d now).desk.core (does d now).report.marks (step-does d now (sound_after start f past)) s z) z
+    struck_why d now (does d now).desk.core (does d now).report.marks (step-does d now (sound_after start f past)) s z
 
 -- 5
 pub line_worked_out : (start : Desk) → Fresh start → (past : History) →

@@ -12,10 +12,9 @@ use Rattle.std.specs.Prelude.{ℕ, suc, ◌+◌, ◌≤◌, ◌<◌, ◌≡◌, 
 use Rattle.words.specs.Choice.{if◌then◌else◌, one}
 use Rattle.line.specs.declared.Entry.{Entry}
 use Rattle.line.specs.Line.{waiting, is_in, enter, without, priority_of, entry_of}
+use Rattle.hall.specs.declared.Hall.{Hall}
 use Rattle.hall.specs.Seats.{only}
 use Rattle.steps.specs.declared.Core.{Core}
-use Rattle.steps.specs.declared.Kind.{Kind}
-use Rattle.steps.specs.declared.Kind.TheVariants as say
 use Rattle.steps.specs.declared.Mark.{Mark}
 use Rattle.steps.specs.declared.Mark.TheVariants.{NoSeat, Seat}
 use Rattle.steps.specs.declared.Given.{Given}
@@ -27,14 +26,13 @@ use Rattle.request.specs.Request.{waits}
 use Rattle.events.specs.declared.Outcome.{Outcome}
 use Rattle.timers.specs.Timers.{is_stopped}
 use Rattle.events.specs.declared.Desk.{Desk}
-use Rattle.cancelling.specs.Cancel.{cancel_done}
 use Rattle.history.specs.Doing.{Doing, Fresh}
-use Rattle.history.specs.Asking.{Asking, nobody, asks, asking, gives_up, stops_call, cancels_seat}
+use Rattle.history.specs.Asking.{Asking, nobody, asks, asking, gives_up, stops_call}
 use Rattle.marks.specs.Marks.{is_seat, is_given, is_out}
 
 -- WHAT HAPPENS
--- Octets come in as a packet, whatever they are and whether they are read or not; or anything else happens: media, a join, a leave, a cancel,
--- start, stop, a timer. A server is whatever makes of it an answer, the desk afterwards and a report; the rules' own is `does`.
+-- Octets come in as a packet, whatever they are and whether they are read or not; or anything else happens: media, a join, a leave, start,
+-- stop, a timer. A server is whatever makes of it an answer, the desk afterwards and a report; the rules' own is `does`.
 abbrev pub Server : Type 0
 Server = Desk → Doing → Outcome
 
@@ -158,22 +156,10 @@ latest s [] = 0
 latest s (r ∷ past) =
     if is_placed s r.report.marks || is_moved s r.asked (place_of s past) then suc (length past) else latest s past
 
--- WHY A SEAT MAY BE STRUCK OFF: its own release, its own leave, or the call stops; and "Cancelling is then a fourth reason" (document 02, #102):
--- a dispatcher cancels with no list, or with a list that names the seat, and is told 0
+-- WHY A SEAT MAY BE STRUCK OFF: its own release, its own leave, or the call stops
 
-abbrev pub is_told0 : Kind → Bool
-is_told0 (say.Result n places) = eqb n cancel_done
-is_told0 say.Nothing = false
-is_told0 (say.Granted p) = false
-is_told0 (say.Taken s n) = false
-is_told0 (say.Deny n) = false
-is_told0 (say.Idle n) = false
-is_told0 (say.Revoke n) = false
-is_told0 (say.Info k p) = false
-is_told0 say.Cancelled = false
-
-abbrev pub reason : Desk → Doing → Report → ℕ → Bool
-reason d x r s = gives_up d.hall x s || stops_call x || (cancels_seat d x s && is_told0 r.first.kind)
+abbrev pub reason : Hall → Doing → ℕ → Bool
+reason h x s = gives_up h x s || stops_call x
 
 -- THE FIVE STATEMENTS
 -- Each is of a server, any fresh desk, any history and any seat number: proved of the rules' server `does`, and refuted of faulty ones
@@ -188,12 +174,12 @@ NobodyDropsOut server = (start : Desk) → Fresh start → (past : History) (s :
     (times (is_placed s) rows ≡ times (is_given_out s) rows + times (is_struck s) rows + one (waits desk.core s))
     × (standing s (waiting desk.core.line) ≡ one (waits desk.core s))
 
--- 2. "Struck off only in a step where it releases, leaves, or the call stops", or is cancelled
+-- 2. "Struck off only in a step where it releases, leaves, or the call stops."
 abbrev pub StruckForAReason : Server → Type 0
 StruckForAReason server = (start : Desk) → Fresh start → (past : History) (now : Doing) (s : ℕ) →
     let desk = desk_after server start past in
     let new = server desk now in
-    is_struck s new.report.marks ≡ true → reason desk now new.report s ≡ true
+    is_struck s new.report.marks ≡ true → reason desk.hall now s ≡ true
 
 -- 3. "A floor that ends with a line waiting, the call going on, goes to the highest priority, and among equals to the one whose latest
 -- placing or move came first." Who waits, and at which priority, is read off the log.

@@ -13,7 +13,7 @@ use Rattle.writing.specs.Writing.{writing}
 use Rattle.readable.specs.Readable.{readable}
 use Rattle.writing.proofs.Lengths.{wire_whole}
 use Rattle.outgoing.specs.declared.Outgoing.{Outgoing}
-use Rattle.outgoing.specs.declared.Outgoing.TheVariants.{Packet, Silence, NoPacket}
+use Rattle.outgoing.specs.declared.Outgoing.TheVariants.{Packet, Silence}
 use Rattle.outgoing.specs.Outgoing.{sending}
 use Rattle.message_octets.specs.Held.{Held, Is, Nothing, writing_of}
 use Rattle.desk_looking.specs.Looking.{size_in}
@@ -28,7 +28,6 @@ writing_short m src room =
 
 pub sending_short : (o : Outgoing) (src : List ℕ) (room : ℕ) → size_in (sending o src room) ≤ longest_packet
 sending_short Silence src room = omega arith
-sending_short NoPacket src room = omega arith
 sending_short (Packet m) src room = writing_short m src room
 
 pub held_short : (h : Held) (src : List ℕ) (room : ℕ) → size_in (writing_of h src room) ≤ longest_packet

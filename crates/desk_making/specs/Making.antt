@@ -51,10 +51,9 @@ abbrev pub load_on : List ℕ → List ℕ → ℤ × List ℕ
 load_on room sheet = desk_written room (loading sheet).number 0 (loading sheet).core (loading sheet).hall (loading sheet).names
 
 -- a flag from C: 0 for no, anything else for yes
-abbrev pub newcomer : ℕ → ℕ → ℕ → ℕ → ℕ → Newcomer
-newcomer ssrc highest queueing receive_only dispatcher =
-    newcomer_of ssrc highest
-    (record { queueing = not (eqb queueing 0); receive_only = not (eqb receive_only 0); dispatcher = not (eqb dispatcher 0) })
+abbrev pub newcomer : ℕ → ℕ → ℕ → ℕ → Newcomer
+newcomer ssrc highest queueing receive_only =
+    newcomer_of ssrc highest (record { queueing = not (eqb queueing 0); receive_only = not (eqb receive_only 0) })
 
 -- a join that is done answers the seat that was taken; one that took none is refused, and its number of a seat is not told
 abbrev pub seat_taken : Found → ℕ

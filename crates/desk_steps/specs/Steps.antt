@@ -12,7 +12,6 @@ use Rattle.timers.specs.declared.Timer.{Timer}
 use Rattle.events.specs.declared.Outcome.{Outcome}
 use Rattle.events.specs.Events.{whole_desk, outcome, step, leave}
 use Rattle.packet_events.specs.PacketEvents.{hears}
-use Rattle.cancelling.specs.Cancel.{Wanted, cancel}
 use Rattle.events.specs.declared.Event.{Event}
 use Rattle.events.specs.declared.Event.TheVariants.{Expiry}
 use Rattle.desk_octets.specs.Form.{octets_of_desk, core_at, hall_at, names_at}
@@ -64,10 +63,6 @@ packet_on d r p = step_on d r (hears (core_at d) (hall_at d) p)
 -- every number that no seat has is one such number
 unfoldable pub seat_numbered : ℕ → ℕ
 seat_numbered n = if ltb n 16 then n else 16
-
--- a cancel, with a list in lent octets or with none
-abbrev pub cancel_on : List ℕ → List ℕ → ℕ → Wanted → Leaves
-cancel_on d r seat w = step_on d r (cancel (core_at d) (hall_at d) (names_at d) seat w)
 
 abbrev pub leave_on : List ℕ → List ℕ → ℕ → Leaves
 leave_on d r seat = outcome_on d r (leave (whole_desk (core_at d) (hall_at d) (names_at d)) seat)

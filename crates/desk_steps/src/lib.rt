@@ -2,8 +2,7 @@
 // specs/Steps.antt has what each leaves.
 ghost use Rattle.std.specs.Prelude.{◌≡◌, true};
 ghost use Rattle.desk_test.specs.Lent.{formed};
-ghost use Rattle.desk_steps.specs.Steps.{step_leaves, outcome_on, step_on, event_on, cancel_on, seat_numbered};
-ghost use Rattle.cancelling.specs.Cut.{wanted};
+ghost use Rattle.desk_steps.specs.Steps.{step_leaves, outcome_on, step_on, event_on, seat_numbered};
 
 use events::{Event, Outcome};
 use steps::Step;
@@ -58,21 +57,6 @@ pub fn event_on(desk: &mut [u8], report: &mut [u8], event: Event) -> i32
         let core = desk_reading::core_at(desk);
         let hall = desk_reading::hall_at(desk);
         let step = events::make_step(core, hall, event);
-        settle(desk, report, step)
-    } else {
-        signed::refusal(20)
-    }
-}
-
-// A seat asks to cancel those whom a list names, or, where none is given, all who wait.
-pub fn cancel_on(desk: &mut [u8], seat: u32, given: bool, list: &[u8], report: &mut [u8]) -> i32
-    ensures { step_leaves result desk.new report.new ≡ cancel_on desk.old report.old (seat_numbered seat) (wanted given list.now) }
-{
-    if desk_test::is_desk(desk) {
-        let core = desk_reading::core_at(desk);
-        let hall = desk_reading::hall_at(desk);
-        let names = desk_reading::names_at(desk);
-        let step = cancelling::cancel_line(core, hall, names, seat_numbered(seat), given, list);
         settle(desk, report, step)
     } else {
         signed::refusal(20)

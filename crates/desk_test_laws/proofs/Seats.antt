@@ -18,7 +18,7 @@ use Rattle.hall.specs.declared.Found.{Found}
 use Rattle.hall.specs.declared.Found.TheVariants.{At, Nowhere}
 use Rattle.hall.specs.Seats.{is_present, no_flags, flags_at, has_ssrc, seat_of, first_from, in_range, finds}
 use Rattle.identities.specs.Identity.{octets_of, name_of, no_name, name_at, same, has_name, seat_named, length_allowed}
-use Rattle.hall.proofs.Laws.{at_same, found-holds, none_holds}
+use Rattle.hall.proofs.Laws.{at_same, found_holds, none_holds}
 use Rattle.identities.proofs.Naming.{no_name_whole}
 use Rattle.reach.specs.Sound.{SeatsOk}
 use Rattle.reach.proofs.InLine.{within-column}
@@ -86,7 +86,7 @@ none_short = refl
 -- what a search finds where no other passes its test
 finds-only : (test : ℕ → Bool) (s : ℕ) → s < 16 → test s ≡ true → ((t : ℕ) → test t ≡ true → t ≡ s) → (f : Found) →
     first_from test 16 0 ≡ f → finds f s ≡ true
-finds-only test s b p u (At t) q = eq-eqb t s (u t (found-holds test 16 0 t q).0)
+finds-only test s b p u (At t) q = eq-eqb t s (u t (found_holds test 16 0 t q).0)
 finds-only test s b p u Nowhere q = clash p (none_holds test 16 0 s q (omega arith) (omega arith))
 
 -- an octet of flags is zero exactly if none is set

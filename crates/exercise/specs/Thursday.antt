@@ -51,7 +51,7 @@ abbrev test3 : List ℕ
 test3 = 116 ∷ 101 ∷ 115 ∷ 116 ∷ 51 ∷ []
 
 abbrev newcomer : ℕ → Bool → Newcomer
-newcomer x q = newcomer_of x 255 (record { queueing = q; receive_only = false; dispatcher = false })
+newcomer x q = newcomer_of x 255 (record { queueing = q; receive_only = false })
 
 abbrev pub arrivals : List Doing
 arrivals =

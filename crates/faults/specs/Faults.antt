@@ -44,7 +44,7 @@ abbrev anna : List ℕ
 anna = 97 ∷ 110 ∷ 110 ∷ 97 ∷ []
 
 abbrev comes : List ℕ → ℕ → Doing
-comes o x = joins o (newcomer_of x 255 (record { queueing = true; receive_only = false; dispatcher = false }))
+comes o x = joins o (newcomer_of x 255 (record { queueing = true; receive_only = false }))
 
 abbrev begins : Doing
 begins = event Start

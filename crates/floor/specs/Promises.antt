@@ -5,14 +5,13 @@ use Rattle.std.specs.Prelude.{ℕ, List, ◌≡◌, ℤ}
 use Rattle.message.specs.Answers.{result}
 use Rattle.signed.specs.Signed.{signed}
 use Rattle.hall.specs.declared.Settings.{Settings}
-use Rattle.hall.specs.Seats.{mask_of, seat_of}
+use Rattle.hall.specs.Seats.{seat_of}
 use Rattle.identities.specs.Identity.{seat_named}
 use Rattle.events.specs.declared.Event.TheVariants.{Start, Stop, Media}
 use Rattle.timers.specs.Timers.{timer_named, running}
 use Rattle.desk_octets.specs.Form.{kind_octet, core_at, hall_at, names_at}
-use Rattle.listing.specs.Listing.{list_in}
-use Rattle.cancelling.specs.Cancel.{no_list, by_list}
-use Rattle.desk_steps.specs.Steps.{step_leaves, seat_numbered, leave_on, event_on, packet_on, fired_on, cancel_on}
+use Rattle.report_octets.specs.Report.{mask_of}
+use Rattle.desk_steps.specs.Steps.{step_leaves, seat_numbered, leave_on, event_on, packet_on, fired_on}
 use Rattle.desk_making.specs.Making.{make_on, newcomer, join_on, load_on}
 use Rattle.desk_looking.specs.Looking.{message_on, read_on, write_on, save_on, screen_on, looks, holder_seat, holder_priority}
 use Rattle.clocks_looking.specs.ClockSets.{timer_set}
@@ -24,7 +23,7 @@ use Rattle.clocks_looking.specs.ClockSets.{starts_on, stops_on}
 
 -- its number, which every change of a function that C programs see counts up
 abbrev pub face_version : ℕ
-face_version = 5
+face_version = 4
 
 abbrev pub VersionPromise : (answer : ℤ) → Type 0
 VersionPromise answer = answer ≡ signed (result face_version)
@@ -34,9 +33,9 @@ VersionPromise answer = answer ≡ signed (result face_version)
 abbrev pub MakePromise : (desk : List ℕ) (settings : Settings) (answer : ℤ) (desk' : List ℕ) → Type 0
 MakePromise desk settings answer desk' = (answer, desk') ≡ make_on desk settings
 
-abbrev pub JoinPromise : (desk identity : List ℕ) (ssrc highest queueing receive_only dispatcher : ℕ) (answer : ℤ) (desk' : List ℕ) → Type 0
-JoinPromise desk identity ssrc highest queueing receive_only dispatcher answer desk' =
-    (answer, desk') ≡ join_on desk identity (newcomer ssrc highest queueing receive_only dispatcher)
+abbrev pub JoinPromise : (desk identity : List ℕ) (ssrc highest queueing receive_only : ℕ) (answer : ℤ) (desk' : List ℕ) → Type 0
+JoinPromise desk identity ssrc highest queueing receive_only answer desk' =
+    (answer, desk') ≡ join_on desk identity (newcomer ssrc highest queueing receive_only)
 
 abbrev pub LeavePromise : (desk : List ℕ) (seat : ℕ) (report : List ℕ) (answer : ℤ) (desk' report' : List ℕ) → Type 0
 LeavePromise desk seat report answer desk' report' = step_leaves answer desk' report' ≡ leave_on desk report (seat_numbered seat)
@@ -57,13 +56,6 @@ MediaPromise desk ssrc report answer desk' report' = step_leaves answer desk' re
 
 abbrev pub TimerPromise : (desk : List ℕ) (timer : ℕ) (report : List ℕ) (answer : ℤ) (desk' report' : List ℕ) → Type 0
 TimerPromise desk timer report answer desk' report' = step_leaves answer desk' report' ≡ fired_on desk report (timer_named timer)
-
-abbrev pub CancelPromise : (desk : List ℕ) (seat : ℕ) (list report : List ℕ) (answer : ℤ) (desk' report' : List ℕ) → Type 0
-CancelPromise desk seat list report answer desk' report' =
-    step_leaves answer desk' report' ≡ cancel_on desk report (seat_numbered seat) (by_list (list_in list))
-
-abbrev pub CancelAllPromise : (desk : List ℕ) (seat : ℕ) (report : List ℕ) (answer : ℤ) (desk' report' : List ℕ) → Type 0
-CancelAllPromise desk seat report answer desk' report' = step_leaves answer desk' report' ≡ cancel_on desk report (seat_numbered seat) no_list
 
 -- WHAT IS SENT, AND PACKETS BY THEMSELVES
 

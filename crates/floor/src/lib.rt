@@ -2,7 +2,7 @@
 // specs/Promises.antt says what each answers and leaves, by the words of crates desk_steps, desk_making and desk_looking; every answer is
 // told as crate signed tells it. include/floor.h is the manual.
 ghost use Rattle.hall.specs.Seats.{settings_of};
-ghost use Rattle.floor.specs.Promises.{VersionPromise, MakePromise, JoinPromise, LeavePromise, StartPromise, StopPromise, PacketPromise, MediaPromise, TimerPromise, CancelPromise, CancelAllPromise, MessagePromise, ReadPromise, WritePromise, SavePromise, LoadPromise, ScreenPromise, PhasePromise, HolderPromise, HolderPriorityPromise, RunningPromise, SequencePromise, C7Promise, C20Promise, SeatsPromise, SeatBySsrcPromise, SeatByIdentityPromise, SeatPromise, SettingsPromise, StartsPromise, StopsPromise};
+ghost use Rattle.floor.specs.Promises.{VersionPromise, MakePromise, JoinPromise, LeavePromise, StartPromise, StopPromise, PacketPromise, MediaPromise, TimerPromise, MessagePromise, ReadPromise, WritePromise, SavePromise, LoadPromise, ScreenPromise, PhasePromise, HolderPromise, HolderPriorityPromise, RunningPromise, SequencePromise, C7Promise, C20Promise, SeatsPromise, SeatBySsrcPromise, SeatByIdentityPromise, SeatPromise, SettingsPromise, StartsPromise, StopsPromise};
 
 use desk_making::WideSettings;
 use events::Event;
@@ -10,7 +10,7 @@ use hall::Flags;
 use report_octets::Told;
 
 // Which face this is. A header and an archive that answer the same number belong together.
-const VERSION: u32 = 5;
+const VERSION: u32 = 4;
 
 #[unsafe(no_mangle)]
 pub extern "C" fn floor_version() -> i32
@@ -65,23 +65,6 @@ pub extern "C" fn floor_timer(desk: &mut [u8], timer: u32, report: &mut [u8]) ->
 {
     let named = timers::timer_named(timer);
     desk_steps::event_on(desk, report, Event::Expiry(named))
-}
-
-// A seat asks to cancel those whom a list of identities names.
-#[unsafe(no_mangle)]
-pub extern "C" fn floor_cancel(desk: &mut [u8], seat: u32, list: &[u8], report: &mut [u8]) -> i32
-    ensures { CancelPromise desk.old seat list.now report.old result desk.new report.new }
-{
-    desk_steps::cancel_on(desk, seat, true, list, report)
-}
-
-// A seat asks to cancel all who wait.
-#[unsafe(no_mangle)]
-pub extern "C" fn floor_cancel_all(desk: &mut [u8], seat: u32, report: &mut [u8]) -> i32
-    ensures { CancelAllPromise desk.old seat report.old result desk.new report.new }
-{
-    let nobody = [0u8; 1];
-    desk_steps::cancel_on(desk, seat, false, &nobody, report)
 }
 
 // A seat leaves.
@@ -151,15 +134,13 @@ pub extern "C" fn floor_join(
     highest: u8,
     queueing: u8,
     receive_only: u8,
-    dispatcher: u8,
 ) -> i32
-    ensures { JoinPromise desk.old identity.now ssrc highest queueing receive_only dispatcher result desk.new }
+    ensures { JoinPromise desk.old identity.now ssrc highest queueing receive_only result desk.new }
 {
     if desk_test::is_desk(desk) {
         let flags = Flags {
             queueing: queueing != 0,
             receive_only: receive_only != 0,
-            dispatcher: dispatcher != 0,
         };
         let who = hall::newcomer_of(ssrc, highest, flags);
         let core = desk_reading::core_at(desk);
@@ -272,7 +253,7 @@ pub extern "C" fn floor_seats(desk: &[u8]) -> i32
     if desk_test::is_desk(desk) {
         let hall = desk_reading::hall_at(desk);
         let present = hall.present;
-        signed::found(hall::mask_of(present) as u32)
+        signed::found(report_octets::mask_of(present) as u32)
     } else {
         signed::refusal(20)
     }

@@ -18,7 +18,7 @@ use Rattle.hall.specs.declared.Hall.{Hall}
 use Rattle.hall.specs.Seats.{is_present}
 use Rattle.identities.specs.declared.Names.{Names}
 use Rattle.outgoing.specs.declared.Outgoing.{Outgoing}
-use Rattle.outgoing.specs.declared.Outgoing.TheVariants.{Packet, Silence, NoPacket}
+use Rattle.outgoing.specs.declared.Outgoing.TheVariants.{Packet, Silence}
 use Rattle.outgoing.specs.Outgoing.{sending, sent}
 use Rattle.saving.specs.Saving.{saving, room_after}
 use Rattle.message_octets.specs.Places.{message_size}
@@ -49,7 +49,6 @@ module _ (room : List ℕ) where
 
   sent_kept : (o : Outgoing) (src : List ℕ) → Unwritten room (answers (sending o src (length room)) (sent o src room))
   sent_kept Silence src z = refl
-  sent_kept NoPacket src z = refl
   sent_kept (Packet m) src z = written_kept m src z
 
   tells_kept : (d : List ℕ) (t : Told) → Unwritten room (tells d room t)

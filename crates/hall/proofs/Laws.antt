@@ -43,12 +43,12 @@ pub not_at : (f : Found) → is_at f ≡ false → f ≡ Nowhere
 not_at (At s) q = clash refl q
 not_at Nowhere q = refl
 
-pub found-holds : (test : ℕ → Bool) (n s t : ℕ) → first_from test n s ≡ At t → (test t ≡ true) × (t < s + n)
-found-holds test zero s t q = let z : ◌≡◌ {A = ℕ} 0 1 = cc in absurd (omega arith)
-found-holds test (suc n) s t q =
+pub found_holds : (test : ℕ → Bool) (n s t : ℕ) → first_from test n s ≡ At t → (test t ≡ true) × (t < s + n)
+found_holds test zero s t q = let z : ◌≡◌ {A = ℕ} 0 1 = cc in absurd (omega arith)
+found_holds test (suc n) s t q =
     by_test (test s)
     (λ e. let m : s ≡ t = at_same (sym (if_yes (test s) (At s) (first_from test n (suc s)) e) ∙ q) in (ap test (sym m) ∙ e, omega arith))
-    (λ e. let r = found-holds test n (suc s) t (sym (if_no (test s) (At s) (first_from test n (suc s)) e) ∙ q) in
+    (λ e. let r = found_holds test n (suc s) t (sym (if_no (test s) (At s) (first_from test n (suc s)) e) ∙ q) in
     (r.0, (let z = r.1 in omega arith)))
 
 pub none_holds : (test : ℕ → Bool) (n s t : ℕ) → first_from test n s ≡ Nowhere → s ≤ t → t < s + n → test t ≡ false

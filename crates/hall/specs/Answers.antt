@@ -1,12 +1,12 @@
--- The numbers that document 01, "The desk", gives the desk's answers, and document 02, #102, the last of them; 0 is done. A packet that was
--- not read is answered by the reader's number. Assumes nothing.
+-- The numbers that document 01, "The desk", gives the desk's answers; 0 is done. A packet that was not read is answered by the reader's
+-- number. Assumes nothing.
 use Rattle.std.specs.Prelude.{ℕ}
 use Rattle.words.specs.Choice.{if◌then◌else◌}
 use Rattle.hall.specs.declared.Settings.{Settings}
 use Rattle.hall.specs.Seats.{in_range}
 use Rattle.hall.specs.declared.Answer.{Answer}
 use Rattle.hall.specs.declared.Answer.TheVariants.{Done, CallStopped, NoSuchSeat, NotExpected, AllSeatsTaken, IdentityLength}
-use Rattle.hall.specs.declared.Answer.TheVariants.{IdentityPresent, SsrcPresent, OutsideRange, UnfitList, NotRead}
+use Rattle.hall.specs.declared.Answer.TheVariants.{IdentityPresent, SsrcPresent, OutsideRange, NotRead}
 
 abbrev pub answer_number : Answer → ℕ
 answer_number Done = 0
@@ -18,7 +18,6 @@ answer_number IdentityLength = 25
 answer_number IdentityPresent = 26
 answer_number SsrcPresent = 27
 answer_number OutsideRange = 28
-answer_number UnfitList = 30
 answer_number (NotRead n) = n
 
 -- 28 for settings that no desk may have

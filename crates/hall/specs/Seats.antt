@@ -1,6 +1,6 @@
 -- The sixteen seats and the settings of document 01, "The desk", without the identities. Assumes nothing.
-use Rattle.std.specs.Prelude.{ℕ, zero, suc, ◌+◌, ◌*◌, Bool, true, false, not, ◌&&◌, List, [], ◌∷◌, leb, eqb, get_or, set, replicate}
-use Rattle.words.specs.Choice.{if◌then◌else◌, one}
+use Rattle.std.specs.Prelude.{ℕ, zero, suc, Bool, true, false, not, ◌&&◌, List, [], ◌∷◌, leb, eqb, get_or, set, replicate}
+use Rattle.words.specs.Choice.{if◌then◌else◌}
 use Rattle.hall.specs.declared.Settings.{Settings}
 use Rattle.hall.specs.declared.Flags.{Flags}
 use Rattle.hall.specs.declared.Hall.{Hall}
@@ -19,7 +19,7 @@ abbrev pub newcomer_of : ℕ → ℕ → Flags → Newcomer
 newcomer_of ssrc highest flags = record { ssrc = ssrc; highest = highest; flags = flags }
 
 abbrev pub no_flags : Flags
-no_flags = record { queueing = false; receive_only = false; dispatcher = false }
+no_flags = record { queueing = false; receive_only = false }
 
 -- zeros throughout; out of range, so that no desk is made with them
 abbrev pub no_settings : Settings
@@ -48,10 +48,6 @@ queues h s = (flags_at h s).queueing
 abbrev pub receives_only : Hall → ℕ → Bool
 receives_only h s = (flags_at h s).receive_only
 
--- "Seats may join as dispatcher" (document 02, #102)
-abbrev pub dispatches : Hall → ℕ → Bool
-dispatches h s = (flags_at h s).dispatcher
-
 -- sets of seats: one alone, all that are present, and all of those but one
 abbrev pub only : ℕ → List Bool
 only s = set (replicate 16 false) s true
@@ -65,11 +61,6 @@ others h s = set h.present s false
 abbrev pub someone : List Bool → Bool
 someone [] = false
 someone (b ∷ bs) = if b then true else someone bs
-
--- a set of seats as a number, seat 0 the lowest bit; of places in a list likewise
-abbrev pub mask_of : List Bool → ℕ
-mask_of [] = 0
-mask_of (b ∷ bs) = one b + 2 * mask_of bs
 
 -- a seat is alone in the call if no other is present
 unfoldable pub alone : Hall → ℕ → Bool

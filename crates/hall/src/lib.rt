@@ -1,8 +1,7 @@
 // The hall of a call: its sixteen seats, its settings, and what a desk answers (document 01, "The desk"). The names of those who sit there
 // stand apart, in the crate identities: no step of a running call reads one.
-ghost use Rattle.std.specs.Prelude.{◌≡◌, true, false, get_or, set, ◌≤◌};
-ghost use Rattle.words.specs.Choice.{one};
-ghost use Rattle.hall.specs.Seats.{settings_of, newcomer_of, no_flags, in_range, empty_hall, is_present, flags_at, queues, receives_only, dispatches, only, others, alone, asked, effective, mask_of, seat_of, free_seat, with_seat, vacated};
+ghost use Rattle.std.specs.Prelude.{◌≡◌, true, false, get_or, set};
+ghost use Rattle.hall.specs.Seats.{settings_of, newcomer_of, no_flags, in_range, empty_hall, is_present, flags_at, queues, receives_only, only, others, alone, asked, effective, seat_of, free_seat, with_seat, vacated};
 ghost use Rattle.hall.specs.Answers.{answer_number, settings_answer};
 
 // What a desk answers; specs/Answers.antt has the paper's number of each.
@@ -17,7 +16,6 @@ pub enum Answer {
     IdentityPresent,
     SsrcPresent,
     OutsideRange,
-    UnfitList,
     // A packet that was not read: the reader's number.
     NotRead(u8),
 }
@@ -49,19 +47,17 @@ pub const NO_SETTINGS: Settings = Settings {
     normal: 0,
 };
 
-// What a seat is flagged as: that it negotiated queueing, that it is receive only, that it is a dispatcher.
+// What a seat is flagged as: that it negotiated queueing, that it is receive only.
 #[derive(Drop)]
 pub struct Flags {
     pub queueing: bool,
     pub receive_only: bool,
-    pub dispatcher: bool,
 }
 
 // A free seat's.
 pub const NO_FLAGS: Flags = Flags {
     queueing: false,
     receive_only: false,
-    dispatcher: false,
 };
 
 // The seats, a column for each thing known of them; a free seat has zeros.
@@ -249,7 +245,6 @@ pub fn number_of(answer: Answer) -> u8
         Answer::IdentityPresent => 26,
         Answer::SsrcPresent => 27,
         Answer::OutsideRange => 28,
-        Answer::UnfitList => 30,
         Answer::NotRead(n) => n,
     }
 }
@@ -298,13 +293,6 @@ pub fn receives_only(hall: Hall, seat: u8) -> bool
 {
     let flags = flags_at(hall, seat);
     flags.receive_only
-}
-
-pub fn is_dispatcher(hall: Hall, seat: u8) -> bool
-    ensures { result ≡ dispatches hall seat }
-{
-    let flags = flags_at(hall, seat);
-    flags.dispatcher
 }
 
 // What a request asks for: the priority that its field says, 0 too, or the normal level where it has no field.
@@ -357,28 +345,6 @@ pub fn is_alone(hall: Hall, seat: u8) -> bool
         s += 1;
     }
     true
-}
-
-fn one_of(b: bool) -> u8
-    ensures value { result ≡ one b }
-    ensures upper_bound { result ≤ 1 }
-{
-    if b { 1 } else { 0 }
-}
-
-// A set of seats as a number, seat 0 the lowest bit. Each of its two octets is gathered by itself, side by side.
-pub fn mask_of(set: [bool; 16]) -> u16
-    ensures { result ≡ mask_of set }
-{
-    let mut low = 0u8;
-    let mut high = 0u8;
-    let mut i = 8;
-    while 0 < i {
-        i -= 1;
-        low = low * 2 + one_of(set[i]);
-        high = high * 2 + one_of(set[8 + i]);
-    }
-    (high as u16) * 256 + (low as u16)
 }
 
 // Seats looked for: by SSRC, and a free one; the lowest counts.

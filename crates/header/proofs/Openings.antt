@@ -140,8 +140,8 @@ opened_by s k e =
     }
 
 -- answers that say the same in the paper's numbers are one answer
-pub told-one : (a b : Opening) → opening_answer a ≡ opening_answer b → a ≡ b
-told-one (Of j) (Of k) e = ap Of (cc)
-told-one (Of j) (Refused r) e = cc
-told-one (Refused r) (Of k) e = cc
-told-one (Refused r) (Refused q) e = ap Refused (refusal-one r q e)
+pub told_one : (a b : Opening) → opening_answer a ≡ opening_answer b → a ≡ b
+told_one (Of j) (Of k) e = ap Of (cc)
+told_one (Of j) (Refused r) e = cc
+told_one (Refused r) (Of k) e = cc
+told_one (Refused r) (Refused q) e = ap Refused (refusal-one r q e)

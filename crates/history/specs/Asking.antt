@@ -1,6 +1,6 @@
 -- What happens, as an event, and what it is to a seat (document 01, "The desk"): who asks for the floor and at which priority, who gives it
--- or its place up, when the call stops, and whom a dispatcher cancels (document 02, #102). Assumes nothing.
-use Rattle.std.specs.Prelude.{ℕ, Bool, true, false, ◌&&◌, eqb}
+-- or its place up, and when the call stops. Assumes nothing.
+use Rattle.std.specs.Prelude.{ℕ, Bool, true, false, eqb}
 use Rattle.message.specs.Answers.{Answer, refused, result}
 use Rattle.message.specs.declared.Message.{Message}
 use Rattle.reading.specs.Reading.{reading}
@@ -9,16 +9,14 @@ use Rattle.hall.specs.declared.Hall.{Hall}
 use Rattle.hall.specs.declared.Asked.{Asked}
 use Rattle.hall.specs.declared.Found.{Found}
 use Rattle.hall.specs.declared.Found.TheVariants.{At, Nowhere}
-use Rattle.hall.specs.Seats.{dispatches, effective, seat_of, finds}
+use Rattle.hall.specs.Seats.{effective, seat_of, finds}
 use Rattle.events.specs.declared.Event.{Event}
 use Rattle.events.specs.declared.Event.TheVariants.{Start, Stop, Expiry, Request, Release, Position, Media, Other}
 use Rattle.timers.specs.declared.Timer.{Timer}
 use Rattle.timers.specs.declared.Timer.TheVariants as timer
-use Rattle.events.specs.declared.Desk.{Desk}
-use Rattle.cancelling.specs.Cancel.{is_wanted}
-use Rattle.history.specs.Doing.{Doing, event, packet, leaves, joins, cancels}
+use Rattle.history.specs.Doing.{Doing, event, packet, leaves, joins}
 
--- "Only a packet that was read becomes an event"; a leave, a join and a cancel are none of these
+-- "Only a packet that was read becomes an event"; a leave and a join are none of these
 pub data Becoming : Type 0 where
   no_event : Becoming
   an_event : Event → Becoming
@@ -32,7 +30,6 @@ becomes (event e) = an_event e
 becomes (packet octets) = read_as (reading octets)
 becomes (leaves s) = no_event
 becomes (joins o n) = no_event
-becomes (cancels t w) = no_event
 
 -- A request names its seat by SSRC; its priority is the lower of the one asked and the seat's highest.
 pub data Asking : Type 0 where
@@ -80,7 +77,6 @@ gives_up h (event e) s = released_by h e s
 gives_up h (packet octets) s = released_in h (read_as (reading octets)) s
 gives_up h (leaves t) s = eqb t s
 gives_up h (joins o n) s = false
-gives_up h (cancels t w) s = false
 
 -- the call stops: Stop, and T4, which is as Stop
 abbrev pub is_t4 : Timer → Bool
@@ -109,11 +105,3 @@ stops_in (an_event e) = stops_by e
 
 abbrev pub stops_call : Doing → Bool
 stops_call x = stops_in (becomes x)
-
--- a dispatcher cancels the seat: with no list, or with a list that names it
-abbrev pub cancels_seat : Desk → Doing → ℕ → Bool
-cancels_seat d (cancels t w) s = dispatches d.hall t && is_wanted d.names w s
-cancels_seat d (event e) s = false
-cancels_seat d (packet octets) s = false
-cancels_seat d (leaves t) s = false
-cancels_seat d (joins o n) s = false

@@ -13,15 +13,13 @@ use Rattle.events.specs.declared.Desk.{Desk}
 use Rattle.events.specs.declared.Outcome.{Outcome}
 use Rattle.events.specs.Events.{whole_desk, outcome, fresh, step, leave}
 use Rattle.packet_events.specs.PacketEvents.{hears}
-use Rattle.cancelling.specs.Cancel.{Wanted, cancel}
 
--- what happens to a desk: an event, the octets of a packet, a seat's leave, a join, with its identity, or a seat's cancel, with whom it is for
+-- what happens to a desk: an event, the octets of a packet, a seat's leave, or a join, with its identity
 pub data Doing : Type 0 where
   event : Event → Doing
   packet : List ℕ → Doing
   leaves : ℕ → Doing
   joins : List ℕ → Newcomer → Doing
-  cancels : ℕ → Wanted → Doing
 
 -- a desk that was just made
 abbrev pub made : Settings → Desk
@@ -37,7 +35,6 @@ does d (event e) = outcome (step d.core d.hall e) d.hall d.names
 does d (packet octets) = outcome (hears d.core d.hall octets) d.hall d.names
 does d (leaves s) = leave d s
 does d (joins o n) = joined d.core (join d.hall d.names o n)
-does d (cancels s w) = outcome (cancel d.core d.hall d.names s w) d.hall d.names
 
 abbrev pub after : Desk → Doing → Desk
 after d x = (does d x).desk

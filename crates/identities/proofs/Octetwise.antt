@@ -1,14 +1,23 @@
--- Two identities compared octet by octet, as `are_same` does: its proof alone rests on this. Assumes nothing.
+-- Two identities compared octet by octet, as `is_same` does: its proof alone rests on this. Assumes nothing.
 use Prim.Native.Nat.{ℕ, suc, ◌+◌, ◌≤◌, ◌<◌}
 use mathlib.Core.Path.{◌≡◌, refl, ap}
 use mathlib.Core.Bool.{true, false}
 use mathlib.Core.List.{List, [], ◌∷◌}
 use native.Mathlib.Numerals.{add-one}
+use native.Mathlib.Omega.{arith}
 use lib.Dec.{eqb}
-use lib.ListN.{length, drop, get_or, drop_of_length-le}
-use lib.Seq.{drop-cons}
+use lib.ListN.{length, drop, get_or, drop_of_length-le, length-take}
+use lib.Seq.{drop-cons, get_or-take}
 use Rattle.words.specs.Choice.{if_yes, if_no, by_test}
-use Rattle.identities.specs.Identity.{same}
+use Rattle.identities.specs.declared.Name.{Name}
+use Rattle.identities.specs.Identity.{octets_of, same}
+
+-- an octet of an identity stands in its array
+pub octet_is : (n : Name) (i : ℕ) → i < length (octets_of n) → get_or (octets_of n) i 0 ≡ get_or n.octets i 0
+unfolding octets_of
+octet_is n i h =
+    let k : i < n.len = omega (arith, simp length-take at h) in
+    get_or-take n.len n.octets i 0 k
 
 pub same_lengths : (a b : List ℕ) → (length a ≡ length b → ⊥) → same a b ≡ false
 unfolding same

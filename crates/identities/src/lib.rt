@@ -79,31 +79,22 @@ pub fn name_of(identity: &[u8]) -> Name
     }
 }
 
-// Whether two identities are the same, octet for octet.
-pub fn are_same(one: &[u8], other: &[u8]) -> bool
-    ensures { result ≡ same one.now other.now }
+// Whether a name is this identity, octet for octet.
+fn is_same(name: Name, identity: &[u8]) -> bool
+    ensures { result ≡ same (octets_of name) identity.now }
 {
-    let n = other.len();
-    if one.len() != n {
+    let n = identity.len();
+    if name_length(name) != n {
         return false;
     }
     let mut i = 0;
     while i < n {
-        if one[i] != other[i] {
+        if name.octets[i] != identity[i] {
             return false;
         }
         i += 1;
     }
     true
-}
-
-// Whether a name is this identity.
-pub fn is_same(name: Name, identity: &[u8]) -> bool
-    ensures { result ≡ same (octets_of name) identity.now }
-{
-    let n = name_length(name);
-    let octets = name.octets;
-    are_same(&octets[..n], identity)
 }
 
 // As in hall::seat_of, and of each seat only its own name is copied.

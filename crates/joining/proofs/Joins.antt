@@ -16,7 +16,7 @@ use Rattle.hall.specs.Seats.{is_at, is_present, free_seat}
 use Rattle.identities.specs.Identity.{seat_named, length_allowed}
 use Rattle.joining.specs.Join.{ssrc_taken, seated, join}
 use Rattle.joining.specs.Joins.{Passes, Joins, turned_away, sits_down, EveryJoin}
-use Rattle.hall.proofs.Laws.{found-holds}
+use Rattle.hall.proofs.Laws.{found_holds}
 
 module _ (h : Hall) (ns : Names) (o : List ℕ) (n : Newcomer) where
   -- a newcomer that passes every test is seated
@@ -28,7 +28,7 @@ module _ (h : Hall) (ns : Names) (o : List ℕ) (n : Newcomer) where
   unfolding seated free_seat
   takes p Nowhere q = turned_away AllSeatsTaken (λ z. let y : ◌≡◌ {A = ℕ} 0 1 = cc in omega arith) refl
   takes p (At s) q =
-      let f = found-holds (λ (t : ℕ). not (is_present h t)) 16 0 s q in
+      let f = found_holds (λ (t : ℕ). not (is_present h t)) 16 0 s q in
       sits_down s p q (not-true (is_present h s) f.0) (let z = f.1 in omega arith) refl
 
   joins : Joins h ns o n (join h ns o n)

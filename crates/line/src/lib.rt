@@ -187,7 +187,7 @@ pub fn struck(line: Line, seats: [bool; 16]) -> Line
 }
 
 // One more seat in the set.
-pub fn add(seats: &mut [bool], seat: u8)
+fn add(seats: &mut [bool], seat: u8)
     ensures { seats.new ≡ set seats.old seat true }
 {
     let s = seat as usize;

@@ -13,7 +13,7 @@ use Rattle.identities.specs.Identity.{no_names}
 use Rattle.joining.specs.Join.{join}
 use Rattle.steps.specs.declared.Core.{Core}
 use Rattle.events.specs.Events.{fresh}
-use Rattle.seat_octets.specs.Layout.{flags_of, sheet_flags_top, settings_in, zeros_fit}
+use Rattle.seat_octets.specs.Layout.{flags_of, flags_top, settings_in, zeros_fit}
 use Rattle.sheet.specs.Layout.{Seat, seat_head, highest_within, ssrc_within, length_within}
 use Rattle.sheet.specs.Framing.{settings_place, seat_count, verdict_number, framing}
 use Rattle.loading.specs.declared.Loading.{Loading}
@@ -52,7 +52,7 @@ read_seat s at = record { who = who_is s at; identity = part s (at + seat_head) 
 
 -- 45, the layout: a seat has no flag but the two, and ends before the settings
 unfoldable pub laid_out : List ℕ → ℕ → Bool
-laid_out s at = leb (after_seat s at) (settings_place s) && leb (get_or s at 0) sheet_flags_top
+laid_out s at = leb (after_seat s at) (settings_place s) && leb (get_or s at 0) flags_top
 
 -- so many seats from a place on, or a fault; the last ends at the settings
 pub data Seats : Type 0 where

@@ -85,7 +85,7 @@ fn laid_out(s: &[u8], at: usize) -> bool
     if end - at - sheet::SEAT_HEAD < s[at + sheet::LENGTH_WITHIN] as usize {
         return false;
     }
-    s[at] <= seat_octets::SHEET_FLAGS_TOP
+    s[at] <= seat_octets::FLAGS_TOP
 }
 
 // Reads the seat that begins at `at` and has it join.

@@ -75,7 +75,8 @@ module _ (d : Desk) (x : Doing) (new : Core) (m : Marks) (f : Fit d.core d.hall)
   line_counts (shifts t p b a w n k h q) =
       rw (q, k, get_d_fill false 16 s, in_enter s (entry_of t p) (without (only t) line), in_without s (only t) line, only_at t s b)
       (stays (eqb t s) (is_in s line) (also t true w))
-  line_counts (strikes seats a g w k h q) = rw (q, k, in_without s seats line) (goes (get_or seats s false) (is_in s line) (w s))
+  line_counts (strikes t b a g w k h q) =
+      rw (q, k, in_without s (only t) line, only_at t s b) (goes (eqb t s) (is_in s line) (also t true w))
   line_counts (passes t e es a k b w n h q) =
       rw (q, n, w, in_without s (only e.seat) (e ∷ es), only_at e.seat s b, get_d_fill false 16 s, in_cons s e es)
       (heads (eqb e.seat s) (is_in s es))
@@ -88,7 +89,7 @@ module _ (d : Desk) (x : Doing) (new : Core) (m : Marks) (f : Fit d.core d.hall)
   floor_counts (gives t p a i k h q) = rw (q, h s, idle_none d.core.phase s i) (omega arith)
   floor_counts (places t p a w r k h q) = rw (q, h s)
   floor_counts (shifts t p b a w n k h q) = rw (q, h s)
-  floor_counts (strikes seats a g w k h q) = rw (q, h s)
+  floor_counts (strikes t b a g w k h q) = rw (q, h s)
   floor_counts (passes t e es a k b w n h q) = rw (q, h s, holds-one d.core.phase t s k) (omega arith)
   floor_counts (frees t a k w n h q) = rw (q, h s, holds-one d.core.phase t s k) (omega arith)
   floor_counts (halts t y k n h q) = rw (q, h, holds-one d.core.phase t s k) (omega arith)

@@ -5,9 +5,8 @@ use mathlib.Core.Bool.{true, false}
 use mathlib.Core.List.{List, [], ◌∷◌}
 use native.Mathlib.Omega.{arith}
 use lib.Dec.{eqb}
-use lib.ListN.{length, get_or}
-use borrow.Author.Tests.{eqb-true, leb-false}
-use Rattle.words.proofs.Tests.{or_left, or_right}
+use lib.ListN.{length}
+use borrow.Author.Tests.{leb-false}
 use Rattle.line.specs.declared.Entry.{Entry}
 use Rattle.line.specs.declared.Line.{Line}
 use Rattle.line.specs.Line.{waiting, line_of, is_in, enter, without, seat_set, no_seats, priority_of, entry_of}
@@ -26,16 +25,15 @@ use Rattle.request.specs.Request.{is_idle, waits, full, priority_in}
 use Rattle.events.specs.declared.Event.{Event}
 use Rattle.events.specs.declared.Outcome.{Outcome}
 use Rattle.events.specs.declared.Desk.{Desk}
-use Rattle.cancelling.specs.Cancel.{wanted_in}
 use Rattle.history.specs.Doing.{Doing}
 use Rattle.history.specs.Asking.{an_event, becomes, nobody, asks, asked_by, asked_in, asking, gives_up, stops_call}
 use Rattle.ways.specs.Ways.{marks, Unmoved, same_priority, holder}
 use Rattle.ways.specs.Ways as way
-use Rattle.ways.proofs.Apart.{is_cancel, cancel-asks, this_one, not-asked}
+use Rattle.ways.proofs.Apart.{this_one, not-asked}
 use Rattle.ways.proofs.Laws.{six_line, six_holds}
 use Rattle.ways.proofs.Phases.{idle_none}
 use Rattle.marks.specs.Marks.{Fit}
-use Rattle.marks.proofs.InLine.{first_in, one_less, only_at, wanted_in_lem, set_in}
+use Rattle.marks.proofs.InLine.{first_in, one_less}
 
 -- `new` is the core that the step leaves, and `m` its marks
 pub data Did (d : Desk) (x : Doing) (new : Core) (m : Marks) : Type 0 where
@@ -51,11 +49,9 @@ pub data Did (d : Desk) (x : Doing) (new : Core) (m : Marks) : Type 0 where
       waiting new.line ≡ enter (entry_of t p) (without (only t) (waiting d.core.line)) →
       ((s : ℕ) → holds new.phase s ≡ holds d.core.phase s) →
       m ≡ no_marks → Did d x new m
-  strikes : (seats : List Bool) → asking d.hall x ≡ nobody →
-      ((s : ℕ) → get_or seats s false ≡ true → (gives_up d.hall x s || is_cancel x) ≡ true) →
-      ((s : ℕ) → get_or seats s false ≡ true → is_in s (waiting d.core.line) ≡ true) →
-      waiting new.line ≡ without seats (waiting d.core.line) → ((s : ℕ) → holds new.phase s ≡ holds d.core.phase s) →
-      m ≡ marks NoSeat seats NoSeat NotGiven → Did d x new m
+  strikes : (t : ℕ) → t < 16 → asking d.hall x ≡ nobody → gives_up d.hall x t ≡ true → is_in t (waiting d.core.line) ≡ true →
+      waiting new.line ≡ without (only t) (waiting d.core.line) → ((s : ℕ) → holds new.phase s ≡ holds d.core.phase s) →
+      m ≡ marks NoSeat (only t) NoSeat NotGiven → Did d x new m
   passes : (t : ℕ) (e : Entry) (es : List Entry) → asking d.hall x ≡ nobody → holds d.core.phase t ≡ true → e.seat < 16 →
       waiting d.core.line ≡ e ∷ es → waiting new.line ≡ without (only e.seat) (e ∷ es) →
       ((s : ℕ) → holds new.phase s ≡ eqb e.seat s) →
@@ -132,10 +128,8 @@ module _ (d : Desk) (x : Doing) (l : Outcome) (f : Fit d.core d.hall) where
       (short (core_line q) refl (omega (arith, without_le (only e.seat) (e ∷ es)))) (core_holds q) (report_marks m.1)
   did (way.frees t a u k w q m) = frees t a k w (ap waiting (core_line q) ∙ w) (core_holds q) (report_marks m.1)
   did (way.strikes t a g n w q m) =
-      let i : (s : ℕ) → get_or (only t) s false ≡ true → t ≡ s = λ s z. eqb-true t s (sym (only_at t s (f.seats t w)) ∙ z) in
-      strikes (only t) a (λ s z. or_left _ _ (ap (gives_up d.hall x) (sym (i s z)) ∙ g))
-      (λ s z. ap (λ (y : ℕ). is_in y line) (sym (i s z)) ∙ w)
-      (short (core_line q) refl (omega (arith, without_le (only t) line, f.room))) (core_holds q) (report_marks m.1)
+      strikes t (f.seats t w) a g w (short (core_line q) refl (omega (arith, without_le (only t) line, f.room))) (core_holds q)
+      (report_marks m.1)
   did (way.tells s t y k q m) = same (by_name _ y refl) (core_line q) (core_holds q) (report_marks m.1)
   did (way.talks s e b y k q m) =
       same (by_name _ y refl) (core_line q) (λ u. core_holds q u ∙ sym (ap (λ (p : Phase). holds p u) k)) (report_marks m.1)
@@ -151,10 +145,3 @@ module _ (d : Desk) (x : Doing) (l : Outcome) (f : Fit d.core d.hall) where
   did (way.idles_again y i z q m) = same (by_name _ y refl) (core_line q) (core_holds q) (report_marks m.1)
   did (way.idles_on y i q m) =
       same (by_name _ y refl) (core_line q) (λ u. core_holds q u ∙ sym (idle_none d.core.phase u i)) (report_marks m.1)
-  did (way.fails t r w y s b q m) =
-      same (unasked (cancel-asks d.hall y)) (core_line (desk_core q)) (core_holds (desk_core q)) (report_marks m.1)
-  did (way.clears t w y s a b q m) =
-      let seats = seat_set (wanted_in d.names w line) in
-      strikes seats (cancel-asks d.hall y) (λ s _. or_right (gives_up d.hall x s) (is_cancel x) (ap is_cancel y))
-      (λ s z. wanted_in_lem d.names w s line (set_in s (wanted_in d.names w line) z))
-      (short (core_line q) refl (omega (arith, without_le seats line, f.room))) (core_holds q) (report_marks m.1)

@@ -8,15 +8,12 @@ use lib.Dec.{eqb, leb-suc-suc}
 use lib.ListN.{length, take, drop, get_or, set, replicate, length-set, length-replicate, take-append-drop}
 use lib.Seq.{get_or-set_same, get_or-set_other}
 use borrow.Author.Tests.{eqb-true, eqb-false, eq-eqb, lt-ltb}
-use Rattle.words.specs.Choice.{if◌then◌else◌, if_yes, if_no, by_test}
-use Rattle.words.proofs.Tests.{clash, or_else}
+use Rattle.words.specs.Choice.{if◌then◌else◌, by_test}
 use Rattle.words.specs.Table.{get_d_fill}
 use Rattle.line.specs.declared.Entry.{Entry}
-use Rattle.line.specs.Line.{before, leading, is_other, is_in, enter, ahead, without, added, seat_set, no_seats}
+use Rattle.line.specs.Line.{before, leading, is_other, is_in, enter, ahead, without, added}
 use Rattle.line.proofs.Laws.{without_le}
 use Rattle.hall.specs.Seats.{only}
-use Rattle.identities.specs.declared.Names.{Names}
-use Rattle.cancelling.specs.Cancel.{Wanted, is_wanted, wanted_in}
 
 pub in_nil : (s : ℕ) → is_in s [] ≡ false
 unfolding before
@@ -130,35 +127,3 @@ in_added s seats (e ∷ es) h f =
     ∙ sym (or-true (get_or seats s false))))
     (λ q. rw (in_cons s e es, q)
     (ap (λ (b : Bool). b || is_in s es) (get_or-set_other seats e.seat s true false (λ y. eqb-false e.seat s q (sym y)))))
-
--- who is in the set of those in a line stands in that line
-added_in : (s : ℕ) (seats : List Bool) (es : List Entry) → get_or seats s false ≡ false → get_or (added seats es) s false ≡ true → is_in s es ≡ true
-added_in s seats [] n q = clash q n
-added_in s seats (e ∷ es) n q =
-    by_test (eqb e.seat s) (λ z. in_cons s e es ∙ rw z)
-    (λ z. behind_in s e es
-    (added_in s (set seats e.seat true) es (get_or-set_other seats e.seat s true false (λ y. eqb-false e.seat s z (sym y)) ∙ n) q))
-
-pub set_in : (s : ℕ) (es : List Entry) → get_or (seat_set es) s false ≡ true → is_in s es ≡ true
-unfolding seat_set
-set_in s es q = added_in s no_seats es (get_d_fill false 16 s) q
-
--- of those in line, the ones whom a cancel is for
-module _ (ns : Names) (w : Wanted) (s : ℕ) where
-  pub wanted_in_lem : (es : List Entry) → is_in s (wanted_in ns w es) ≡ true → is_in s es ≡ true
-  wanted_in_lem [] q = q
-  wanted_in_lem (e ∷ es) q =
-      by_test (is_wanted ns w e.seat)
-      (λ z. let y : (eqb e.seat s || is_in s (wanted_in ns w es)) ≡ true =
-      sym (in_cons s e (wanted_in ns w es)) ∙ sym (ap (is_in s) (if_yes _ _ _ z)) ∙ q in
-      by_test (eqb e.seat s) (λ i. in_cons s e es ∙ rw i) (λ i. behind_in s e es (wanted_in_lem es (or_else _ _ i y))))
-      (λ z. behind_in s e es (wanted_in_lem es (sym (ap (is_in s) (if_no _ _ _ z)) ∙ q)))
-
-  pub wanted_is : (es : List Entry) → is_in s (wanted_in ns w es) ≡ true → is_wanted ns w s ≡ true
-  wanted_is [] q = clash q (in_nil s)
-  wanted_is (e ∷ es) q =
-      by_test (is_wanted ns w e.seat)
-      (λ z. let y : (eqb e.seat s || is_in s (wanted_in ns w es)) ≡ true =
-      sym (in_cons s e (wanted_in ns w es)) ∙ sym (ap (is_in s) (if_yes _ _ _ z)) ∙ q in
-      by_test (eqb e.seat s) (λ i. ap (is_wanted ns w) (sym (eqb-true e.seat s i)) ∙ z) (λ i. wanted_is es (or_else _ _ i y)))
-      (λ z. wanted_is es (sym (ap (is_in s) (if_no _ _ _ z)) ∙ q))

@@ -17,7 +17,7 @@ use Rattle.events.specs.declared.Desk.{Desk}
 use Rattle.events.specs.declared.Outcome.{Outcome}
 use Rattle.events.specs.Events.{outcome, caller_of, heard, step}
 use Rattle.packet_events.specs.PacketEvents.{event_of, by_reading}
-use Rattle.history.specs.Doing.{Doing, event, packet, leaves, joins, cancels, does, after, steps_of}
+use Rattle.history.specs.Doing.{Doing, event, packet, leaves, joins, does, after, steps_of}
 
 -- THE DESK OF DOCUMENT 01
 -- "The effective priority is the lower of the one asked and the seat's highest. No Floor Priority field counts as 0."
@@ -43,13 +43,12 @@ abbrev pub by_reading01 : Core → Hall → Answer Message → Step
 by_reading01 c h (refused n) = by_reading c h (refused n)
 by_reading01 c h (result m) = step01 c h (event_of m)
 
--- anything that happens to it, and any run of that; document 01 knew no cancel, and a cancel asks for no priority
+-- anything that happens to it, and any run of that
 abbrev pub does01 : Desk → Doing → Outcome
 does01 d (event e) = outcome (step01 d.core d.hall e) d.hall d.names
 does01 d (packet octets) = outcome (by_reading01 d.core d.hall (reading octets)) d.hall d.names
 does01 d (leaves s) = does d (leaves s)
 does01 d (joins o n) = does d (joins o n)
-does01 d (cancels s w) = does d (cancels s w)
 
 abbrev pub steps_of01 : Desk → List Doing → List Outcome
 steps_of01 d [] = []

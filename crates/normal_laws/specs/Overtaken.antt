@@ -18,7 +18,7 @@ use Rattle.history.specs.Doing.{Doing, event, joins, made, does, after_all}
 
 -- Three handsets, a, b and c, SSRCs 10, 11 and 12. The second may ask for 255, the third for 40 at most.
 abbrev comes : ℕ → ℕ → ℕ → Doing
-comes letter x highest = joins (letter ∷ []) (newcomer_of x highest (record { queueing = true; receive_only = false; dispatcher = false }))
+comes letter x highest = joins (letter ∷ []) (newcomer_of x highest (record { queueing = true; receive_only = false }))
 
 abbrev asks_for : ℕ → Asked → Doing
 asks_for s a = event (Request (10 + s) a)

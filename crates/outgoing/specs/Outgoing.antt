@@ -1,7 +1,7 @@
 -- An outgoing message as a packet (document 01, "The desk": "As a packet it carries the desk's SSRC, the fields named below, no phrase and
 -- no Ack bit"). Assumes nothing.
 use Rattle.std.specs.Prelude.{ℕ, false, List, length}
-use Rattle.message.specs.Answers.{Answer, refused, result}
+use Rattle.message.specs.Answers.{Answer, result}
 use Rattle.message.specs.declared.MessageType.{MessageType}
 use Rattle.message.specs.declared.MessageType.TheVariants as type
 use Rattle.message.specs.declared.Octet.{Octet}
@@ -17,7 +17,7 @@ use Rattle.hall.specs.declared.Settings.{Settings}
 use Rattle.steps.specs.declared.Kind.{Kind}
 use Rattle.steps.specs.declared.Kind.TheVariants as say
 use Rattle.outgoing.specs.declared.Outgoing.{Outgoing}
-use Rattle.outgoing.specs.declared.Outgoing.TheVariants.{Packet, Silence, NoPacket}
+use Rattle.outgoing.specs.declared.Outgoing.TheVariants.{Packet, Silence}
 
 -- a message with no field but those that are named
 abbrev pub carrying : MessageType → ℕ → Octet → Word → Cause → Queue → Part → Word → Word → Message
@@ -58,19 +58,14 @@ outgoing s (say.Revoke why) n =
 outgoing s (say.Info place priority) n =
     Packet (carrying type.QueuePositionInfo s.ssrc Octet.Absent Word.Absent Cause.Absent (Queue.Is place priority) Part.Absent
     Word.Absent Word.Absent)
--- "These messages go only to the bench programs until their packet form is agreed" (document 02, #102)
-outgoing s (say.Result number places) n = NoPacket
-outgoing s say.Cancelled n = NoPacket
 
--- what sending answers, and what it leaves in the room: nothing is written for silence, nor for what has no packet, which is answered 12
+-- what sending answers, and what it leaves in the room: nothing is written for silence
 abbrev pub sending : Outgoing → List ℕ → ℕ → Answer ℕ
 sending Silence identity room = result 0
-sending NoPacket identity room = refused 12
 sending (Packet m) identity room = writing m identity room
 
 abbrev pub sent : Outgoing → List ℕ → List ℕ → List ℕ
 sent Silence identity room = room
-sent NoPacket identity room = room
 sent (Packet m) identity room = written m identity room
 
 abbrev pub Sends : Settings → Kind → List ℕ → List ℕ → Writing → List ℕ → Type 0

@@ -9,16 +9,15 @@ ghost use Rattle.message.specs.declared.Part.{Part};
 ghost use Rattle.outgoing.specs.Outgoing.{carrying, outgoing, Sends};
 
 use hall::Settings;
-use message::{Cause, Message, Number, Octet, Part, Queue, Refusal, Word};
+use message::{Cause, Message, Number, Octet, Part, Queue, Word};
 use steps::Kind;
 use writing::Writing;
 
-// A message to be sent, that there is none, or that it has no packet.
+// A message to be sent, or that there is none.
 #[derive(Drop)]
 pub enum Outgoing {
     Packet(Message),
     Silence,
-    NoPacket,
 }
 
 // What a message of the desk carries beside its type and the desk's SSRC.
@@ -153,8 +152,6 @@ fn to_send(settings: Settings, kind: Kind, count: usize) -> Outgoing
         Kind::Idle(sequence) => Outgoing::Packet(idle(ssrc, sequence)),
         Kind::Revoke(why) => Outgoing::Packet(caused(message::MessageType::Revoke, ssrc, why)),
         Kind::Info(place, priority) => Outgoing::Packet(info(ssrc, place, priority)),
-        Kind::Result(_, _) => Outgoing::NoPacket,
-        Kind::Cancelled => Outgoing::NoPacket,
     }
 }
 
@@ -164,7 +161,6 @@ pub fn send(settings: Settings, kind: Kind, identity: &[u8], room: &mut [u8]) ->
 {
     match to_send(settings, kind, identity.len()) {
         Outgoing::Silence => Writing::Written(0),
-        Outgoing::NoPacket => Writing::Refused(Refusal::Unreadable),
         Outgoing::Packet(m) => writing::write(m, identity, room),
     }
 }

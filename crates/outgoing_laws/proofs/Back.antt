@@ -27,13 +27,12 @@ use Rattle.hall.specs.declared.Settings.{Settings}
 use Rattle.steps.specs.declared.Kind.{Kind}
 use Rattle.steps.specs.declared.Kind.TheVariants as say
 use Rattle.outgoing.specs.declared.Outgoing.{Outgoing}
-use Rattle.outgoing.specs.declared.Outgoing.TheVariants.{Packet, Silence, NoPacket}
+use Rattle.outgoing.specs.declared.Outgoing.TheVariants.{Packet, Silence}
 use Rattle.outgoing.specs.Outgoing.{carrying, outgoing}
 use Rattle.outgoing_laws.specs.ReadsBack.{OutgoingReadsBack}
 
 abbrev Accepted : List ℕ → Outgoing → Type 0
 Accepted identity Silence = Unit {0}
-Accepted identity NoPacket = Unit {0}
 Accepted identity (Packet m) = readable m identity ≡ true
 
 -- the identity of Taken is the whole source, and of a length that the table has
@@ -66,8 +65,6 @@ accepts s (say.Deny why) identity h k = (caused s.ssrc why identity).0
 accepts s (say.Idle n) identity h k = refl
 accepts s (say.Revoke why) identity h k = (caused s.ssrc why identity).1
 accepts s (say.Info place priority) identity h k = refl
-accepts s (say.Result n places) identity h k = tt
-accepts s say.Cancelled identity h k = tt
 
 pub outgoing_reads_back : OutgoingReadsBack
 outgoing_reads_back s k identity m h l e =

@@ -155,17 +155,17 @@ module _ (m : Message) (src : List ℕ) (e : readable m src ≡ true) where
   unfolding fields_in among wire header headed first_octet said octets16 octets32 all_listed listed_in if◌then◌else◌ ascends
   walked = walk s (fields_of m src) [] 0 (length s) header_size refl refl fit (λ i h. refl) refl (omega arith)
 
-  same-told : (start : ℕ → ℕ) → ((i : ℕ) → Stands s i (first_of (fields_of m src) i) (start i))
+  same_told : (start : ℕ → ℕ) → ((i : ℕ) → Stands s i (first_of (fields_of m src) i) (start i))
       → said (message_at m.kind s start) s ≡ said m src
   unfolding said message_at wire header headed first_octet
-  same-told start h =
+  same_told start h =
       λ j. record { kind = m.kind; ack = first.ack j; ssrc = ssrc_told j; fields = fields_back m src s m.kind start h j }
 
   back : ReadsAs s (said m src)
   back =
       let found : List FieldFound = walked.found in
       let m' : Message = message_at m.kind s (start_of found) in
-      let q : said m' s ≡ said m src = same-told (start_of found) walked.stands in
+      let q : said m' s ≡ said m src = same_told (start_of found) walked.stands in
       record {
         message = m';
         read =

@@ -12,8 +12,8 @@ use Rattle.field.specs.Fields.{Fields, whole, fault, fields_in}
 use Rattle.walk.specs.Walk.{Noted, WholeAnswer, fault_number}
 use Rattle.message.specs.Answers.{Answer, result}
 use Rattle.message.proofs.Answers.{number_one, never, refusal-one}
-use Rattle.writing.proofs.Ways.{told-one}
-use Rattle.header.proofs.Openings.{told-one as opening-one}
+use Rattle.writing.proofs.Ways.{told_one}
+use Rattle.header.proofs.Openings.{told_one as opening-one}
 use Rattle.walk.specs.declared.Walk.{Walk}
 use Rattle.walk.specs.declared.Walk.TheVariants.{Whole, PastTheEnd, AgainstTheTable, Repeated}
 use Rattle.reading.specs.declared.Reading.{Reading}
@@ -35,7 +35,7 @@ pub readers_coincide : ReadersCoincide
 readers_coincide s q q' p p' = read_told q q' (p ∙ sym p')
 
 pub writers_coincide : WritersCoincide
-writers_coincide tells leaves r r' room room' p p' = record { answers = told-one r r' (p.0 ∙ sym p'.0); rooms = p.1 ∙ sym p'.1 }
+writers_coincide tells leaves r r' room room' p p' = record { answers = told_one r r' (p.0 ∙ sym p'.0); rooms = p.1 ∙ sym p'.1 }
 
 pub lays_coincide : LaysCoincide
 lays_coincide before octets after after' at end end' l l' = (l.ends ∙ sym l'.ends, l.stands ∙ sym l'.stands)

@@ -25,7 +25,7 @@ use Rattle.packet_laws.specs.Again.{ReadsAs, IsRead, WriteThenRead, RefusedLeave
 use Rattle.header.proofs.Openings.{passed}
 use Rattle.packet_laws.proofs.Back.{read_back}
 use Rattle.packet_laws.proofs.Again.{read_is_written}
-use Rattle.writing.proofs.Ways.{told-one}
+use Rattle.writing.proofs.Ways.{told_one}
 use Rattle.packet_laws.proofs.Coincide.{read_told}
 
 -- a reader's answer where a message reads so
@@ -83,5 +83,5 @@ read_then_write s room room' q m r p e h wp =
     let a = read_is_written s m (sym p ∙ ap reading_answer e) in
     let n : ℕ = length (wire (said m s)) in
     let l : n ≤ length room = omega (arith, a.no_longer) in
-    let wr : r ≡ Written n = told-one r (Written n) (wp.0 ∙ writes m s (length room) a.accepted l) in
+    let wr : r ≡ Written n = told_one r (Written n) (wp.0 ∙ writes m s (length room) a.accepted l) in
     record { count = n; wrote = wr; read_again = λ q' z. write_then_read m s room room' r n q' wp wr z }

@@ -34,7 +34,7 @@ use Rattle.events.specs.Events.{fresh, leave}
 use Rattle.marks.specs.Marks.{Fit}
 use Rattle.marks.proofs.Counts.{every_step_counts}
 use Rattle.events.specs.declared.Desk.{Desk}
-use Rattle.history.specs.Doing.{Doing, event, packet, leaves, joins, cancels, does, after, after_all, just_made, and_joined}
+use Rattle.history.specs.Doing.{Doing, event, packet, leaves, joins, does, after, after_all, just_made, and_joined}
 use Rattle.ways.specs.Ways.{Way}
 use Rattle.ways.proofs.Walk.{every_way}
 use Rattle.reach.specs.Sound.{CoreOk, SeatsOk, Sound}
@@ -205,11 +205,6 @@ sound_kept d (packet o) k =
     record {
       seats = k.seats;
       core = keeps d (packet o) (does d (packet o)) (hall_ok d.hall d.names k.seats) k.core (every_way d (packet o));
-    }
-sound_kept d (cancels t w) k =
-    record {
-      seats = k.seats;
-      core = keeps d (cancels t w) (does d (cancels t w)) (hall_ok d.hall d.names k.seats) k.core (every_way d (cancels t w));
     }
 sound_kept d (leaves t) k =
     let o = hall_ok d.hall d.names k.seats in

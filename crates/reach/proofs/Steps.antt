@@ -10,7 +10,7 @@ use borrow.Author.Tests.{eqb-true, leb-false}
 use Rattle.words.specs.Choice.{by_test}
 use Rattle.words.proofs.Tests.{clash, neither_left}
 use Rattle.line.specs.declared.Entry.{Entry}
-use Rattle.line.specs.Line.{waiting, line_of, is_in, enter, without, seat_set, entry_of}
+use Rattle.line.specs.Line.{waiting, line_of, is_in, enter, without, entry_of}
 use Rattle.line.proofs.Laws.{waiting-line_of, without_le}
 use Rattle.hall.specs.declared.Hall.{Hall}
 use Rattle.hall.specs.Seats.{only, is_present}
@@ -26,12 +26,11 @@ use Rattle.giving.specs.Floor.{holds}
 use Rattle.request.specs.Request.{waits, full}
 use Rattle.events.specs.declared.Outcome.{Outcome}
 use Rattle.events.specs.declared.Desk.{Desk}
-use Rattle.cancelling.specs.Cancel.{wanted_in}
 use Rattle.history.specs.Doing.{Doing, leaves}
 use Rattle.marks.proofs.InLine.{none_in, in_cons, first_in, in_enter, in_without, gone_out, one_less}
 use Rattle.ways.specs.Ways.{is_busy, Six, informs, presses, informs_and_presses}
 use Rattle.ways.specs.Ways as way
-use Rattle.ways.proofs.Apart.{no_event_lem, not-leave, asks-nobody}
+use Rattle.ways.proofs.Apart.{no_event_lem, asks-nobody}
 use Rattle.ways.proofs.Phases.{idle_quiet}
 use Rattle.reach.specs.Sound.{ListOk, FloorOk, HallOk, CoreOk, cause_ok}
 use Rattle.reach.proofs.InLine.{none_ok, without_ok, enter_ok, line_ok, present_below}
@@ -140,12 +139,6 @@ module _ (d : Desk) (x : Doing) (l : Outcome) (k : HallOk d.hall) (o : CoreOk d.
   head_here : (e : Entry) (es : List Entry) → line ≡ e ∷ es → is_present h e.seat ≡ true
   head_here e es w = o.line.list.here e.seat (ap (is_in e.seat) w ∙ first_in e es)
 
-  -- some are struck off
-  fewer : (seats : List Bool) → CoreOk h (c with_line line_of (without seats line))
-  fewer seats =
-      relined h k c o (without seats line) (without_ok h seats line o.line.list) (λ s i. still_out s seats line (o.floor.out s i))
-      (λ b. ap (without seats) (o.floor.still b) ∙ without_nil seats)
-
   pub keeps : way.Way d x l → CoreOk h l.desk.core
   unfolding waits full
   keeps (way.refuses a n u v q m) = rw (ap (λ (y : Desk). y.core) q) o
@@ -184,7 +177,9 @@ module _ (d : Desk) (x : Doing) (l : Outcome) (k : HallOk d.hall) (o : CoreOk d.
         numbers = record { sequence = next_below c.sequence; c7 = o.numbers.c7; c20 = k.c20 };
       })
   keeps (way.frees t a f n w q m) = rw q (quiet h k c o w)
-  keeps (way.strikes t a g n w q m) = rw q (fewer (only t))
+  keeps (way.strikes t a g n w q m) =
+      rw q (relined h k c o (without (only t) line) (without_ok h (only t) line o.line.list)
+      (λ s i. still_out s (only t) line (o.floor.out s i)) (λ b. ap (without (only t)) (o.floor.still b) ∙ without_nil (only t)))
   keeps (way.tells s t y i q m) = rw q o
   keeps (way.talks s e b y w q m) = rw q (turned h k c o e (Taken e T2) (λ s. ap (λ (p : Phase). holds p s) w) (λ s. refl) refl refl)
   keeps (way.rests a f q m) = rw q o
@@ -211,8 +206,6 @@ module _ (d : Desk) (x : Doing) (l : Outcome) (k : HallOk d.hall) (o : CoreOk d.
         floor = empty_floor h k (Idle false) line refl (o.floor.still (idle_quiet c.phase i));
         numbers = record { sequence = o.numbers.sequence; c7 = o.numbers.c7; c20 = o.numbers.c20 };
       })
-  keeps (way.fails t r w y s b q m) = rw (ap (λ (y : Desk). y.core) q) o
-  keeps (way.clears t w y s a b q m) = rw q (fewer (seat_set (wanted_in d.names w line)))
 
 -- who leaves
 module _ (d : Desk) (t : ℕ) (l : Outcome) (k : HallOk d.hall) (o : CoreOk d.hall d.core) (p : is_present d.hall t ≡ true) where
@@ -261,5 +254,3 @@ module _ (d : Desk) (t : ℕ) (l : Outcome) (k : HallOk d.hall) (o : CoreOk d.ha
   leaver_gone (way.grants_again e b y w z q m) = no_event_lem y
   leaver_gone (way.idles_again y i z q m) = no_event_lem y
   leaver_gone (way.idles_on y i q m) = no_event_lem y
-  leaver_gone (way.fails s r w y i b q m) = not-leave refl (sym y)
-  leaver_gone (way.clears s w y i a b q m) = not-leave refl (sym y)

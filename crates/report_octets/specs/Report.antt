@@ -2,9 +2,8 @@
 -- to, and four marks"), and the messages that the code reads out of them. What the octets say as a whole: crate report_octets_laws. Assumes
 -- nothing.
 use Rattle.std.specs.Prelude.{ℕ, ◌+◌, ◌*◌, ◌%◌, Bool, not, ◌&&◌, List, [], ◌∷◌, ◌++◌, eqb, length, get_or}
-use Rattle.words.specs.Choice.{if◌then◌else◌}
+use Rattle.words.specs.Choice.{if◌then◌else◌, one}
 use Rattle.octets.specs.Octets.{be16, octets16}
-use Rattle.hall.specs.Seats.{mask_of}
 use Rattle.steps.specs.declared.Kind.{Kind}
 use Rattle.steps.specs.declared.Kind.TheVariants as say
 use Rattle.steps.specs.declared.Sending.{Sending}
@@ -18,6 +17,11 @@ use Rattle.report_octets.specs.Places.{report_size, first_place, second_place, s
 use Rattle.report_octets.specs.declared.Particulars.{Particulars}
 use Rattle.report_octets.specs.declared.Told.{Told}
 use Rattle.report_octets.specs.declared.Told.TheVariants.{Says, NoMessage}
+
+-- a set of seats as a number, seat 0 the lowest bit
+abbrev pub mask_of : List Bool → ℕ
+mask_of [] = 0
+mask_of (b ∷ bs) = one b + 2 * mask_of bs
 
 abbrev pub seat_octet : Mark → ℕ
 seat_octet NoSeat = 255
@@ -33,16 +37,7 @@ how_octet NotGiven = 0
 how_octet (AtOnce s) = 1
 how_octet (OutOfLine s) = 2
 
--- The number of a kind is its packet's type; the result of a cancel and its notification have no packet (document 02, #102), and numbers that
--- are no packet's type, with the Ack bit or without.
-abbrev pub result_kind : ℕ
-result_kind = 32
-
-abbrev pub cancelled_kind : ℕ
-cancelled_kind = 33
-
--- what a message has: its kind, a seat, a number, a priority; of a result the places not found are its number, and what it is stands where a
--- priority does
+-- what a message has: its kind, a seat, a number, a priority
 abbrev pub with : ℕ → ℕ → ℕ → ℕ → Particulars
 with k s n p = record { kind = k; seat = s; number = n; priority = p }
 
@@ -54,8 +49,6 @@ particulars (say.Deny n) = with 3 0 n 0
 particulars (say.Idle n) = with 5 0 n 0
 particulars (say.Revoke n) = with 6 0 n 0
 particulars (say.Info k p) = with 9 0 k p
-particulars (say.Result n places) = with result_kind 0 places n
-particulars say.Cancelled = with cancelled_kind 0 0 0
 
 abbrev pub octets_with : Particulars → ℕ → List ℕ
 octets_with q mask = (q.kind ∷ q.seat ∷ octets16 q.number) ++ (q.priority ∷ 0 ∷ octets16 mask)
@@ -82,7 +75,6 @@ kind_of q =
     if eqb q.kind 1 then say.Granted q.priority else if eqb q.kind 2 then say.Taken q.seat q.number
     else if eqb q.kind 3 then say.Deny q.number else if eqb q.kind 5 then say.Idle q.number
     else if eqb q.kind 6 then say.Revoke q.number else if eqb q.kind 9 then say.Info (q.number % 256) q.priority
-    else if eqb q.kind result_kind then say.Result q.priority q.number else if eqb q.kind cancelled_kind then say.Cancelled
     else say.Nothing
 
 unfoldable pub alike : Particulars → Particulars → Bool

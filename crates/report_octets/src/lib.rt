@@ -1,9 +1,9 @@
 // A report as octets (docs/FORMS.md).
 ghost use Rattle.std.specs.Prelude.{◌≡◌, ◌+◌, ◌<◌, ◌≤◌, length};
 ghost use Rattle.octets.specs.Octets.{over};
-ghost use Rattle.hall.specs.Seats.{mask_of};
+ghost use Rattle.words.specs.Choice.{one};
 ghost use Rattle.report_octets.specs.Places.{report_size, first_place, sent_size};
-ghost use Rattle.report_octets.specs.Report.{seat_octet, given_octet, how_octet, with, particulars, octets_of_message, marks_octets, octets_of_report, particulars_at, kind_of, alike, said_by, said_at, told_in};
+ghost use Rattle.report_octets.specs.Report.{mask_of, seat_octet, given_octet, how_octet, with, particulars, octets_of_message, marks_octets, octets_of_report, particulars_at, kind_of, alike, said_by, said_at, told_in};
 
 use steps::{Given, Kind, Mark, Marks, Report, Sending};
 
@@ -32,13 +32,7 @@ const ZERO_WITHIN: usize = 5;
 
 const MASK_WITHIN: usize = 6;
 
-// The numbers of the two kinds that have no packet, and so no packet's type.
-const RESULT_KIND: u8 = 32;
-
-const CANCELLED_KIND: u8 = 33;
-
-// What a message has beside its receivers: its kind's number, a seat, a number, a priority; zeros for what it has not. The result of a cancel
-// stands where others have their priority, the places not found where others have their number.
+// What a message has beside its receivers: its kind's number, a seat, a number, a priority; zeros for what it has not.
 #[derive(Drop)]
 pub struct Particulars {
     pub kind: u8,
@@ -52,6 +46,28 @@ pub struct Particulars {
 pub enum Told {
     Says(Kind),
     NoMessage,
+}
+
+fn one_of(b: bool) -> u8
+    ensures value { result ≡ one b }
+    ensures upper_bound { result ≤ 1 }
+{
+    if b { 1 } else { 0 }
+}
+
+// A set of seats as a number, seat 0 the lowest bit. Each of its two octets is gathered by itself, side by side.
+pub fn mask_of(set: [bool; 16]) -> u16
+    ensures { result ≡ mask_of set }
+{
+    let mut low = 0u8;
+    let mut high = 0u8;
+    let mut i = 8;
+    while 0 < i {
+        i -= 1;
+        low = low * 2 + one_of(set[i]);
+        high = high * 2 + one_of(set[8 + i]);
+    }
+    (high as u16) * 256 + (low as u16)
 }
 
 fn seat_octet(mark: Mark) -> u8
@@ -105,8 +121,6 @@ pub fn particulars_of(kind: Kind) -> Particulars
         Kind::Idle(n) => having(5, 0, n, 0),
         Kind::Revoke(n) => having(6, 0, n, 0),
         Kind::Info(k, p) => having(9, 0, k as u16, p),
-        Kind::Result(n, places) => having(RESULT_KIND, 0, places, n),
-        Kind::Cancelled => having(CANCELLED_KIND, 0, 0, 0),
     }
 }
 
@@ -149,9 +163,9 @@ pub fn put_report(room: &mut [u8], report: Report)
     let struck = marks.struck;
     let to = first.to;
     let also_to = second.to;
-    let strikes = hall::mask_of(struck);
-    let tells = hall::mask_of(to);
-    let also_tells = hall::mask_of(also_to);
+    let strikes = mask_of(struck);
+    let tells = mask_of(to);
+    let also_tells = mask_of(also_to);
     put_marks(room, marks, strikes);
     put_message(room, FIRST_PLACE, first, tells);
     put_message(room, SECOND_PLACE, second, also_tells);
@@ -178,8 +192,6 @@ fn kind_of(q: Particulars) -> Kind
         5 => Kind::Idle(q.number),
         6 => Kind::Revoke(q.number),
         9 => Kind::Info((q.number % 256) as u8, q.priority),
-        32 => Kind::Result(q.priority, q.number),
-        33 => Kind::Cancelled,
         _ => Kind::Nothing,
     }
 }

@@ -24,15 +24,14 @@ use Rattle.report_octets.specs.Places.{report_size, struck_place, struck_zero, p
 use Rattle.report_octets.specs.Places.{first_place, second_place, seat_within, number_within, priority_within, zero_within, mask_within}
 use Rattle.report_octets.specs.declared.Particulars.{Particulars}
 use Rattle.report_octets.specs.declared.Told.TheVariants.{Says}
-use Rattle.report_octets.specs.Report.{seat_octet, given_octet, how_octet, with, particulars, octets_of_message, marks_octets, octets_of_report}
+use Rattle.report_octets.specs.Report.{mask_of, seat_octet, given_octet, how_octet, with, particulars, octets_of_message, marks_octets, octets_of_report}
 use Rattle.report_octets.specs.Report.{particulars_at, kind_of, alike, said_by, told_in}
 use Rattle.report_octets_laws.specs.Reported.{seats_in, set_of, mark_of, given_of, marks_in, sending_at, report_in, is_mark, is_how, are_marks}
 use Rattle.report_octets_laws.specs.Reported.{is_message, is_message_at, is_report, MarkFits, GivenFits, KindFits, MessageFits, MarksFit}
 use Rattle.report_octets_laws.specs.Reported.{ReportFits, SaysTheReport, ReportWrittenBack, HasOctets, SaysAReport, SameMessages}
 use Rattle.steps.specs.declared.Report.{Report}
 use Rattle.octets.proofs.Numbers.{back16}
-use Rattle.hall.specs.Seats.{mask_of}
-use Rattle.hall.proofs.Masks.{mask_fits}
+use Rattle.report_octets.proofs.Masks.{mask_fits}
 
 same : (n : ℕ) → eqb n n ≡ true
 same n = eq-eqb n n refl
@@ -90,8 +89,6 @@ kind_back (say.Deny n) h = refl
 kind_back (say.Idle n) h = refl
 kind_back (say.Revoke n) h = refl
 kind_back (say.Info k p) h = let l : k < 256 = h.0 in rw (mod-eq_of_lt l)
-kind_back (say.Result n places) h = refl
-kind_back say.Cancelled h = refl
 
 mark_back : (m : Mark) → MarkFits m → mark_of (seat_octet m) ≡ m
 unfolding mark_of if◌then◌else◌
@@ -292,8 +289,6 @@ particulars_fit (say.Deny n) h = record { kind = omega arith; seat = omega arith
 particulars_fit (say.Idle n) h = record { kind = omega arith; seat = omega arith; number = h; priority = omega arith }
 particulars_fit (say.Revoke n) h = record { kind = omega arith; seat = omega arith; number = h; priority = omega arith }
 particulars_fit (say.Info k p) h = record { kind = omega arith; seat = omega arith; number = omega (arith, h.0); priority = h.1 }
-particulars_fit (say.Result n places) h = record { kind = omega arith; seat = omega arith; number = h.1; priority = h.0 }
-particulars_fit say.Cancelled h = record { kind = omega arith; seat = omega arith; number = omega arith; priority = omega arith }
 
 message_octets_lem : (m : Sending) (xs : List ℕ) → MessageFits m → Every xs → Every (octets_of_message m ++ xs)
 unfolding octets_of_message octets16
@@ -322,24 +317,24 @@ marks-octets m xs k o =
     (seat_small m.placed k.placed, (seat_small m.ended k.ended, (g.0, (g.1, (omega arith, o))))) in
     (high_small t (mask_small m.struck k.struck), (low_small t, (omega arith, seats)))
 
-mark-told : (m : Mark) → MarkFits m → is_mark (seat_octet m) ≡ true
+mark_told : (m : Mark) → MarkFits m → is_mark (seat_octet m) ≡ true
 unfolding is_mark
-mark-told NoSeat h = refl
-mark-told (Seat s) h = rw (lt-ltb s 16 h)
+mark_told NoSeat h = refl
+mark_told (Seat s) h = rw (lt-ltb s 16 h)
 
-given-told : (g : Given) → GivenFits g → is_how (given_octet g) (how_octet g) ≡ true
+given_told : (g : Given) → GivenFits g → is_how (given_octet g) (how_octet g) ≡ true
 unfolding is_how if◌then◌else◌
-given-told NotGiven h = refl
-given-told (AtOnce s) h = rw (lt-ltb s 16 h)
-given-told (OutOfLine s) h = rw (lt-ltb s 16 h)
+given_told NotGiven h = refl
+given_told (AtOnce s) h = rw (lt-ltb s 16 h)
+given_told (OutOfLine s) h = rw (lt-ltb s 16 h)
 
-marks-told : (p : Report) → ReportFits p → are_marks (octets_of_report p) ≡ true
+marks_told : (p : Report) → ReportFits p → are_marks (octets_of_report p) ≡ true
 unfolding are_marks octets_of_report octets_of_message marks_octets octets16
-marks-told p k =
+marks_told p k =
     rw (
-      mark-told p.marks.placed k.marks.placed,
-      mark-told p.marks.ended k.marks.ended,
-      given-told p.marks.given k.marks.given,
+      mark_told p.marks.placed k.marks.placed,
+      mark_told p.marks.ended k.marks.ended,
+      given_told p.marks.given k.marks.given,
     )
 
 alike_self : (q : Particulars) → alike q q ≡ true
@@ -367,7 +362,7 @@ unfolding is_report
 report_told p k =
     four (eqb (length (octets_of_report p)) report_size) (are_marks (octets_of_report p)) (is_message_at (octets_of_report p) first_place)
     (is_message_at (octets_of_report p) second_place)
-    (eq-eqb (length (octets_of_report p)) report_size (twenty_four p)) (marks-told p k) (first_told p k) (second_told p k)
+    (eq-eqb (length (octets_of_report p)) report_size (twenty_four p)) (marks_told p k) (first_told p k) (second_told p k)
 
 all_octets : (p : Report) → ReportFits p → Every (octets_of_report p)
 unfolding octets_of_report

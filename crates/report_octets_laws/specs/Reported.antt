@@ -91,8 +91,6 @@ KindFits (say.Deny n) = n < 65536
 KindFits (say.Idle n) = n < 65536
 KindFits (say.Revoke n) = n < 65536
 KindFits (say.Info k p) = (k < 256) × (p < 256)
-KindFits (say.Result n places) = (n < 256) × (places < 65536)
-KindFits say.Cancelled = Unit {0}
 
 pub record MessageFits (m : Sending) : Type 0 where
   pub kind : KindFits m.kind

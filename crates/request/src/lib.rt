@@ -9,7 +9,7 @@ use hall::{Answer, Hall};
 use line::Line;
 use steps::{Core, Given, Kind, Mark, Phase, Sending, Step};
 
-pub fn is_idle(phase: Phase) -> bool
+fn is_idle(phase: Phase) -> bool
     ensures { result ≡ is_idle phase }
 {
     match phase {

@@ -1,10 +1,9 @@
--- Saving (document 01, "The sheet", and 13; document 02, #101 and #102, 48): its answer, and the room once it has answered. No phase is asked.
+-- Saving (document 01, "The sheet", and 13; document 02, #101, 48): its answer, and the room once it has answered. No phase is asked.
 -- Assumes nothing.
-use Rattle.std.specs.Prelude.{ℕ, ◌≡◌, Bool, not, ◌&&◌, ◌||◌, List, ltb, eqb, length, take}
+use Rattle.std.specs.Prelude.{ℕ, ◌≡◌, Bool, not, List, ltb, eqb, length, take}
 use Rattle.words.specs.Choice.{if◌then◌else◌}
 use Rattle.octets.specs.Octets.{over}
 use Rattle.hall.specs.declared.Hall.{Hall}
-use Rattle.hall.specs.Seats.{lowest, is_at, is_present, dispatches}
 use Rattle.identities.specs.declared.Names.{Names}
 use Rattle.sheet.specs.Layout.{sheet_of}
 use Rattle.saving.specs.declared.Saving.{Saving}
@@ -21,12 +20,9 @@ saved n = record { number = 0; written = n }
 abbrev pub not_saved : ℕ → Save
 not_saved n = record { number = n; written = 0 }
 
--- 48: "on saving at another level, before 13, until a sheet can hold it"; "also on saving with a dispatcher", which is present now
-abbrev pub has_dispatcher : Hall → Bool
-has_dispatcher h = is_at (lowest (λ s. is_present h s && dispatches h s))
-
+-- 48: "on saving at another level, before 13, until a sheet can hold it"
 abbrev pub cannot_hold : Hall → Bool
-cannot_hold h = not (eqb h.settings.normal 0) || has_dispatcher h
+cannot_hold h = not (eqb h.settings.normal 0)
 
 -- 13: the lent room is shorter than the whole sheet
 abbrev pub too_short : Hall → Names → List ℕ → Bool

@@ -1,8 +1,8 @@
-// Saves the seats and settings of a desk as a sheet (document 01, "The sheet", and 13; document 02, #101 and #102, 48).
+// Saves the seats and settings of a desk as a sheet (document 01, "The sheet", and 13; document 02, #101, 48).
 ghost use Rattle.std.specs.Prelude.{◌≡◌, ◌≤◌, length};
 ghost use Rattle.octets.specs.Octets.{over};
 ghost use Rattle.sheet.specs.Layout.{seats_octets, seats_of, longest_sheet};
-ghost use Rattle.saving.specs.Saving.{has_dispatcher, cannot_hold, room_after, Saves, saving_answer};
+ghost use Rattle.saving.specs.Saving.{room_after, Saves, saving_answer};
 ghost use Rattle.saving.specs.Walk.{count_at, Measured};
 
 use hall::Hall;
@@ -12,7 +12,7 @@ use identities::Names;
 #[derive(Drop)]
 pub enum Saving {
     Saved(usize),
-    // The normal level is not 0, or a dispatcher is present, and a sheet has no place for it.
+    // The normal level is not 0, and a sheet has no place for it.
     CannotHold,
     NoRoom,
 }
@@ -22,31 +22,6 @@ pub enum Saving {
 pub struct Extent {
     pub octets: usize,
     pub count: u8,
-}
-
-// Whether a dispatcher is present.
-fn has_dispatcher(hall: Hall) -> bool
-    ensures { result ≡ has_dispatcher hall }
-{
-    let mut seat: u8 = 0;
-    while seat < 16 {
-        if hall::is_present(hall, seat) & hall::is_dispatcher(hall, seat) {
-            return true;
-        }
-        seat += 1;
-    }
-    false
-}
-
-// Whether a sheet has no place for what this desk has.
-fn cannot_hold(hall: Hall) -> bool
-    ensures { result ≡ cannot_hold hall }
-{
-    let settings = hall.settings;
-    if settings.normal != 0 {
-        return true;
-    }
-    has_dispatcher(hall)
 }
 
 // How far the sheet's seats reach, seat by seat.
@@ -90,10 +65,10 @@ pub fn save(hall: Hall, names: Names, room: &mut [u8]) -> Saving
     ensures room_after { room.new ≡ room_after hall names room.old }
     ensures result_bound { (saving_answer result).written ≤ longest_sheet }
 {
-    if cannot_hold(hall) {
+    let settings = hall.settings;
+    if settings.normal != 0 {
         return Saving::CannotHold;
     }
-    let settings = hall.settings;
     let extent = extent_of(hall, names);
     let at = extent.octets;
     if room.len() < at + sheet::TAIL_SIZE {

@@ -54,11 +54,11 @@ unfolding list_answer if◌then◌else◌
 answered_none es places h = rw (lt-leb (length es) places h)
 
 -- the answer in the paper's numbers determines the answer, so any two answers that a promise here allows coincide
-pub told-one : (a b : Shown) → shown_answer a ≡ shown_answer b → a ≡ b
-told-one (All m) (All n) e = ap All cc
-told-one (All m) NoRoom e = cc
-told-one NoRoom (All n) e = cc
-told-one NoRoom NoRoom e = refl
+pub told_one : (a b : Shown) → shown_answer a ≡ shown_answer b → a ≡ b
+told_one (All m) (All n) e = ap All cc
+told_one (All m) NoRoom e = cc
+told_one NoRoom (All n) e = cc
+told_one NoRoom NoRoom e = refl
 
 pub shown_in_line : (es : List Entry) (places : ℕ) → shown_in es places ≤ length es
 shown_in_line es places =
@@ -95,9 +95,9 @@ past_empties (suc n) zero k = refl
 past_empties (suc n) (suc m) k = past_empties n m k
 
 -- at each place of the list stands who waits there, and the empty entry past them
-pub listed-at : (es : List Entry) (i : ℕ) → get_or (listing es) i empty ≡ get_or es i empty
+pub listed_at : (es : List Entry) (i : ℕ) → get_or (listing es) i empty ≡ get_or es i empty
 unfolding listing
-listed-at es i =
+listed_at es i =
     by_test (ltb i (length es)) (λ t. get_or-append es _ empty i (ltb-true i (length es) t))
     (λ t. let h : length es ≤ i = ltb-false i (length es) t in
     let e : i ≡ length es + (i - length es) = omega (arith, h) in

@@ -1,10 +1,10 @@
 -- What a seat's flags and the settings as octets keep: each reads back as it was, and each octet that was read is written again. Proved in
 -- proofs/. Assumes nothing.
-use Rattle.std.specs.Prelude.{ℕ, ◌+◌, ◌≤◌, true, false, ◌&&◌, List, ◌++◌, ◌≡◌, eqb, length}
+use Rattle.std.specs.Prelude.{ℕ, ◌+◌, ◌≤◌, true, ◌&&◌, List, ◌++◌, ◌≡◌, eqb, length}
 use Rattle.octets.specs.Octets.{Octets, part}
 use Rattle.hall.specs.declared.Flags.{Flags}
 use Rattle.hall.specs.declared.Settings.{Settings}
-use Rattle.seat_octets.specs.Layout.{flags_octet, flags_of, flags_top, sheet_flags_top, settings_size, settings_octets, settings_in, unused_zero, zeros_fit}
+use Rattle.seat_octets.specs.Layout.{flags_octet, flags_of, flags_top, settings_size, settings_octets, settings_in, unused_zero, zeros_fit}
 use Rattle.seat_octets.specs.Layout.{SettingsFit}
 
 -- flags; an octet up to the top is one that says flags, and no other is
@@ -16,13 +16,6 @@ FlagsFew = (f : Flags) → flags_octet f ≤ flags_top
 
 abbrev pub FlagsForth : Type 0
 FlagsForth = (n : ℕ) → n ≤ flags_top → flags_octet (flags_of n) ≡ n
-
--- those of a sheet: without the dispatcher's flag an octet is at most a sheet's greatest, and no other is
-abbrev pub SheetFlagsFew : Type 0
-SheetFlagsFew = (f : Flags) → f.dispatcher ≡ false → flags_octet f ≤ sheet_flags_top
-
-abbrev pub SheetFlagsForth : Type 0
-SheetFlagsForth = (n : ℕ) → n ≤ sheet_flags_top → (flags_of n).dispatcher ≡ false
 
 -- settings, with any octets before and behind them
 abbrev pub SettingsLong : Type 0

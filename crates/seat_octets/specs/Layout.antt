@@ -1,8 +1,7 @@
 -- A seat's flags and the settings of a desk as octets, the same on a sheet (document 01, "The sheet") and among a desk's octets
 -- (docs/FORMS.md). All numbers are big-endian; places count from where the settings begin.
 --
---     flags     bit 0 queueing, bit 1 receive only, others zero; in a desk's octets bit 2 dispatcher (document 02, #102), which a sheet has
---               not, since it is of form 1
+--     flags     bit 0 queueing, bit 1 receive only, others zero
 --     settings  0..3    SSRC of the desk
 --               4       pre-emptive level
 --               5       line limit
@@ -21,17 +20,14 @@ use Rattle.hall.specs.declared.Settings.{Settings}
 use Rattle.hall.specs.Seats.{settings_of}
 
 unfoldable pub flags_octet : Flags → ℕ
-flags_octet f = (if f.queueing then 1 else 0) + (if f.receive_only then 2 else 0) + (if f.dispatcher then 4 else 0)
+flags_octet f = (if f.queueing then 1 else 0) + (if f.receive_only then 2 else 0)
 
 unfoldable pub flags_of : ℕ → Flags
-flags_of n = record { queueing = eqb (n % 2) 1; receive_only = eqb (n / 2 % 2) 1; dispatcher = eqb (n / 4 % 2) 1 }
+flags_of n = record { queueing = eqb (n % 2) 1; receive_only = eqb (n / 2 % 2) 1 }
 
--- the greatest octet that says flags: all of them set; and on a sheet, all but the dispatcher's
+-- the greatest octet that says flags: all of them set
 abbrev pub flags_top : ℕ
-flags_top = 7
-
-abbrev pub sheet_flags_top : ℕ
-sheet_flags_top = 3
+flags_top = 3
 
 -- how many octets the settings have, and where things stand among them, behind the SSRC
 abbrev pub settings_size : ℕ

@@ -7,10 +7,8 @@ ghost use Rattle.seat_octets.specs.Layout.{flags_octet, flags_of, settings_size,
 
 use hall::{Flags, Settings};
 
-// The greatest octet that says flags, and the greatest that says those of a sheet.
-pub const FLAGS_TOP: u8 = 7;
-
-pub const SHEET_FLAGS_TOP: u8 = 3;
+// The greatest octet that says flags.
+pub const FLAGS_TOP: u8 = 3;
 
 // How many octets the settings have, and where things stand among them, behind the SSRC.
 pub const SETTINGS_SIZE: usize = 12;
@@ -39,7 +37,7 @@ fn bit(flag: bool, value: u8) -> u8
 pub fn flags_octet(flags: Flags) -> u8
     ensures { result ≡ flags_octet flags }
 {
-    bit(flags.queueing, 1) + bit(flags.receive_only, 2) + bit(flags.dispatcher, 4)
+    bit(flags.queueing, 1) + bit(flags.receive_only, 2)
 }
 
 pub fn flags_of(octet: u8) -> Flags
@@ -48,7 +46,6 @@ pub fn flags_of(octet: u8) -> Flags
     Flags {
         queueing: octet % 2 == 1,
         receive_only: octet / 2 % 2 == 1,
-        dispatcher: octet / 4 % 2 == 1,
     }
 }
 

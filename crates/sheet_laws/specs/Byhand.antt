@@ -22,10 +22,10 @@ by_hand =
     ∷ 0x00 ∷ 0x11 ∷ 0x00 ∷ 0x00 ∷ 0x02 ∷ 0x01 ∷ 0x46 ∷ 0x53 ∷ []
 
 abbrev queues : Flags
-queues = record { queueing = true; receive_only = false; dispatcher = false }
+queues = record { queueing = true; receive_only = false }
 
 abbrev listens : Flags
-listens = record { queueing = false; receive_only = true; dispatcher = false }
+listens = record { queueing = false; receive_only = true }
 
 abbrev pub two : List Seat
 two =

@@ -55,8 +55,6 @@ is_nothing (say.Deny n) = false
 is_nothing (say.Idle n) = false
 is_nothing (say.Revoke n) = false
 is_nothing (say.Info k p) = false
-is_nothing (say.Result n k) = false
-is_nothing say.Cancelled = false
 
 -- a report with these messages, in which nobody is struck off and nobody's floor ends; one with no message and no mark
 abbrev pub report_of : Sending → Sending → Mark → Given → Report

@@ -34,8 +34,7 @@ pub struct Core {
 }
 
 // An outgoing message: Granted has its priority, Taken who was given the floor and the sequence number, Deny and Revoke their cause, Idle
-// the sequence number, Info (Queue Position Info) the place and the priority. Result (of a cancel) has its number and the set of places in the
-// asker's list that were not found, as a number; Cancelled tells whom it goes to that they wait no more. These two have no packet.
+// the sequence number, Info (Queue Position Info) the place and the priority.
 #[derive(Drop)]
 pub enum Kind {
     Nothing,
@@ -45,8 +44,6 @@ pub enum Kind {
     Idle(u16),
     Revoke(u16),
     Info(u8, u8),
-    Result(u8, u16),
-    Cancelled,
 }
 
 #[derive(Drop)]
@@ -158,8 +155,6 @@ fn is_nothing(kind: Kind) -> bool
         Kind::Idle(_) => false,
         Kind::Revoke(_) => false,
         Kind::Info(_, _) => false,
-        Kind::Result(_, _) => false,
-        Kind::Cancelled => false,
     }
 }
 

@@ -7,9 +7,8 @@ use Rattle.words.proofs.Tests.{clash}
 use Rattle.hall.specs.declared.Hall.{Hall}
 use Rattle.steps.specs.declared.Core.{Core}
 use Rattle.events.specs.declared.Event.{Event}
-use Rattle.cancelling.specs.Cancel.{Wanted}
-use Rattle.history.specs.Doing.{Doing, event, packet, leaves, joins, cancels}
-use Rattle.history.specs.Asking.{Becoming, no_event, an_event, becomes, Asking, nobody, asks, asking, released_by, released_in, gives_up}
+use Rattle.history.specs.Doing.{Doing, event, packet, leaves, joins}
+use Rattle.history.specs.Asking.{Becoming, no_event, an_event, becomes, Asking, nobody, asks, released_by, released_in, gives_up}
 use Rattle.ways.specs.Ways.{Unmoved}
 
 pub no_event_lem : {e : Event} {A : Type 0} → no_event ≡ an_event e → A
@@ -23,7 +22,6 @@ is_leave (event e) = false
 is_leave (packet o) = false
 is_leave (leaves s) = true
 is_leave (joins o n) = false
-is_leave (cancels t w) = false
 
 pub not-leave : {x : Doing} {u : ℕ} {A : Type 0} → is_leave x ≡ false → x ≡ leaves u → A
 not-leave n q = clash (ap is_leave q) n
@@ -34,18 +32,6 @@ gives_up h (event f) e s is = ap (λ (b : Becoming). released_in h b s) is
 gives_up h (packet o) e s is = ap (λ (b : Becoming). released_in h b s) is
 gives_up h (leaves t) e s is = no_event_lem is
 gives_up h (joins o n) e s is = no_event_lem is
-gives_up h (cancels t w) e s is = no_event_lem is
-
-abbrev pub is_cancel : Doing → Bool
-is_cancel (event e) = false
-is_cancel (packet o) = false
-is_cancel (leaves s) = false
-is_cancel (joins o n) = false
-is_cancel (cancels t w) = true
-
--- a cancel asks for nothing
-pub cancel-asks : (h : Hall) {x : Doing} {t : ℕ} {w : Wanted} → x ≡ cancels t w → asking h x ≡ nobody
-cancel-asks h q = ap (asking h) q
 
 pub asks-nobody : {t p : ℕ} {A : Type 0} → nobody ≡ asks t p → A
 asks-nobody q = let z : ◌≡◌ {A = ℕ} 0 1 = cc in absurd (omega arith)

@@ -72,8 +72,6 @@ module _ (d : Desk) (x : Doing) (l : Outcome) where
   refused-same (way.grants_again e b y w z q m) n = done m n
   refused-same (way.idles_again y i z q m) n = done m n
   refused-same (way.idles_on y i q m) n = done m n
-  refused-same (way.fails t r w y s b q m) n = done m n
-  refused-same (way.clears t w y s a b q m) n = done m n
 
   -- what says something else is no Deny
   other : {a : Answer} {r : Report} {A : Type 0} → (l.answer ≡ a) × (l.report ≡ r) → denies r ≡ false → denies l.report ≡ true → A
@@ -105,8 +103,6 @@ module _ (d : Desk) (x : Doing) (l : Outcome) where
   denied-same (way.grants_again e b y w k q m) z = other m refl z
   denied-same (way.idles_again y i k q m) z = other m refl z
   denied-same (way.idles_on y i q m) z = other m refl z
-  denied-same (way.fails t r w y s b q m) z = other m refl z
-  denied-same (way.clears t w y s a b q m) z = other m refl z
 
 pub refusals_change_nothing : RefusalsChangeNothing
 refusals_change_nothing d x n =

@@ -5,8 +5,7 @@ use mathlib.Core.Bool.{Bool, true, false, not, ◌&&◌}
 use mathlib.Core.List.{List, [], ◌∷◌}
 use native.Mathlib.Omega.{arith}
 use lib.Dec.{eqb, ltb}
-use lib.ListN.{length}
-use borrow.Author.Tests.{eqb-true, eqb-false, eq-eqb, ltb-true, not-false}
+use borrow.Author.Tests.{eqb-true, eqb-false, eq-eqb, ltb-true}
 use Rattle.words.specs.Choice.{if◌then◌else◌, by_test, by_if}
 use Rattle.words.specs.Below.{and_left}
 use Rattle.words.proofs.Tests.{clash}
@@ -16,19 +15,19 @@ use Rattle.reading.specs.Reading.{reading}
 use Rattle.packet_events.specs.PacketEvents.{event_of, by_reading, hears}
 use Rattle.line.specs.declared.Entry.{Entry}
 use Rattle.line.specs.declared.Line.{Line}
-use Rattle.line.specs.Line.{waiting, line_of, enter, entry_of, anyone}
+use Rattle.line.specs.Line.{waiting, line_of, enter, entry_of}
 use Rattle.hall.specs.declared.Hall.{Hall}
 use Rattle.identities.specs.declared.Names.{Names}
 use Rattle.hall.specs.declared.Answer.{Answer}
-use Rattle.hall.specs.declared.Answer.TheVariants.{Done, CallStopped, NoSuchSeat, NotExpected, UnfitList, NotRead}
+use Rattle.hall.specs.declared.Answer.TheVariants.{Done, CallStopped, NoSuchSeat, NotExpected, NotRead}
 use Rattle.hall.specs.declared.Found.{Found}
 use Rattle.hall.specs.declared.Found.TheVariants.{At, Nowhere}
 use Rattle.joining.specs.declared.Joined.{Joined}
 use Rattle.hall.specs.declared.Newcomer.{Newcomer}
-use Rattle.hall.specs.Seats.{alone, queues, receives_only, dispatches, effective, is_present, has_ssrc, seat_of, vacated, finds}
+use Rattle.hall.specs.Seats.{alone, queues, receives_only, effective, is_present, has_ssrc, seat_of, vacated, finds}
 use Rattle.identities.specs.Identity.{no_name, with_name}
 use Rattle.joining.specs.Join.{join}
-use Rattle.hall.proofs.Laws.{found-holds}
+use Rattle.hall.proofs.Laws.{found_holds}
 use Rattle.joining.specs.Joins.{Joins, turned_away, sits_down}
 use Rattle.joining.proofs.Joins.{every_join}
 use Rattle.steps.specs.declared.AlsoRuns.{AlsoRuns}
@@ -53,8 +52,7 @@ use Rattle.timers.specs.Timers.{is_stopped, runs, running}
 use Rattle.firing.specs.Firing.{halted, stops, ends_in, revokes_in, idle_again, revokes_again, grants_or_ends, grants_again, fires, expires}
 use Rattle.events.specs.Events.{starts, sitting, caller_of, heard, struck_off, releases, asks_place, talks, step, outcome, leave_floor, leave}
 use Rattle.events.specs.declared.Desk.{Desk}
-use Rattle.cancelling.specs.Cancel.{Wanted, is_allowed, is_wanted, not_authorised, line_empty, none_found, told, cleared, found, results, cancel}
-use Rattle.history.specs.Doing.{Doing, event, packet, leaves, joins, cancels, joined, does}
+use Rattle.history.specs.Doing.{Doing, event, packet, leaves, joins, joined, does}
 use Rattle.history.specs.Asking.{an_event, read_as, becomes, nobody, asks, from_seat, asked_by, asked_in, asking, gives_up, stops_in, stops_call}
 use Rattle.ways.specs.Ways as way
 use Rattle.ways.proofs.Apart.{no_leave, not-leave, gives_up, asks-nobody, this_one, not-asked}
@@ -69,9 +67,6 @@ not_22 q = let z : ◌≡◌ {A = ℕ} 0 1 = cc in omega arith
 
 not_23 : NotExpected ≡ Done → ⊥
 not_23 q = let z : ◌≡◌ {A = ℕ} 0 1 = cc in omega arith
-
-not_30 : UnfitList ≡ Done → ⊥
-not_30 q = let z : ◌≡◌ {A = ℕ} 0 1 = cc in omega arith
 
 not_read : {n : ℕ} → NotRead n ≡ Done → ⊥
 not_read q = let z : ◌≡◌ {A = ℕ} 0 1 = cc in omega arith
@@ -208,7 +203,7 @@ module _ (d : Desk) (x : Doing) where
       where
         go : (o : Found) → seat_of h ssrc ≡ o → is_stopped c.phase ≡ false → W (heard c (sitting o) rule)
         go (At t) q o =
-            let z = found-holds (has_ssrc h ssrc) 16 0 t q in f t q (record { present = and_left (is_present h t) _ z.0; below = z.1 }) o
+            let z = found_holds (has_ssrc h ssrc) 16 0 t q in f t q (record { present = and_left (is_present h t) _ z.0; below = z.1 }) o
         go Nowhere q o = refuse NoSuchSeat not_22 (m q)
 
     -- nobody asks
@@ -361,40 +356,6 @@ joins_on_lem : (d : Desk) (o : List ℕ) (n : Newcomer) (j : Joined) → Joins d
 joins_on_lem d o n j (turned_away a f q) = rw q (way.refuses a f (λ t p z. asks-nobody z) (λ u z. not-leave refl z) refl (refl, refl))
 joins_on_lem d o n j (sits_down s p f b k q) = rw q (way.rests refl (λ u z. not-leave refl z) refl (refl, refl))
 
--- Cancel: 21, 22, 23 and 30, then the results
-module _ (d : Desk) (t : ℕ) (w : Wanted) where
-  abbrev C : Step → Type 0
-  C r = way.Way d (cancels t w) (outcome r d.hall d.names)
-
-  turns_away : (a : Answer) → (a ≡ Done → ⊥) → C (refused d.core a)
-  turns_away a n = way.refuses a n (λ u p z. asks-nobody z) (λ u z. not-leave refl z) refl (refl, refl)
-
-  module _ (s : is_present d.hall t ≡ true) (a : is_allowed w ≡ true) where
-    tells : (n : ℕ) → n < 4 → C (told d.core t n)
-    unfolding told
-    tells n b = way.fails t n w refl s b refl (refl, refl)
-
-    finds : dispatches d.hall t ≡ true → C (found d.core d.names t w)
-    unfolding found cleared
-    finds i =
-        by_if C (anyone (λ e. is_wanted d.names w e.seat) (waiting d.core.line))
-        (λ _. way.clears t w refl s i a refl (refl, refl)) (λ _. tells none_found (omega arith))
-
-    results_on : C (results d.core d.hall d.names t w)
-    unfolding results
-    results_on =
-        by_if C (not (dispatches d.hall t)) (λ _. tells not_authorised (omega arith))
-        (λ i. by_if C (eqb (length (waiting d.core.line)) 0) (λ _. tells line_empty (omega arith)) (λ _. finds (not-false _ i)))
-
-  cancels_on : C (cancel d.core d.hall d.names t w)
-  unfolding cancel
-  cancels_on =
-      by_if C (is_stopped d.core.phase) (λ _. turns_away CallStopped not_21)
-      (λ _. by_if C (not (is_present d.hall t)) (λ _. turns_away NoSuchSeat not_22)
-      (λ p. by_if C (is_idle d.core.phase) (λ _. turns_away NotExpected not_23)
-      (λ _. by_if C (not (is_allowed w)) (λ _. turns_away UnfitList not_30)
-      (λ a. results_on (not-false _ p) (not-false _ a)))))
-
 pub every_way : way.EveryWay
 unfolding does hears leave
 every_way d (event e) = events d (event e) e refl
@@ -403,4 +364,3 @@ every_way d (leaves t) =
     by_if (way.Way d (leaves t)) (is_present d.hall t) (λ _. leaves_on d t)
     (λ n. way.refuses NoSuchSeat not_22 (λ u p z. asks-nobody z) (λ u z. rw (same_leaver z) n) refl (refl, refl))
 every_way d (joins o n) = joins_on_lem d o n (join d.hall d.names o n) (every_join d.hall d.names o n)
-every_way d (cancels t w) = cancels_on d t w

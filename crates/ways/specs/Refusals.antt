@@ -26,8 +26,6 @@ is_deny (say.Deny n) = true
 is_deny (say.Idle n) = false
 is_deny (say.Revoke n) = false
 is_deny (say.Info k p) = false
-is_deny (say.Result n k) = false
-is_deny say.Cancelled = false
 
 -- it is the one message of its step
 pub record Denied (d : Desk) (x : Doing) : Type 0 where

@@ -1,4 +1,4 @@
--- The ways in which anything that happens to a desk can go (document 01, "The desk"; document 02, #102), each with the whole core, answer, messages and marks
+-- The ways in which anything that happens to a desk can go (document 01, "The desk"), each with the whole core, answer, messages and marks
 -- that it leaves, and what was so when it went that way. They are all: the one statement here, proved in proofs/Walk, which takes the rules
 -- apart once. Counting, what reached desks keep, what fits octets and the demands follow from it by cases. Assumes nothing.
 use Rattle.std.specs.Prelude.{ℕ, ◌+◌, ◌<◌, ◌≡◌, Bool, true, false, List, [], ◌∷◌}
@@ -7,7 +7,7 @@ use Rattle.line.specs.Line.{waiting, line_of, enter, without, seat_set, no_seats
 use Rattle.hall.specs.declared.Hall.{Hall}
 use Rattle.hall.specs.declared.Answer.{Answer}
 use Rattle.hall.specs.declared.Answer.TheVariants.{Done}
-use Rattle.hall.specs.Seats.{is_present, receives_only, dispatches, queues, only, everybody, others}
+use Rattle.hall.specs.Seats.{is_present, receives_only, queues, only, everybody, others}
 use Rattle.steps.specs.declared.AlsoRuns.{AlsoRuns}
 use Rattle.steps.specs.declared.AlsoRuns.TheVariants.{NoMore, T2, T20}
 use Rattle.steps.specs.declared.Phase.{Phase}
@@ -29,8 +29,7 @@ use Rattle.events.specs.declared.Event.TheVariants.{Start, Expiry, Media, Positi
 use Rattle.timers.specs.declared.Timer.TheVariants as timer
 use Rattle.events.specs.declared.Outcome.{Outcome}
 use Rattle.events.specs.declared.Desk.{Desk}
-use Rattle.cancelling.specs.Cancel.{Wanted, is_allowed, wanted_in, not_found, cancel_done}
-use Rattle.history.specs.Doing.{Doing, leaves, cancels, does}
+use Rattle.history.specs.Doing.{Doing, leaves, does}
 use Rattle.history.specs.Asking.{an_event, becomes, nobody, asks, asking, gives_up, stops_call}
 
 -- what is done reports two messages and four marks; what is refused, its number alone
@@ -72,7 +71,7 @@ pub data Six (c : Core) (h : Hall) (t : ℕ) (new : Core) (first second : Sendin
   informs_and_presses : (e : Entry) (b : AlsoRuns) → c.phase ≡ Taken e b → new ≡ c in_phase Revoking e media_burst_preempted →
       first ≡ info_of c.line t ⇒ only t → second ≡ say.Revoke media_burst_preempted ⇒ only e.seat → Six c h t new first second
 
--- THE WAYS, in the papers' order: document 01's, and document 02's, #102. Messages go to those who are there afterwards.
+-- THE WAYS, in the paper's order. Messages go to those who are there afterwards.
 pub data Way (d : Desk) (x : Doing) (l : Outcome) : Type 0 where
   -- a refusal: its number, and the desk as it was
   refuses : (a : Answer) → (a ≡ Done → ⊥) → ((t p : ℕ) → asking d.hall x ≡ asks t p → Unmoved d.core d.hall t p) →
@@ -158,15 +157,6 @@ pub data Way (d : Desk) (x : Doing) (l : Outcome) : Type 0 where
       Reports l (say.Idle (next d.core.sequence) ⇒ everybody l.desk.hall) silence no_marks → Way d x l
   idles_on : becomes x ≡ an_event (Expiry timer.T7) → is_idle d.core.phase ≡ true → l.desk.core ≡ d.core in_phase Idle false →
       Reports l silence silence no_marks → Way d x l
-  -- Cancel, results 1, 2 and 3: the asker is told, and the desk is as it was
-  fails : (t result : ℕ) (w : Wanted) → x ≡ cancels t w → is_present d.hall t ≡ true → result < 4 → l.desk ≡ d →
-      Reports l (say.Result result 0 ⇒ only t) silence no_marks → Way d x l
-  -- Cancel, result 0: those in line whom it is for are struck off and told
-  clears : (t : ℕ) (w : Wanted) → x ≡ cancels t w → is_present d.hall t ≡ true → dispatches d.hall t ≡ true → is_allowed w ≡ true →
-      l.desk.core ≡ d.core with_line line_of (without (seat_set (wanted_in d.names w (waiting d.core.line))) (waiting d.core.line)) →
-      Reports l (say.Result cancel_done (not_found d.names (waiting d.core.line) w) ⇒ only t)
-      (say.Cancelled ⇒ seat_set (wanted_in d.names w (waiting d.core.line)))
-      (marks NoSeat (seat_set (wanted_in d.names w (waiting d.core.line))) NoSeat NotGiven) → Way d x l
 
 -- whatever happens to whatever desk goes one of these ways
 abbrev pub EveryWay : Type 0

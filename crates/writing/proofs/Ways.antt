@@ -1,5 +1,5 @@
 -- The three ways in which the writer answers, and what it leaves in the room.
---     told-one   any two answers that say the same in the paper's numbers are one answer
+--     told_one   any two answers that say the same in the paper's numbers are one answer
 -- Assumes nothing.
 use Prim.Native.Nat.{ℕ, ◌≤◌, ◌<◌}
 use mathlib.Core.Bool.{true, false}
@@ -43,8 +43,8 @@ module _ (m : Message) (src room : List ℕ) where
   unfolding written
   overwritten e = rw e
 
-pub told-one : (a b : Writing) → writing_answer a ≡ writing_answer b → a ≡ b
-told-one (Written n) (Written k) e = ap Written (cc)
-told-one (Written n) (Refused r) e = cc
-told-one (Refused r) (Written k) e = cc
-told-one (Refused r) (Refused s) e = ap Refused (refusal-one r s e)
+pub told_one : (a b : Writing) → writing_answer a ≡ writing_answer b → a ≡ b
+told_one (Written n) (Written k) e = ap Written (cc)
+told_one (Written n) (Refused r) e = cc
+told_one (Refused r) (Written k) e = cc
+told_one (Refused r) (Refused s) e = ap Refused (refusal-one r s e)

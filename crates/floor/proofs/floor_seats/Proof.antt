@@ -1,6 +1,6 @@
 -- `floor::floor_seats` keeps its promise, `SeatsPromise (now desk.entry) r`. Assumes nothing.
 use Rattle.signed.proofs.Signed.{passed}
-use Rattle.hall.specs.Seats.{mask_of}
+use Rattle.report_octets.specs.Report.{mask_of}
 use Rattle.hall.specs.declared.Hall.{Hall}
 use lib.IntN.{pos}
 use Rattle.desk_test.proofs.Desks.{has_room}

@@ -1,6 +1,6 @@
 -- `outgoing::to_send` meets its contract. Assumes nothing.
-use borrow.Author.Rules.{rules}
 use Rattle.outgoing.specs.Outgoing.{outgoing}
+use borrow.Author.Rules.{rules}
 use Rattle.outgoing.proofs.to_send.Statement.{statement}
 use Rattle.outgoing.proofs.to_send.Tie as tie
 
@@ -43,12 +43,6 @@ enum-known-kind-6 c = search rules
 info-requires : tie.Need-info-requires
 info-requires c κs = search rules
 
-enum-told-2 : tie.Need-enum-told-2
-enum-told-2 c = search rules
-
-enum-told-3 : tie.Need-enum-told-3
-enum-told-3 c = search rules
-
 returns : tie.Need-returns
 unfolding outgoing
 returns c = rw c.enum_told.given.1
@@ -77,14 +71,6 @@ returns-7 : tie.Need-returns-7
 unfolding outgoing
 returns-7 c = rw (c.info.ensures, c.before.before.kind6.given.1)
 
-returns-8 : tie.Need-returns-8
-unfolding outgoing
-returns-8 c = rw c.enum-told2.given.1
-
-returns-9 : tie.Need-returns-9
-unfolding outgoing
-returns-9 c = rw c.enum-told3.given.1
-
 pub to-send-spec : {M : Type 1} → statement M
 to-send-spec =
     tie.close
@@ -102,14 +88,10 @@ to-send-spec =
     caused-requires-2
     enum-known-kind-6
     info-requires
-    enum-told-2
-    enum-told-3
     returns
     returns-2
     returns-3
     returns-4
     returns-5
     returns-6
-    returns-7
-    returns-8
-    returns-9)
+    returns-7)

@@ -1,8 +1,8 @@
 -- `report_octets::kind_of` keeps its promise, `r ≡ kind_of q`. Assumes nothing.
-use borrow.Author.Tests.{ne_eqb}
-use borrow.Author.Rules.{rules}
-use Rattle.words.specs.Choice.{if◌then◌else◌}
 use Rattle.report_octets.specs.Report.{kind_of}
+use borrow.Author.Tests.{ne_eqb}
+use Rattle.words.specs.Choice.{if◌then◌else◌}
+use borrow.Author.Rules.{rules}
 use Rattle.report_octets.proofs.kind_of.Statement.{statement}
 use Rattle.report_octets.proofs.kind_of.Tie as tie
 
@@ -35,19 +35,9 @@ returns-6 c = rw c.before.match.keys6
 
 returns-7 : tie.Need-returns-7
 unfolding kind_of if◌then◌else◌
-returns-7 c = rw c.match.keys7
-
-returns-8 : tie.Need-returns-8
-unfolding kind_of if◌then◌else◌
-returns-8 c = rw c.match.keys8
-
-returns-9 : tie.Need-returns-9
-unfolding kind_of if◌then◌else◌
-returns-9 c =
+returns-7 c =
     let r = c.match.rest in
     rw (
-      ne_eqb _ _ r.0.0.0.0.0.0.0.1,
-      ne_eqb _ _ r.0.0.0.0.0.0.1,
       ne_eqb _ _ r.0.0.0.0.0.1,
       ne_eqb _ _ r.0.0.0.0.1,
       ne_eqb _ _ r.0.0.0.1,
@@ -59,14 +49,4 @@ returns-9 c =
 pub kind-of-spec : {M : Type 1} → statement M
 kind-of-spec =
     tie.close
-    (tie.spec
-    cast-t5
-    returns
-    returns-2
-    returns-3
-    returns-4
-    returns-5
-    returns-6
-    returns-7
-    returns-8
-    returns-9)
+    (tie.spec cast-t5 returns returns-2 returns-3 returns-4 returns-5 returns-6 returns-7)

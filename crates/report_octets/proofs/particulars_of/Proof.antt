@@ -1,6 +1,6 @@
 -- `report_octets::particulars_of` keeps its promise, `r ≡ particulars kind`. Assumes nothing.
-use borrow.Author.Rules.{rules}
 use Rattle.report_octets.specs.Report.{particulars}
+use borrow.Author.Rules.{rules}
 use Rattle.report_octets.proofs.particulars_of.Statement.{statement}
 use Rattle.report_octets.proofs.particulars_of.Tie as tie
 
@@ -49,18 +49,6 @@ cast-having c = search rules
 having-requires-7 : tie.Need-having-requires-7
 having-requires-7 c κs = search rules
 
-enum-known-kind-7 : tie.Need-enum-known-kind-7
-enum-known-kind-7 c = search rules
-
-having-requires-8 : tie.Need-having-requires-8
-having-requires-8 c κs = search rules
-
-enum-told-2 : tie.Need-enum-told-2
-enum-told-2 c = search rules
-
-having-requires-9 : tie.Need-having-requires-9
-having-requires-9 c κs = search rules
-
 returns : tie.Need-returns
 unfolding particulars
 returns c = rw (c.having.ensures, c.before.enum_told.given.1)
@@ -89,14 +77,6 @@ returns-7 : tie.Need-returns-7
 unfolding particulars
 returns-7 c = rw (c.having7.ensures, c.before.before.kind6.given.1)
 
-returns-8 : tie.Need-returns-8
-unfolding particulars
-returns-8 c = rw (c.having8.ensures, c.before.before.kind7.given.1)
-
-returns-9 : tie.Need-returns-9
-unfolding particulars
-returns-9 c = rw (c.having9.ensures, c.before.enum-told2.given.1)
-
 pub particulars-of-spec : {M : Type 1} → statement M
 particulars-of-spec =
     tie.close
@@ -116,16 +96,10 @@ particulars-of-spec =
     enum-known-kind-6
     cast-having
     having-requires-7
-    enum-known-kind-7
-    having-requires-8
-    enum-told-2
-    having-requires-9
     returns
     returns-2
     returns-3
     returns-4
     returns-5
     returns-6
-    returns-7
-    returns-8
-    returns-9)
+    returns-7)

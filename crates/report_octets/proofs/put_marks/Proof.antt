@@ -4,8 +4,7 @@ use mathlib.Core.List.{[], ◌∷◌, ◌++◌}
 use mathlib.Core.Path.{◌≡◌, refl}
 use Rattle.octets.specs.Octets.{over, octets16}
 use Rattle.octets.proofs.Over.{run}
-use Rattle.hall.specs.Seats.{mask_of}
-use Rattle.report_octets.specs.Report.{seat_octet, given_octet, how_octet, marks_octets}
+use Rattle.report_octets.specs.Report.{mask_of, seat_octet, given_octet, how_octet, marks_octets}
 use borrow.Author.Rules.{rules}
 use Rattle.report_octets.proofs.put_marks.Statement.{statement}
 use Rattle.report_octets.proofs.put_marks.Tie as tie

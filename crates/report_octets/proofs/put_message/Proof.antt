@@ -5,8 +5,7 @@ use mathlib.Core.Path.{◌≡◌, refl}
 use lib.ListN.{length}
 use Rattle.octets.specs.Octets.{over, octets16}
 use Rattle.octets.proofs.Over.{run}
-use Rattle.hall.specs.Seats.{mask_of}
-use Rattle.report_octets.specs.Report.{particulars, octets_of_message}
+use Rattle.report_octets.specs.Report.{particulars, mask_of, octets_of_message}
 use native.Mathlib.Omega.{arith}
 use borrow.Author.Rules.{rules}
 use Rattle.report_octets.proofs.put_message.Statement.{statement}

@@ -11,15 +11,12 @@ use borrow.Author.Rules.{rules}
 use Rattle.saving.proofs.save.Statement.{statement}
 use Rattle.saving.proofs.save.Tie as tie
 
-cannot-hold-requires : tie.Need-cannot-hold-requires
-cannot-hold-requires c κs = search rules
-
 returns : tie.Need-returns
 returns c =
-    let a = c.before.before.before.args in
-    let cannot = sym c.before.cannot-hold.ensures ∙ c.if1.true in (
-      sym (saves_none a.hall a.names a.room.now cannot),
-      (sym (room_kept a.hall a.names a.room.now cannot), omega arith),
+    let a = c.before.before.before.before.args in
+    let other = c.if1.true in (
+      sym (saves_none a.hall a.names a.room.now other),
+      (sym (room_kept a.hall a.names a.room.now other), omega arith),
     )
 
 extent-of-requires : tie.Need-extent-of-requires
@@ -34,10 +31,10 @@ returns-2 c =
     let h = a.hall in
     let ns = a.names in
     let room = a.room.now in
-    let can = sym c.before.before.before.before.cannot-hold.ensures ∙ c.before.before.before.if1.false in
+    let zero : h.settings.normal ≡ 0 = c.before.before.if1.false in
     let k : length room < length (sheet_of h ns) =
     omega (arith, length-sheet_of h ns, c.before.extent-of.ensures.octets, c.if2.true) in
-    (sym (saves_no_room h ns room can k), (sym (room_untouched h ns room can k), omega arith))
+    (sym (saves_no_room h ns room zero k), (sym (room_untouched h ns room zero k), omega arith))
 
 put-seats-requires : tie.Need-put-seats-requires
 put-seats-requires c κs = search rules
@@ -67,19 +64,19 @@ returns-3 c =
     let h = a.hall in
     let ns = a.names in
     let room = a.room.now in
-    let can = sym c.before.before.before.before.before.before.before.before.before.before.before.before.before.before.before.before.cannot-hold.ensures
-    ∙ c.before.before.before.before.before.before.before.before.before.before.before.before.before.before.before.if1.false in
+    let zero : h.settings.normal ≡ 0 =
+    c.before.before.before.before.before.before.before.before.before.before.before.before.before.before.if1.false in
     let e = c.before.before.before.before.before.before.before.before.before.before.before.before.before.extent-of in
     let m = e.ensures in
     let q : e.result.octets + 20 ≡ length (sheet_of h ns) = omega (arith, length-sheet_of h ns, m.octets) in
     let k : length (sheet_of h ns) ≤ length room =
     omega (arith, q, c.before.before.before.before.before.before.before.before.before.before.before.before.if2.false) in (
-      rw q (sym (saves_whole h ns room can k)),
+      rw q (sym (saves_whole h ns room zero k)),
       (
         sheet-made h ns room _ _ _ _ _ m.octets m.count
             c.before.before.before.before.before.before.before.before.before.before.put-seats.ensures
             c.before.before.before.before.before.before.put-settings.ensures c.before.before.put-trailer.ensures
-            ∙ sym (room_written h ns room can k),
+            ∙ sym (room_written h ns room zero k),
         omega (arith, m.few),
       ),
     )
@@ -88,7 +85,6 @@ pub save-spec : {M : Type 1} → statement M
 save-spec =
     tie.close
     (tie.spec
-    cannot-hold-requires
     returns
     extent-of-requires
     add-if2

@@ -13,16 +13,9 @@ bit-requires-2 c κs = search rules
 add-result : tie.Need-overflow-add-result
 add-result c = search rules
 
-bit-requires-3 : tie.Need-bit-requires-3
-bit-requires-3 c κs = search rules
-
-add-result-2 : tie.Need-overflow-add-result-2
-add-result-2 c = search rules
-
 returns : tie.Need-returns
 unfolding flags_octet
-returns c = rw (c.bit3.ensures.0, c.before.bit2.ensures.0, c.before.before.bit.ensures.0)
+returns c = rw (c.bit2.ensures.0, c.before.bit.ensures.0)
 
 pub flags-octet-spec : {M : Type 1} → statement M
-flags-octet-spec =
-    tie.close (tie.spec bit-requires bit-requires-2 add-result bit-requires-3 add-result-2 returns)
+flags-octet-spec = tie.close (tie.spec bit-requires bit-requires-2 add-result returns)

@@ -1,0 +1,2 @@
+-- The laws of a set as a number.
+pub mod Masks
