@@ -1,4 +1,6 @@
 // Copies of octets: a part of some laid over a room, and zeros. Nothing here knows of packets.
+#![tactic(auto)]
+
 ghost use Rattle.std.specs.Prelude.{◌≡◌, ◌+◌, ◌≤◌, ◌<◌, length, replicate};
 ghost use Rattle.octets.specs.Octets.{part, over};
 

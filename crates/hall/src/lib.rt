@@ -1,11 +1,13 @@
 // The hall of a call: its sixteen seats, its settings, and what a desk answers (document 01, "The desk"). The names of those who sit there
 // stand apart, in the crate identities: no step of a running call reads one.
+#![tactic(auto)]
+
 ghost use Rattle.std.specs.Prelude.{◌≡◌, true, false, get_or, set};
 ghost use Rattle.hall.specs.Seats.{settings_of, newcomer_of, no_flags, in_range, empty_hall, is_present, flags_at, queues, receives_only, only, others, alone, asked, effective, seat_of, free_seat, with_seat, vacated};
 ghost use Rattle.hall.specs.Answers.{answer_number, settings_answer};
 
 // What a desk answers; specs/Answers.antt has the paper's number of each.
-#[derive(Drop)]
+#[derive(Clone, Copy)]
 pub enum Answer {
     Done,
     CallStopped,
@@ -25,7 +27,7 @@ pub type Seats = [bool; 16];
 
 // The desk's SSRC, the pre-emptive level, how long the line may be, how far C7 and C20 count, the duration of a grant in seconds, and the
 // normal level: what a request counts as that names no priority.
-#[derive(Drop)]
+#[derive(Clone, Copy)]
 pub struct Settings {
     pub ssrc: u32,
     pub level: u8,
@@ -48,7 +50,7 @@ pub const NO_SETTINGS: Settings = Settings {
 };
 
 // What a seat is flagged as: that it negotiated queueing, that it is receive only.
-#[derive(Drop)]
+#[derive(Clone, Copy)]
 pub struct Flags {
     pub queueing: bool,
     pub receive_only: bool,
@@ -61,7 +63,7 @@ pub const NO_FLAGS: Flags = Flags {
 };
 
 // The seats, a column for each thing known of them; a free seat has zeros.
-#[derive(Drop)]
+#[derive(Clone, Copy)]
 pub struct Hall {
     pub present: [bool; 16],
     pub ssrcs: [u32; 16],
@@ -71,7 +73,7 @@ pub struct Hall {
 }
 
 // What a newcomer says of itself, beside its identity.
-#[derive(Drop)]
+#[derive(Clone, Copy)]
 pub struct Newcomer {
     pub ssrc: u32,
     pub highest: u8,
@@ -79,13 +81,13 @@ pub struct Newcomer {
 }
 
 // The priority a request asks for. That the field is missing is a case of its own.
-#[derive(Drop)]
+#[derive(Clone, Copy)]
 pub enum Asked {
     Priority(u8),
     NoField,
 }
 
-#[derive(Drop)]
+#[derive(Clone, Copy)]
 pub enum Found {
     At(u8),
     Nowhere,

@@ -1,10 +1,12 @@
 // The line: seats waiting for the floor, highest priority first, earlier first among equals (document 01, "The desk"). What each
 // function gives is said of the list of entries that the array and the length stand for: specs/Line.antt.
+#![tactic(auto)]
+
 ghost use Rattle.std.specs.Prelude.{◌≡◌, ◌≤◌, ◌<◌, ◌++◌, ◌∷◌, [], true, false, length, take, drop, get_or, set};
 ghost use Rattle.line.specs.Line.{entry_of, waiting, line_of, empty, before, ahead, enter, other_at_least, another_at_least, without, seat_set};
 
 // A seat in line, and the holder of the floor: who, and the effective priority that it waits at, or was given the floor at.
-#[derive(Drop)]
+#[derive(Clone, Copy)]
 pub struct Entry {
     pub seat: u8,
     pub priority: u8,
@@ -20,7 +22,7 @@ pub const EMPTY: Entry = Entry {
 pub type Seats = [bool; 16];
 
 // Those who wait are the first `len` entries.
-#[derive(Drop)]
+#[derive(Clone, Copy)]
 pub struct Line {
     pub entries: [Entry; 15],
     pub len: usize,

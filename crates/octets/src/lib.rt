@@ -1,4 +1,6 @@
 // Big-endian numbers among octets. Nothing here knows of packets.
+#![tactic(auto)]
+
 ghost use Rattle.std.specs.Prelude.{◌≡◌, [], ◌∷◌, ◌+◌, ◌≤◌, length};
 ghost use Rattle.octets.specs.Octets.{be16, be32, octets16, octets32, over};
 

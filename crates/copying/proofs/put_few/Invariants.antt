@@ -1,0 +1,13 @@
+-- `copying::put_few` keeps its promise, `now room.exit ≡ over (now room.entry) at (part (now s.entry) from count)`. Copies a part
+-- octet by octet. Assumes nothing.
+use Prim.Native.Nat.{◌-◌, ◌≤◌}
+use mathlib.Core.Path.{◌≡◌}
+use lib.ListN.{length}
+use Rattle.octets.specs.Octets.{over, part}
+use Rattle.copying.proofs.put_few.Given as goal
+
+abbrev pub invariant-loop-i : goal.invariant-loop-i
+invariant-loop-i l = (l.i ≤ l.count) × (length l.room ≡ length l.initial.room) × (l.room ≡ over l.initial.room l.at (part l.s l.from l.i))
+
+abbrev pub decreases-loop-i : goal.decreases-loop-i
+decreases-loop-i l = l.count - l.i

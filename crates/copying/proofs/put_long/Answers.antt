@@ -1,0 +1,36 @@
+-- `copying::put_long` keeps its promise, `now room.exit ≡ over (now room.entry) at (part (now s.entry) from count)`. Copies blocks
+-- of 64 octets. Assumes nothing.
+use Prim.Native.Nat.{◌+◌, ◌-◌, ◌≤◌, ◌<◌}
+use mathlib.Core.Path.{refl, sym, ◌∙◌}
+use lib.ListN.{length}
+use Rattle.octets.specs.Octets.{part}
+use Rattle.octets.proofs.Over.{over_none, over_again}
+use borrow.Author.Rules.{rules}
+use native.Mathlib.Omega.{arith}
+use Rattle.copying.proofs.put_long.Goals as goal
+
+pub loop-i-init : goal.loop-i-init
+unfolding part
+loop-i-init c = (search rules, refl, sym (over_none c.args.room.now c.args.at))
+
+pub loop-i-preserved : goal.loop-i-preserved
+loop-i-preserved c =
+    let a = c.args in
+    let l = c.loop-i in
+    let p : a.at + a.count ≤ length a.room.now = c.requires.count_in_bounds in
+    let q : a.from + a.count ≤ length a.s.now = c.requires.count_in_bounds_2 in
+    let t : 64 < a.count - l.i = c.loop-i-test.true in (
+      omega arith,
+      c.put_sixty_four.auto.0 ∙ l.invariant.1,
+      over_again a.room.now a.s.now a.at a.from l.i l.i 64 refl (omega arith) (omega arith) (omega arith)
+          (omega arith) l.invariant.2 c.put_sixty_four.ensures,
+    )
+
+pub returns : goal.returns
+returns c =
+    let a = c.args in
+    let l = c.loop-i in
+    over_again a.room.now a.s.now a.at a.from l.i (a.count - 64) 64 (omega arith) (omega arith) (omega arith)
+    c.requires.count_in_bounds
+    c.requires.count_in_bounds_2
+    l.invariant.2 c.put_sixty_four-2.ensures
