@@ -1,5 +1,7 @@
 // A seat's flags and the settings of a desk as octets, the same on a sheet and among a desk's octets. specs/Layout.antt has them as a
 // table.
+#![tactic(auto)]
+
 ghost use Rattle.std.specs.Prelude.{◌≡◌, ◌+◌, ◌≤◌, length};
 ghost use Rattle.words.specs.Choice.{if◌then◌else◌};
 ghost use Rattle.octets.specs.Octets.{over};
