@@ -15,7 +15,7 @@ use Rattle.steps.specs.declared.Phase.{Phase}
 use Rattle.steps.specs.declared.Phase.TheVariants.{Stopped, Idle, Taken, Revoking}
 use Rattle.steps.specs.declared.Core.{Core}
 use Rattle.steps.specs.declared.Step.{Step}
-use Rattle.steps.specs.Words.{◌inPhase◌, ◌withLine◌, ◌⇒◌, done, refused, ◌sends◌, ◌marksStruck◌}
+use Rattle.steps.specs.Words.{◌in_phase◌, ◌with_line◌, ◌⇒◌, done, refused, ◌sends◌, ◌marks_struck◌}
 use Rattle.giving.specs.Floor.{holds, enters_idle, floor_ends}
 use Rattle.request.specs.Request.{waits, info_of, request}
 use Rattle.events.specs.declared.Event.{Event}

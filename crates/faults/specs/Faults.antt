@@ -18,7 +18,7 @@ use Rattle.steps.specs.declared.Mark.TheVariants.{NoSeat}
 use Rattle.steps.specs.declared.Given.{Given}
 use Rattle.steps.specs.declared.Given.TheVariants.{NotGiven, AtOnce, OutOfLine}
 use Rattle.steps.specs.declared.Marks.{Marks}
-use Rattle.steps.specs.Words.{◌withLine◌, next}
+use Rattle.steps.specs.Words.{◌with_line◌, next}
 use Rattle.giving.specs.Floor.{holds, given, given_at_once, given_out_of_line, enters_idle, passes_on, floor_ends, revokes}
 use Rattle.request.specs.Request.{waits, priority_in, full, presses, denied, info_of, holder_asks, informed, pressed, rule6, asks_again, placed}
 use Rattle.request.specs.Request.{request}

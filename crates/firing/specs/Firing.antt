@@ -12,8 +12,8 @@ use Rattle.steps.specs.declared.Phase.TheVariants.{Stopped, Idle, Taken, Revokin
 use Rattle.steps.specs.declared.Core.{Core}
 use Rattle.steps.specs.declared.Kind.TheVariants as say
 use Rattle.steps.specs.declared.Step.{Step}
-use Rattle.steps.specs.Words.{◌inPhase◌, ◌withLine◌, ◌countingC7◌, ◌countingC20◌, next, numbered, ◌⇒◌, done, refused, ◌sends◌}
-use Rattle.steps.specs.Words.{◌marksStruck◌, ◌marksEnded◌}
+use Rattle.steps.specs.Words.{◌in_phase◌, ◌with_line◌, ◌counting_c7◌, ◌counting_c20◌, next, numbered, ◌⇒◌, done, refused, ◌sends◌}
+use Rattle.steps.specs.Words.{◌marks_struck◌, ◌marks_ended◌}
 use Rattle.steps.specs.Causes.{media_burst_too_long}
 use Rattle.giving.specs.Floor.{floor_ends, revokes, granted_again}
 use Rattle.timers.specs.declared.Timer.{Timer}

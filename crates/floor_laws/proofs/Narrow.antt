@@ -17,7 +17,7 @@ use Rattle.hall.specs.declared.Asked.{Asked}
 use Rattle.hall.specs.Seats.{only, asked, effective}
 use Rattle.steps.specs.declared.Core.{Core}
 use Rattle.steps.specs.declared.Sending.{Sending}
-use Rattle.steps.specs.Words.{◌withLine◌}
+use Rattle.steps.specs.Words.{◌with_line◌}
 use Rattle.line.specs.Line.{entry_of}
 use Rattle.events.specs.declared.Outcome.{Outcome}
 use Rattle.events.specs.declared.Desk.{Desk}

@@ -8,7 +8,7 @@ use Rattle.line.specs.Line.{line_of, without, empty}
 use Rattle.hall.specs.declared.Hall.{Hall}
 use Rattle.hall.specs.Seats.{only}
 use Rattle.steps.specs.declared.Core.{Core}
-use Rattle.steps.specs.Words.{◌withLine◌}
+use Rattle.steps.specs.Words.{◌with_line◌}
 use Rattle.giving.specs.Floor.{passes_on, enters_idle, given_out_of_line}
 
 module _ (c : Core) (h : Hall) where

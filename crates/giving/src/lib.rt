@@ -1,7 +1,7 @@
 // The floor is given, ends, passes on to the head of the line, is revoked (document 01, "The desk").
 ghost use Rattle.std.specs.Prelude.{◌≡◌};
 ghost use Rattle.line.specs.Line.{waiting};
-ghost use Rattle.steps.specs.Words.{◌marksGiven◌};
+ghost use Rattle.steps.specs.Words.{◌marks_given◌};
 ghost use Rattle.giving.specs.Floor.{holds, given, given_at_once, given_out_of_line, enters_idle, passes_on, floor_ends, revokes, granted_again};
 
 use hall::{Answer, Hall};

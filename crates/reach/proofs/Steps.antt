@@ -20,7 +20,7 @@ use Rattle.steps.specs.declared.Phase.{Phase}
 use Rattle.steps.specs.declared.Phase.TheVariants.{Stopped, Idle, Taken, Revoking}
 use Rattle.steps.specs.declared.Core.{Core}
 use Rattle.steps.specs.declared.Sending.{Sending}
-use Rattle.steps.specs.Words.{next, numbered, ◌inPhase◌, ◌withLine◌, ◌countingC7◌}
+use Rattle.steps.specs.Words.{next, numbered, ◌in_phase◌, ◌with_line◌, ◌counting_c7◌}
 use Rattle.steps.specs.Causes.{media_burst_too_long, media_burst_preempted}
 use Rattle.giving.specs.Floor.{holds}
 use Rattle.request.specs.Request.{waits, full}

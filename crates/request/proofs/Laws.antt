@@ -18,7 +18,7 @@ use Rattle.steps.specs.declared.Mark.TheVariants.{NoSeat}
 use Rattle.steps.specs.declared.Given.TheVariants.{NotGiven}
 use Rattle.steps.specs.declared.Report.{Report}
 use Rattle.steps.specs.declared.Step.{Step}
-use Rattle.steps.specs.Words.{◌withLine◌, is_nothing, more, silence, report_of, ◌placing◌}
+use Rattle.steps.specs.Words.{◌with_line◌, is_nothing, more, silence, report_of, ◌placing◌}
 use Rattle.steps.specs.Causes.{another_has_permission, queue_full, media_burst_preempted}
 use Rattle.giving.specs.Floor.{revokes}
 use Rattle.request.specs.Request.{waits, full, denied, informed, pressed, rule6, asks_again, placed}

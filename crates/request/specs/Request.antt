@@ -14,7 +14,7 @@ use Rattle.steps.specs.declared.Core.{Core}
 use Rattle.steps.specs.declared.Kind.{Kind}
 use Rattle.steps.specs.declared.Kind.TheVariants as say
 use Rattle.steps.specs.declared.Step.{Step}
-use Rattle.steps.specs.Words.{◌withLine◌, ◌⇒◌, done, refused, ◌sends◌, ◌marksPlaced◌}
+use Rattle.steps.specs.Words.{◌with_line◌, ◌⇒◌, done, refused, ◌sends◌, ◌marks_placed◌}
 use Rattle.steps.specs.Causes.{another_has_permission, only_one_participant, receive_only, queue_full, media_burst_preempted}
 use Rattle.giving.specs.Floor.{holds, given_at_once, revokes, granted_again}
 

@@ -17,20 +17,20 @@ use Rattle.steps.specs.declared.Marks.{Marks}
 use Rattle.steps.specs.declared.Report.{Report}
 use Rattle.steps.specs.declared.Step.{Step}
 
-infixl 30 ◌inPhase◌ ◌withLine◌ ◌countingC7◌ ◌countingC20◌
-infixl 20 ◌turns◌ ◌sends◌ ◌placing◌ ◌marksPlaced◌ ◌marksStruck◌ ◌marksEnded◌ ◌marksGiven◌
+infixl 30 ◌in_phase◌ ◌with_line◌ ◌counting_c7◌ ◌counting_c20◌
+infixl 20 ◌turns◌ ◌sends◌ ◌placing◌ ◌marks_placed◌ ◌marks_struck◌ ◌marks_ended◌ ◌marks_given◌
 infix 40 ◌⇒◌
 -- the core with one thing changed
-abbrev pub ◌inPhase◌ : Core → Phase → Core
+abbrev pub ◌in_phase◌ : Core → Phase → Core
 c in_phase p = record { phase = p; line = c.line; sequence = c.sequence; c7 = c.c7; c20 = c.c20 }
 
-abbrev pub ◌withLine◌ : Core → Line → Core
+abbrev pub ◌with_line◌ : Core → Line → Core
 c with_line l = record { phase = c.phase; line = l; sequence = c.sequence; c7 = c.c7; c20 = c.c20 }
 
-abbrev pub ◌countingC7◌ : Core → ℕ → Core
+abbrev pub ◌counting_c7◌ : Core → ℕ → Core
 c counting_c7 n = record { phase = c.phase; line = c.line; sequence = c.sequence; c7 = n; c20 = c.c20 }
 
-abbrev pub ◌countingC20◌ : Core → ℕ → Core
+abbrev pub ◌counting_c20◌ : Core → ℕ → Core
 c counting_c20 n = record { phase = c.phase; line = c.line; sequence = c.sequence; c7 = c.c7; c20 = n }
 
 -- the sequence number after one more message, of 16 bits
@@ -98,15 +98,15 @@ marked r m =
 abbrev pub ◌placing◌ : Step → Mark → Step
 r placing m = let o = r.report.marks in marked r (record { placed = m; struck = o.struck; ended = o.ended; given = o.given })
 
-abbrev pub ◌marksPlaced◌ : Step → ℕ → Step
+abbrev pub ◌marks_placed◌ : Step → ℕ → Step
 r marks_placed s = r placing Seat s
 
-abbrev pub ◌marksStruck◌ : Step → List Bool → Step
+abbrev pub ◌marks_struck◌ : Step → List Bool → Step
 r marks_struck seats =
     let o = r.report.marks in marked r (record { placed = o.placed; struck = seats; ended = o.ended; given = o.given })
 
-abbrev pub ◌marksEnded◌ : Step → ℕ → Step
+abbrev pub ◌marks_ended◌ : Step → ℕ → Step
 r marks_ended s = let o = r.report.marks in marked r (record { placed = o.placed; struck = o.struck; ended = Seat s; given = o.given })
 
-abbrev pub ◌marksGiven◌ : Step → Given → Step
+abbrev pub ◌marks_given◌ : Step → Given → Step
 r marks_given g = let o = r.report.marks in marked r (record { placed = o.placed; struck = o.struck; ended = o.ended; given = g })

@@ -1,7 +1,7 @@
 // What a step of the desk is made of: the core that it leaves, and its report of messages and marks (document 01, "The desk"). The words
 // that the rules are written with stand in specs/.
 ghost use Rattle.std.specs.Prelude.{◌≡◌};
-ghost use Rattle.steps.specs.Words.{◌inPhase◌, ◌withLine◌, next, ◌⇒◌, silence, is_nothing, report_of, answered, done, ◌sends◌, ◌marksStruck◌, ◌marksEnded◌, marked};
+ghost use Rattle.steps.specs.Words.{◌in_phase◌, ◌with_line◌, next, ◌⇒◌, silence, is_nothing, report_of, answered, done, ◌sends◌, ◌marks_struck◌, ◌marks_ended◌, marked};
 
 use hall::Answer;
 use line::{Entry, Line};

@@ -38,7 +38,7 @@ use Rattle.steps.specs.declared.Phase.{Phase}
 use Rattle.steps.specs.declared.Phase.TheVariants.{Stopped, Idle, Taken, Revoking}
 use Rattle.steps.specs.declared.Core.{Core}
 use Rattle.steps.specs.declared.Step.{Step}
-use Rattle.steps.specs.Words.{is_nothing, no_marks, answered, refused, ◌withLine◌, ◌marksEnded◌}
+use Rattle.steps.specs.Words.{is_nothing, no_marks, answered, refused, ◌with_line◌, ◌marks_ended◌}
 use Rattle.steps.specs.Causes.{another_has_permission, only_one_participant, receive_only, queue_full, media_burst_preempted}
 use Rattle.giving.specs.Floor.{holds, given, given_at_once, given_out_of_line, enters_idle, passes_on, floor_ends, revokes}
 use Rattle.request.specs.Request.{is_idle, waits, full, presses, priority_in, denied, info_of, holder_asks, informed, pressed, rule6, moved}

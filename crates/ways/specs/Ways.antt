@@ -20,7 +20,7 @@ use Rattle.steps.specs.declared.Mark.TheVariants.{NoSeat, Seat}
 use Rattle.steps.specs.declared.Given.{Given}
 use Rattle.steps.specs.declared.Given.TheVariants.{NotGiven, AtOnce, OutOfLine}
 use Rattle.steps.specs.declared.Marks.{Marks}
-use Rattle.steps.specs.Words.{◌inPhase◌, ◌withLine◌, ◌countingC7◌, ◌countingC20◌, next, numbered, ◌⇒◌, silence, no_marks, empty_report}
+use Rattle.steps.specs.Words.{◌in_phase◌, ◌with_line◌, ◌counting_c7◌, ◌counting_c20◌, next, numbered, ◌⇒◌, silence, no_marks, empty_report}
 use Rattle.steps.specs.Causes.{media_burst_too_long, media_burst_preempted}
 use Rattle.giving.specs.Floor.{holds}
 use Rattle.request.specs.Request.{is_idle, waits, full, priority_in, moved, info_of}
