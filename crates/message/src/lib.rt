@@ -1,4 +1,6 @@
 // A message, its types and the table of its fields (document 01, "The packet" and "What is answered to packets").
+#![tactic(auto)]
+
 ghost use Rattle.std.specs.Prelude.{◌≡◌, true, List, ℕ, ◌≤◌};
 ghost use Rattle.message.specs.Types.{typed, type_number};
 ghost use Rattle.message.specs.Table.{listed, at_fault, against, padded, padding};
@@ -7,7 +9,7 @@ ghost use Rattle.message.specs.Message.{of_octet, of_word, of_cause, of_queue, o
 ghost use Rattle.message.specs.Asked.{has_id};
 
 // The ten types.
-#[derive(Drop)]
+#[derive(Clone, Copy)]
 pub enum MessageType {
     Request,
     Granted,
@@ -22,7 +24,7 @@ pub enum MessageType {
 }
 
 // What the low four bits of a subtype name.
-#[derive(Drop)]
+#[derive(Clone, Copy)]
 pub enum Typed {
     Listed(MessageType),
     Unlisted,
@@ -30,44 +32,44 @@ pub enum Typed {
 
 // What a field can hold, or that the message has no such field: an octet, a number of 16 bits, a number of 32 bits, a place in line
 // with its priority, a part of the lent source (where it begins, and how many octets it has), a cause with its phrase, such a part.
-#[derive(Drop)]
+#[derive(Clone, Copy)]
 pub enum Octet {
     Absent,
     Is(u8),
 }
 
-#[derive(Drop)]
+#[derive(Clone, Copy)]
 pub enum Word {
     Absent,
     Is(u16),
 }
 
-#[derive(Drop)]
+#[derive(Clone, Copy)]
 pub enum Number {
     Absent,
     Is(u32),
 }
 
-#[derive(Drop)]
+#[derive(Clone, Copy)]
 pub enum Queue {
     Absent,
     Is(u8, u8),
 }
 
-#[derive(Drop)]
+#[derive(Clone, Copy)]
 pub enum Part {
     Absent,
     At(usize, usize),
 }
 
-#[derive(Drop)]
+#[derive(Clone, Copy)]
 pub enum Cause {
     Absent,
     Is(u16, usize, usize),
 }
 
 // A message as it is held: its fields in the table's order, identities and phrase as parts of a source that is lent beside it.
-#[derive(Drop)]
+#[derive(Clone, Copy)]
 pub struct Message {
     pub kind: MessageType,
     pub ack: bool,
@@ -89,7 +91,7 @@ pub struct Message {
 }
 
 // The refusals 1 to 13 of document 01 in its order, and 14 of document 02, #107; `refusal_number` of specs/ gives each its number.
-#[derive(Drop)]
+#[derive(Clone, Copy)]
 pub enum Refusal {
     TooShort,
     TooLong,
@@ -281,7 +283,7 @@ fn has_cause(c: Cause) -> bool
 }
 
 // Which of the fields that some type requires a message has.
-#[derive(Drop)]
+#[derive(Clone, Copy)]
 pub struct Has {
     pub duration: bool,
     pub cause: bool,

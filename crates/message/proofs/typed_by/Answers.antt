@@ -3,8 +3,7 @@ use Prim.Native.Nat.{ℕ, zero, suc}
 use mathlib.Core.Path.{◌≡◌, refl}
 use Rattle.message.specs.Types.{typed}
 use Rattle.message.specs.declared.Typed.TheVariants.{Unlisted}
-use Rattle.message.proofs.typed_by.Statement.{statement}
-use Rattle.message.proofs.typed_by.Tie as tie
+use Rattle.message.proofs.typed_by.Goals as goal
 
 -- the numbers that are not listed: 7, and all from 11 on
 unlisted-else : (n : ℕ) → (n ≡ 0 → ⊥) → (n ≡ 1 → ⊥) → (n ≡ 2 → ⊥) → (n ≡ 3 → ⊥) → (n ≡ 4 → ⊥) → (n ≡ 5 → ⊥) → (n ≡ 6 → ⊥) → (n ≡ 8 → ⊥) →
@@ -22,54 +21,38 @@ unlisted-else (suc (suc (suc (suc (suc (suc (suc (suc (suc zero))))))))) a b d e
 unlisted-else (suc (suc (suc (suc (suc (suc (suc (suc (suc (suc zero)))))))))) a b d e f g h i j k = absurd (k refl)
 unlisted-else (suc (suc (suc (suc (suc (suc (suc (suc (suc (suc (suc n))))))))))) a b d e f g h i j k = refl
 
-returns : tie.Need-returns
-returns c = rw c.match.keys1
+pub returns-in-0 : goal.returns-in-0
+returns-in-0 c = rw c.in-0.is
 
-returns-2 : tie.Need-returns-2
-returns-2 c = rw c.match.keys2
+pub returns-in-1 : goal.returns-in-1
+returns-in-1 c = rw c.in-1.is
 
-returns-3 : tie.Need-returns-3
-returns-3 c = rw c.match.keys3
+pub returns-in-2 : goal.returns-in-2
+returns-in-2 c = rw c.in-2.is
 
-returns-4 : tie.Need-returns-4
-returns-4 c = rw c.match.keys4
+pub returns-in-3 : goal.returns-in-3
+returns-in-3 c = rw c.in-3.is
 
-returns-5 : tie.Need-returns-5
-returns-5 c = rw c.match.keys5
+pub returns-in-4 : goal.returns-in-4
+returns-in-4 c = rw c.in-4.is
 
-returns-6 : tie.Need-returns-6
-returns-6 c = rw c.match.keys6
+pub returns-in-5 : goal.returns-in-5
+returns-in-5 c = rw c.in-5.is
 
-returns-7 : tie.Need-returns-7
-returns-7 c = rw c.match.keys7
+pub returns-in-6 : goal.returns-in-6
+returns-in-6 c = rw c.in-6.is
 
-returns-8 : tie.Need-returns-8
-returns-8 c = rw c.match.keys8
+pub returns-in-8 : goal.returns-in-8
+returns-in-8 c = rw c.in-8.is
 
-returns-9 : tie.Need-returns-9
-returns-9 c = rw c.match.keys9
+pub returns-in-9 : goal.returns-in-9
+returns-in-9 c = rw c.in-9.is
 
-returns-10 : tie.Need-returns-10
-returns-10 c = rw c.match.keys10
+pub returns-in-10 : goal.returns-in-10
+returns-in-10 c = rw c.in-10.is
 
-returns-11 : tie.Need-returns-11
-returns-11 c =
-    let r = c.match.rest in
-    unlisted-else c.before.args.low r.0.0.0.0.0.0.0.0.0.1 r.0.0.0.0.0.0.0.0.1 r.0.0.0.0.0.0.0.1
+pub returns-in_default : goal.returns-in_default
+returns-in_default c =
+    let r = c.in_default.in_default-own.rest in
+    unlisted-else c.args.low r.0.0.0.0.0.0.0.0.0.1 r.0.0.0.0.0.0.0.0.1 r.0.0.0.0.0.0.0.1
     r.0.0.0.0.0.0.1 r.0.0.0.0.0.1 r.0.0.0.0.1 r.0.0.0.1 r.0.0.1 r.0.1 r.1
-
-pub typed-by-spec : {M : Type 1} → statement M
-typed-by-spec =
-    tie.close
-    (tie.spec
-    returns
-    returns-2
-    returns-3
-    returns-4
-    returns-5
-    returns-6
-    returns-7
-    returns-8
-    returns-9
-    returns-10
-    returns-11)
