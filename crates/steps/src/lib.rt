@@ -1,5 +1,7 @@
 // What a step of the desk is made of: the core that it leaves, and its report of messages and marks (document 01, "The desk"). The words
 // that the rules are written with stand in specs/.
+#![tactic(auto)]
+
 ghost use Rattle.std.specs.Prelude.{◌≡◌};
 ghost use Rattle.steps.specs.Words.{◌in_phase◌, ◌with_line◌, next, ◌⇒◌, silence, is_nothing, report_of, answered, done, ◌sends◌, ◌marks_struck◌, ◌marks_ended◌, marked};
 
@@ -7,7 +9,7 @@ use hall::Answer;
 use line::{Entry, Line};
 
 // What runs in Taken beside T1.
-#[derive(Drop)]
+#[derive(Clone, Copy)]
 pub enum AlsoRuns {
     NoMore,
     T2,
@@ -16,7 +18,7 @@ pub enum AlsoRuns {
 
 // Idle says whether T7 runs beside T4; Taken and Revoking have their holder, with the priority it was given the floor at; Revoking has
 // the cause. The timers that run follow.
-#[derive(Drop)]
+#[derive(Clone, Copy)]
 pub enum Phase {
     Stopped,
     Idle(bool),
@@ -24,7 +26,7 @@ pub enum Phase {
     Revoking(Entry, u16),
 }
 
-#[derive(Drop)]
+#[derive(Clone, Copy)]
 pub struct Core {
     pub phase: Phase,
     pub line: Line,
@@ -35,7 +37,7 @@ pub struct Core {
 
 // An outgoing message: Granted has its priority, Taken who was given the floor and the sequence number, Deny and Revoke their cause, Idle
 // the sequence number, Info (Queue Position Info) the place and the priority.
-#[derive(Drop)]
+#[derive(Clone, Copy)]
 pub enum Kind {
     Nothing,
     Granted(u8),
@@ -46,26 +48,26 @@ pub enum Kind {
     Info(u8, u8),
 }
 
-#[derive(Drop)]
+#[derive(Clone, Copy)]
 pub struct Sending {
     pub kind: Kind,
     pub to: [bool; 16],
 }
 
-#[derive(Drop)]
+#[derive(Clone, Copy)]
 pub enum Mark {
     NoSeat,
     Seat(u8),
 }
 
-#[derive(Drop)]
+#[derive(Clone, Copy)]
 pub enum Given {
     NotGiven,
     AtOnce(u8),
     OutOfLine(u8),
 }
 
-#[derive(Drop)]
+#[derive(Clone, Copy)]
 pub struct Marks {
     pub placed: Mark,
     pub struck: [bool; 16],
@@ -73,7 +75,7 @@ pub struct Marks {
     pub given: Given,
 }
 
-#[derive(Drop)]
+#[derive(Clone, Copy)]
 pub struct Report {
     pub first: Sending,
     pub second: Sending,
@@ -81,7 +83,7 @@ pub struct Report {
 }
 
 // The answer stands last: fields lie in this order, and a small one in front of a large one makes every copy of the whole dearer.
-#[derive(Drop)]
+#[derive(Clone, Copy)]
 pub struct Step {
     pub core: Core,
     pub report: Report,
