@@ -12,40 +12,35 @@ use report_octets::Told;
 // Which face this is. A header and an archive that answer the same number belong together.
 const VERSION: u32 = 4;
 
-#[unsafe(no_mangle)]
-pub extern "C" fn floor_version() -> i32
+pub fn floor_version() -> i32
     ensures { VersionPromise result }
 {
     signed::found(VERSION)
 }
 
 // The call starts.
-#[unsafe(no_mangle)]
-pub extern "C" fn floor_start(desk: &mut [u8], report: &mut [u8]) -> i32
+pub fn floor_start(desk: &mut [u8], report: &mut [u8]) -> i32
     ensures { StartPromise desk.old report.old result desk.new report.new }
 {
     desk_steps::event_on(desk, report, Event::Start)
 }
 
 // The call stops.
-#[unsafe(no_mangle)]
-pub extern "C" fn floor_stop(desk: &mut [u8], report: &mut [u8]) -> i32
+pub fn floor_stop(desk: &mut [u8], report: &mut [u8]) -> i32
     ensures { StopPromise desk.old report.old result desk.new report.new }
 {
     desk_steps::event_on(desk, report, Event::Stop)
 }
 
 // Media came in from this SSRC.
-#[unsafe(no_mangle)]
-pub extern "C" fn floor_media(desk: &mut [u8], ssrc: u32, report: &mut [u8]) -> i32
+pub fn floor_media(desk: &mut [u8], ssrc: u32, report: &mut [u8]) -> i32
     ensures { MediaPromise desk.old ssrc report.old result desk.new report.new }
 {
     desk_steps::event_on(desk, report, Event::Media(ssrc))
 }
 
 // A packet came in.
-#[unsafe(no_mangle)]
-pub extern "C" fn floor_packet(desk: &mut [u8], packet: &[u8], report: &mut [u8]) -> i32
+pub fn floor_packet(desk: &mut [u8], packet: &[u8], report: &mut [u8]) -> i32
     ensures { PacketPromise desk.old packet.now report.old result desk.new report.new }
 {
     if desk_test::is_desk(desk) {
@@ -59,8 +54,7 @@ pub extern "C" fn floor_packet(desk: &mut [u8], packet: &[u8], report: &mut [u8]
 }
 
 // A timer fired.
-#[unsafe(no_mangle)]
-pub extern "C" fn floor_timer(desk: &mut [u8], timer: u32, report: &mut [u8]) -> i32
+pub fn floor_timer(desk: &mut [u8], timer: u32, report: &mut [u8]) -> i32
     ensures { TimerPromise desk.old timer report.old result desk.new report.new }
 {
     let named = timers::timer_named(timer);
@@ -68,8 +62,7 @@ pub extern "C" fn floor_timer(desk: &mut [u8], timer: u32, report: &mut [u8]) ->
 }
 
 // A seat leaves.
-#[unsafe(no_mangle)]
-pub extern "C" fn floor_leave(desk: &mut [u8], seat: u32, report: &mut [u8]) -> i32
+pub fn floor_leave(desk: &mut [u8], seat: u32, report: &mut [u8]) -> i32
     ensures { LeavePromise desk.old seat report.old result desk.new report.new }
 {
     if desk_test::is_desk(desk) {
@@ -84,8 +77,7 @@ pub extern "C" fn floor_leave(desk: &mut [u8], seat: u32, report: &mut [u8]) -> 
 }
 
 // Makes a fresh desk.
-#[unsafe(no_mangle)]
-pub extern "C" fn floor_make(
+pub fn floor_make(
     desk: &mut [u8],
     ssrc: u32,
     level: u32,
@@ -112,8 +104,7 @@ pub extern "C" fn floor_make(
 }
 
 // Makes a fresh desk from a sheet.
-#[unsafe(no_mangle)]
-pub extern "C" fn floor_load(desk: &mut [u8], sheet: &[u8]) -> i32
+pub fn floor_load(desk: &mut [u8], sheet: &[u8]) -> i32
     ensures { LoadPromise desk.old sheet.now result desk.new }
 {
     let loading = loading::load(sheet);
@@ -126,8 +117,7 @@ pub extern "C" fn floor_load(desk: &mut [u8], sheet: &[u8]) -> i32
 }
 
 // Takes the lowest free seat, and answers it.
-#[unsafe(no_mangle)]
-pub extern "C" fn floor_join(
+pub fn floor_join(
     desk: &mut [u8],
     identity: &[u8],
     ssrc: u32,
@@ -158,8 +148,7 @@ pub extern "C" fn floor_join(
     }
 }
 
-#[unsafe(no_mangle)]
-pub extern "C" fn floor_phase(desk: &[u8]) -> i32
+pub fn floor_phase(desk: &[u8]) -> i32
     ensures { PhasePromise desk.now result }
 {
     if desk_test::is_desk(desk) {
@@ -171,8 +160,7 @@ pub extern "C" fn floor_phase(desk: &[u8]) -> i32
     }
 }
 
-#[unsafe(no_mangle)]
-pub extern "C" fn floor_holder(desk: &[u8]) -> i32
+pub fn floor_holder(desk: &[u8]) -> i32
     ensures { HolderPromise desk.now result }
 {
     if desk_test::is_desk(desk) {
@@ -184,8 +172,7 @@ pub extern "C" fn floor_holder(desk: &[u8]) -> i32
     }
 }
 
-#[unsafe(no_mangle)]
-pub extern "C" fn floor_holder_priority(desk: &[u8]) -> i32
+pub fn floor_holder_priority(desk: &[u8]) -> i32
     ensures { HolderPriorityPromise desk.now result }
 {
     if desk_test::is_desk(desk) {
@@ -197,8 +184,7 @@ pub extern "C" fn floor_holder_priority(desk: &[u8]) -> i32
     }
 }
 
-#[unsafe(no_mangle)]
-pub extern "C" fn floor_running(desk: &[u8]) -> i32
+pub fn floor_running(desk: &[u8]) -> i32
     ensures { RunningPromise desk.now result }
 {
     if desk_test::is_desk(desk) {
@@ -210,8 +196,7 @@ pub extern "C" fn floor_running(desk: &[u8]) -> i32
     }
 }
 
-#[unsafe(no_mangle)]
-pub extern "C" fn floor_sequence(desk: &[u8]) -> i32
+pub fn floor_sequence(desk: &[u8]) -> i32
     ensures { SequencePromise desk.now result }
 {
     if desk_test::is_desk(desk) {
@@ -222,8 +207,7 @@ pub extern "C" fn floor_sequence(desk: &[u8]) -> i32
     }
 }
 
-#[unsafe(no_mangle)]
-pub extern "C" fn floor_c7(desk: &[u8]) -> i32
+pub fn floor_c7(desk: &[u8]) -> i32
     ensures { C7Promise desk.now result }
 {
     if desk_test::is_desk(desk) {
@@ -234,8 +218,7 @@ pub extern "C" fn floor_c7(desk: &[u8]) -> i32
     }
 }
 
-#[unsafe(no_mangle)]
-pub extern "C" fn floor_c20(desk: &[u8]) -> i32
+pub fn floor_c20(desk: &[u8]) -> i32
     ensures { C20Promise desk.now result }
 {
     if desk_test::is_desk(desk) {
@@ -246,8 +229,7 @@ pub extern "C" fn floor_c20(desk: &[u8]) -> i32
     }
 }
 
-#[unsafe(no_mangle)]
-pub extern "C" fn floor_seats(desk: &[u8]) -> i32
+pub fn floor_seats(desk: &[u8]) -> i32
     ensures { SeatsPromise desk.now result }
 {
     if desk_test::is_desk(desk) {
@@ -259,8 +241,7 @@ pub extern "C" fn floor_seats(desk: &[u8]) -> i32
     }
 }
 
-#[unsafe(no_mangle)]
-pub extern "C" fn floor_seat_by_ssrc(desk: &[u8], ssrc: u32) -> i32
+pub fn floor_seat_by_ssrc(desk: &[u8], ssrc: u32) -> i32
     ensures { SeatBySsrcPromise desk.now ssrc result }
 {
     if desk_test::is_desk(desk) {
@@ -271,8 +252,7 @@ pub extern "C" fn floor_seat_by_ssrc(desk: &[u8], ssrc: u32) -> i32
     }
 }
 
-#[unsafe(no_mangle)]
-pub extern "C" fn floor_seat_by_identity(desk: &[u8], identity: &[u8]) -> i32
+pub fn floor_seat_by_identity(desk: &[u8], identity: &[u8]) -> i32
     ensures { SeatByIdentityPromise desk.now identity.now result }
 {
     if desk_test::is_desk(desk) {
@@ -285,40 +265,35 @@ pub extern "C" fn floor_seat_by_identity(desk: &[u8], identity: &[u8]) -> i32
 }
 
 // A seat as the sheet lays it out.
-#[unsafe(no_mangle)]
-pub extern "C" fn floor_seat(desk: &[u8], seat: u32, room: &mut [u8]) -> i32
+pub fn floor_seat(desk: &[u8], seat: u32, room: &mut [u8]) -> i32
     ensures { SeatPromise desk.now seat room.old result room.new }
 {
     seat_looking::seat_on(desk, seat, room)
 }
 
 // The settings as the sheet lays them out.
-#[unsafe(no_mangle)]
-pub extern "C" fn floor_settings(desk: &[u8], room: &mut [u8]) -> i32
+pub fn floor_settings(desk: &[u8], room: &mut [u8]) -> i32
     ensures { SettingsPromise desk.now room.old result room.new }
 {
     seat_looking::settings_on(desk, room)
 }
 
 // The clocks to start anew after a step.
-#[unsafe(no_mangle)]
-pub extern "C" fn floor_starts(before: u32, after: u32, fired: u32, report: &[u8]) -> i32
+pub fn floor_starts(before: u32, after: u32, fired: u32, report: &[u8]) -> i32
     ensures { StartsPromise before after fired report.now result }
 {
     clocks_looking::starts_on(before, after, fired, report)
 }
 
 // The clocks to stop.
-#[unsafe(no_mangle)]
-pub extern "C" fn floor_stops(before: u32, after: u32) -> i32
+pub fn floor_stops(before: u32, after: u32) -> i32
     ensures { StopsPromise before after result }
 {
     clocks_looking::stops_on(before, after)
 }
 
 // The line for the wall screen.
-#[unsafe(no_mangle)]
-pub extern "C" fn floor_screen(desk: &[u8], room: &mut [u8]) -> i32
+pub fn floor_screen(desk: &[u8], room: &mut [u8]) -> i32
     ensures { ScreenPromise desk.now room.old result room.new }
 {
     if desk_test::is_desk(desk) {
@@ -331,8 +306,7 @@ pub extern "C" fn floor_screen(desk: &[u8], room: &mut [u8]) -> i32
 }
 
 // Saves seats and settings.
-#[unsafe(no_mangle)]
-pub extern "C" fn floor_save(desk: &[u8], room: &mut [u8]) -> i32
+pub fn floor_save(desk: &[u8], room: &mut [u8]) -> i32
     ensures { SavePromise desk.now room.old result room.new }
 {
     if desk_test::is_desk(desk) {
@@ -345,8 +319,7 @@ pub extern "C" fn floor_save(desk: &[u8], room: &mut [u8]) -> i32
 }
 
 // A report's message as its packet.
-#[unsafe(no_mangle)]
-pub extern "C" fn floor_message(desk: &[u8], report: &[u8], which: u32, room: &mut [u8]) -> i32
+pub fn floor_message(desk: &[u8], report: &[u8], which: u32, room: &mut [u8]) -> i32
     ensures { MessagePromise desk.now report.now which room.old result room.new }
 {
     if !desk_test::is_desk(desk) {
@@ -359,16 +332,14 @@ pub extern "C" fn floor_message(desk: &[u8], report: &[u8], which: u32, room: &m
 }
 
 // Reads a packet into a message's 40 octets.
-#[unsafe(no_mangle)]
-pub extern "C" fn floor_read(packet: &[u8], message: &mut [u8]) -> i32
+pub fn floor_read(packet: &[u8], message: &mut [u8]) -> i32
     ensures { ReadPromise packet.now message.old result message.new }
 {
     signed::refusal(message_octets::read_held(packet, message))
 }
 
 // Writes a message as a packet.
-#[unsafe(no_mangle)]
-pub extern "C" fn floor_write(message: &[u8], source: &[u8], room: &mut [u8]) -> i32
+pub fn floor_write(message: &[u8], source: &[u8], room: &mut [u8]) -> i32
     ensures { WritePromise message.now source.now room.old result room.new }
 {
     desk_looking::written_number(message_writing::write_held(message, source, room))
