@@ -1,17 +1,19 @@
 // Identities, and the names of those who sit in a hall (document 01, "The desk"). Whether two identities are the same is tested here and
 // nowhere else.
+#![tactic(auto)]
+
 ghost use Rattle.std.specs.Prelude.{◌≡◌, ◌≤◌, length, get_or};
 ghost use Rattle.identities.specs.Identity.{octets_of, name_of, no_names, name_at, with_name, same, seat_named, length_allowed};
 
 use hall::{Found, Hall};
 
-#[derive(Drop)]
+#[derive(Clone, Copy)]
 pub struct Name {
     pub octets: [u8; 62],
     pub len: usize,
 }
 
-#[derive(Drop)]
+#[derive(Clone, Copy)]
 pub struct Names {
     pub of: [Name; 16],
 }
