@@ -32,7 +32,7 @@ module _ (n : ℕ) (h : n < 2147483648) where
 
 -- a signed answer that is handed on
 pub passed : {z : ℤ} → mag z < 2147483648 → to_z w32 (of_z w32 z) ≡ z
-passed h = to_z-of_z (record { sfits = h })
+passed h = to_z-of_z {w = w32} (record { sfits = h })
 
 -- an answer and a room
 pub pair_same {ℓ} : {A B : Type ℓ} {a a' : A} {b b' : B} → a ≡ a' → b ≡ b' → ◌≡◌ {A = A × B} (a, b) (a', b')
