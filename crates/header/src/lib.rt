@@ -1,4 +1,6 @@
 // A packet's first twelve octets (document 01, "The packet"), read, which is checks 1 to 8 ("What is answered to packets"), and written.
+#![tactic(auto)]
+
 ghost use Rattle.std.specs.Prelude.{◌≡◌, ◌≤◌, length};
 ghost use Rattle.octets.specs.Octets.{over};
 ghost use Rattle.header.specs.Header.{header_size, longest_packet, ends, first_octet, headed};
@@ -7,7 +9,7 @@ ghost use Rattle.header.specs.Opening.{Opens};
 use message::{MessageType, Refusal, Typed};
 
 // What a packet is judged to be: one of a type, or refused.
-#[derive(Drop)]
+#[derive(Clone, Copy)]
 pub enum Opening {
     Of(MessageType),
     Refused(Refusal),
