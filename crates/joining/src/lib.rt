@@ -1,4 +1,6 @@
 // Join (document 01, "The desk"): whoever takes a seat, at a running call or from a sheet, comes through here.
+#![tactic(auto)]
+
 ghost use Rattle.std.specs.Prelude.{◌≡◌};
 ghost use Rattle.hall.specs.Seats.{free_seat};
 ghost use Rattle.joining.specs.Join.{join, seated, not_joined, ssrc_taken};
@@ -7,7 +9,7 @@ use hall::{Answer, Found, Hall, Newcomer};
 use identities::Names;
 
 // The answer, the seat that was taken, if any, and the hall and the names then.
-#[derive(Drop)]
+#[derive(Clone, Copy)]
 pub struct Joined {
     pub answer: Answer,
     pub seat: Found,
