@@ -1,10 +1,12 @@
 // One field of a packet, judged on the packet and a place in it (document 01, "The packet" and "What is answered to packets", 9 and 10).
+#![tactic(auto)]
+
 ghost use Rattle.std.specs.Prelude.{◌≡◌, ◌+◌, ◌≤◌, ◌<◌, ◌^◌, length};
 ghost use Rattle.message.specs.Table.{padded};
 ghost use Rattle.field.specs.Fields.{step_at};
 
 // A field: its ID, where its content starts, its length, and where the next field starts.
-#[derive(Drop)]
+#[derive(Clone, Copy)]
 pub struct FieldFound {
     pub id: u8,
     pub start: usize,
@@ -14,7 +16,7 @@ pub struct FieldFound {
 
 // What stands at a place of a packet: a field of the table, one that is skipped, the packet's end, or a field that is at fault. One that is
 // against the table is told with its ID: whoever knows that it came before gives 14 in place of 10.
-#[derive(Drop)]
+#[derive(Clone, Copy)]
 pub enum FieldStep {
     Field(FieldFound),
     Skipped(FieldFound),
