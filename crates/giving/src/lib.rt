@@ -1,4 +1,6 @@
 // The floor is given, ends, passes on to the head of the line, is revoked (document 01, "The desk").
+#![tactic(auto)]
+
 ghost use Rattle.std.specs.Prelude.{◌≡◌};
 ghost use Rattle.line.specs.Line.{waiting};
 ghost use Rattle.steps.specs.Words.{◌marks_given◌};
