@@ -1,4 +1,6 @@
 // A report as octets (docs/FORMS.md).
+#![tactic(auto)]
+
 ghost use Rattle.std.specs.Prelude.{◌≡◌, ◌+◌, ◌<◌, ◌≤◌, length};
 ghost use Rattle.octets.specs.Octets.{over};
 ghost use Rattle.words.specs.Choice.{one};
@@ -33,7 +35,7 @@ const ZERO_WITHIN: usize = 5;
 const MASK_WITHIN: usize = 6;
 
 // What a message has beside its receivers: its kind's number, a seat, a number, a priority; zeros for what it has not.
-#[derive(Drop)]
+#[derive(Clone, Copy)]
 pub struct Particulars {
     pub kind: u8,
     pub seat: u8,
@@ -42,7 +44,7 @@ pub struct Particulars {
 }
 
 // What octets say: a message's kind, or that they are no message's.
-#[derive(Drop)]
+#[derive(Clone, Copy)]
 pub enum Told {
     Says(Kind),
     NoMessage,

@@ -1,0 +1,5 @@
+-- `report_octets::said_at` keeps its promise, `t ≡ said_at (now r.entry) at`. Assumes nothing.
+use Rattle.report_octets.proofs.said_at.Goals as goal
+
+pub returns : goal.returns
+returns c = rw (← c.particulars_at-q.ensures) c.said_by.ensures
