@@ -5,7 +5,7 @@ use native.Mathlib.Omega.{arith}
 use mathlib.Core.List.{List, [], ◌∷◌, ◌++◌, append_assoc}
 use mathlib.Core.Path.{◌≡◌, refl, sym, ap, subst, ◌∙◌}
 use lib.Dec.{ltb, leb}
-use lib.ListN.{length, take, drop, get_or, set, replicate, length-take, length-drop, length-append, get_or-append, get_or-eq_default}
+use lib.ListN.{length, take, drop, get_or, set, replicate, length-take, get_or-append, get_or-eq_default}
 use lib.Seq.{take-suc, take_all, drop-cons, set_at, get_or-append-add}
 use borrow.Author.Tests.{le-leb, lt-leb, leb-true, leb-false, ltb-true, ltb-false}
 use Rattle.words.specs.Choice.{if◌then◌else◌, by_test, if_yes, if_no}
@@ -20,10 +20,6 @@ use Rattle.screen.specs.Screen.{shown_in, list_answer, shown_answer, over_first,
 -- the first i entries of the line over the room's
 abbrev pub up_to : List Entry → List Entry → ℕ → List Entry
 up_to es room i = take i es ++ drop i room
-
-module _ (es room : List Entry) (i : ℕ) (in-line : i ≤ length es) (in-room : i ≤ length room) where
-  pub upto_long : length (up_to es room i) ≡ length room
-  upto_long = rw (length-append (take i es) (drop i room), length-take i es, length-drop i room) (omega (arith, in-line, in-room))
 
 module _ (es room : List Entry) (i : ℕ) (in-line : i < length es) (in-room : i < length room) where
   pub upto_more : set (up_to es room i) i (get_or es i empty) ≡ up_to es room (i + 1)

@@ -1,2 +1,2 @@
--- What the walks share, and laws of the list in the room.
+-- What the proofs share, and laws of the list in the room.
 pub mod Laws

@@ -1,6 +1,7 @@
-// The wall screen's list (document 01, "The desk"): the line, as a list of entries in lent room, in any phase. A function that is lent a
-// slice of structs is not covered, so `fill` is thin: how many entries are shown, which one stands at a place, and the answer are
-// covered functions'.
+// The wall screen's list (document 01, "The desk"): the line, as a list of entries in lent room, in any phase. `fill` is thin: how many
+// entries are shown, which one stands at a place, and the answer are functions of their own.
+#![tactic(auto)]
+
 ghost use Rattle.std.specs.Prelude.{◌≡◌, length};
 ghost use Rattle.line.specs.Line.{waiting};
 ghost use Rattle.screen.specs.Screen.{shown_in, list_answer, shown_answer, filled, listing};
@@ -8,7 +9,7 @@ ghost use Rattle.screen.specs.Screen.{shown_in, list_answer, shown_answer, fille
 use line::{Entry, Line};
 
 // The answer of a list: how many wait, all of whom are in the room; or refusal 13.
-#[derive(Drop)]
+#[derive(Clone, Copy)]
 pub enum Shown {
     All(usize),
     NoRoom,
