@@ -1,6 +1,8 @@
 // The reader that rests on a packet and hands out one field at a time (document 01, "The packet"): a struct that holds the packet and a
-// place in it. No function over such a struct is covered, so each is thin: it takes the struct apart and leaves every decision to a
-// covered function on the slice and the number. `reading` walks every packet through it; whoever wants no proof by hand calls `handed`.
+// place in it. Each function over it is thin: it takes the struct apart and leaves every decision to a function on the slice and the
+// number. `reading` walks every packet through it; whoever has a packet and a place, and no reader, calls `handed`.
+#![tactic(auto)]
+
 ghost use Rattle.std.specs.Prelude.{◌≡◌};
 ghost use Rattle.header.specs.Header.{header_size};
 ghost use Rattle.field.specs.Fields.{step_at};
@@ -8,7 +10,7 @@ ghost use Rattle.reader.specs.Reader.{behind};
 
 use field::FieldStep;
 
-#[derive(Drop)]
+#[derive(Clone, Copy)]
 pub struct Reader<'a> {
     pub packet: &'a [u8],
     pub at: usize,
