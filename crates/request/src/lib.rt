@@ -1,5 +1,7 @@
 // Request, by its rules 1 to 6 (document 01, "The desk"). The rules stand in specs/Request; rules 4 and 5 end alike, by rule 6, so that
 // `asks_again` and `placed` are one function here, `stand`: specs/Cut has what is there for the sake of such cuts.
+#![tactic(auto)]
+
 ghost use Rattle.std.specs.Prelude.{◌≡◌};
 ghost use Rattle.steps.specs.Words.{◌placing◌};
 ghost use Rattle.request.specs.Request.{is_idle, waits, priority_in, full, holder_at_least, presses, denied, info_of, holder_asks, informed, pressed, rule6, stays_or_moves, idle_request, request};
