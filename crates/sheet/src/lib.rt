@@ -1,5 +1,7 @@
 // The layout of a sheet (document 01, "The sheet"): its places and sizes, and its trailer, put and judged. specs/Layout.antt has it as a
 // table.
+#![tactic(auto)]
+
 ghost use Rattle.std.specs.Prelude.{◌≡◌, ◌+◌, ◌≤◌, length};
 ghost use Rattle.octets.specs.Octets.{over};
 ghost use Rattle.sheet.specs.Layout.{trailer_size, trailer};
@@ -34,7 +36,7 @@ const FORM_PLACE: usize = 5;
 const LETTERS_PLACE: usize = 6;
 
 // What loading answers; specs/Framing.antt has the paper's number of each.
-#[derive(Drop)]
+#[derive(Clone, Copy)]
 pub enum Verdict {
     Accepted,
     NotASheet,
