@@ -21,7 +21,7 @@ loop-i-preserved c =
     let q : a.from + a.count ≤ length a.s.now = c.requires.count_in_bounds_2 in
     let t : 64 < a.count - l.i = c.loop-i-test.true in (
       omega arith,
-      c.put_sixty_four.auto.0 ∙ l.invariant.1,
+      c.put_sixty_four.auto.room ∙ l.invariant.1,
       over_again a.room.now a.s.now a.at a.from l.i l.i 64 refl (omega arith) (omega arith) (omega arith)
           (omega arith) l.invariant.2 c.put_sixty_four.ensures,
     )
