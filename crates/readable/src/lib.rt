@@ -1,4 +1,6 @@
 // Whether a reader would accept a message, held as the struct has it beside a source (document 01, "What is answered to packets", 12).
+#![tactic(auto)]
+
 ghost use Rattle.std.specs.Prelude.{◌≡◌, ◌+◌, leb};
 ghost use Rattle.message.specs.Message.{part_lies, phrase_lies, lies};
 ghost use Rattle.readable.specs.Readable.{readable};
@@ -17,7 +19,7 @@ fn within(from: usize, count: usize, len: usize) -> bool
 }
 
 // Whether what a field holds is in the source.
-pub fn part_lies_lem(p: Part, src: &[u8]) -> bool
+pub fn part_lies(p: Part, src: &[u8]) -> bool
     ensures { result ≡ part_lies src.now p }
 {
     match p {
@@ -36,13 +38,14 @@ pub fn phrase_lies(c: Cause, src: &[u8]) -> bool
 }
 
 // Whether the identities and the phrase are in the source.
+#[tactic(auto, unfolding(message::specs::Message::lies))]
 fn lies(m: Message, src: &[u8]) -> bool
     ensures { result ≡ lies m src.now }
 {
     let granted = m.granted;
     let user = m.user;
     let cause = m.cause;
-    part_lies_lem(granted, src) && part_lies_lem(user, src) && phrase_lies(cause, src)
+    part_lies(granted, src) && part_lies(user, src) && phrase_lies(cause, src)
 }
 
 // L of a cause is 2 more than its phrase, and at most 255.
@@ -76,6 +79,7 @@ pub fn content_fits(id: u8, w: Word) -> bool
 }
 
 // Whether no field is against the table. Only these five can be: the others have one length, and any content.
+#[tactic(auto, unfolding(crate::specs::Fitting::fitting))]
 fn all_fit(m: Message) -> bool
     ensures { result ≡ fitting m }
 {
@@ -92,6 +96,7 @@ fn all_fit(m: Message) -> bool
 }
 
 // Whether a reader would accept the message.
+#[tactic(auto, using(crate::proofs::Fits::readable_by))]
 pub fn readable(m: Message, src: &[u8]) -> bool
     ensures { result ≡ readable m src.now }
 {

@@ -5,17 +5,13 @@ use lib.Dec.{leb}
 use borrow.Author.Tests.{leb-true, leb-false, le-leb, lt-leb}
 use Rattle.words.specs.Choice.{by_test}
 use native.Mathlib.Omega.{arith}
-use Rattle.readable.proofs.within.Statement.{statement}
-use Rattle.readable.proofs.within.Tie as tie
+use Rattle.readable.proofs.within.Goals as goal
 
-returns : tie.Need-returns
-returns c = let a = c.before.args in sym (lt-leb (a.from + a.count) a.len (omega arith))
+pub returns-then-len-from : goal.returns-then-len-from
+returns-then-len-from c = let a = c.args in sym (lt-leb (a.from + a.count) a.len (omega arith))
 
-returns-2 : tie.Need-returns-2
-returns-2 c = let a = c.before.args in
+pub returns : goal.returns
+returns c = let a = c.args in
     by_test (leb a.count (a.len - a.from))
     (λ t. let h = leb-true a.count (a.len - a.from) t in t ∙ sym (le-leb (a.from + a.count) a.len (omega arith)))
     (λ t. let h = leb-false a.count (a.len - a.from) t in t ∙ sym (lt-leb (a.from + a.count) a.len (omega arith)))
-
-pub within-spec : {M : Type 1} → statement M
-within-spec = tie.close (tie.spec returns returns-2)

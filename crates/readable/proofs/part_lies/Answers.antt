@@ -1,0 +1,6 @@
+-- `readable::part_lies` keeps its promise, `r ≡ part_lies (now src.entry) p`. Whether what a field holds is in the source. Assumes
+-- nothing.
+use Rattle.readable.proofs.part_lies.Goals as goal
+
+pub returns-in-At : goal.returns-in-At
+returns-in-At c = rw c.in-At.is c.within.ensures
