@@ -1,11 +1,13 @@
 // The timers of a call: their numbers, and which run (document 01, "The desk"). What happens when one fires stands in `firing`.
+#![tactic(auto)]
+
 ghost use Rattle.std.specs.Prelude.{◌≡◌};
 ghost use Rattle.timers.specs.Timers.{timer_named, running, runs, is_stopped};
 
 use steps::{AlsoRuns, Phase};
 
 // A timer; NoSuchTimer is what a number names that no timer has, and never runs.
-#[derive(Drop)]
+#[derive(Clone, Copy)]
 pub enum Timer {
     T1,
     T2,
@@ -17,7 +19,7 @@ pub enum Timer {
     NoSuchTimer,
 }
 
-#[derive(Drop)]
+#[derive(Clone, Copy)]
 pub struct Running {
     pub t1: bool,
     pub t2: bool,
