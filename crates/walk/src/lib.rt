@@ -1,6 +1,8 @@
 // All fields of a packet (document 01, "The packet" and "What is answered to packets", 9 and 10; document 02, #107, 14), as the reader that
 // rests on the packet hands them out: where the content of each field of the table starts, in an array with a place for each ID below 16.
 // The array is also the memory of what came before: no walk looks back over the packet.
+#![tactic(auto)]
+
 ghost use Rattle.std.specs.Prelude.{◌≡◌, not, replicate};
 ghost use Rattle.field.specs.Fields.{fields_in};
 ghost use Rattle.walk.specs.Walk.{has_come, noted, is_passed, noted_step, ended_by, Walked, WholeAnswer};
@@ -8,7 +10,7 @@ ghost use Rattle.walk.specs.Walk.{has_come, noted, is_passed, noted_step, ended_
 use field::FieldStep;
 
 // How a walk over all fields ended.
-#[derive(Drop)]
+#[derive(Clone, Copy)]
 pub enum Walk {
     Whole,
     PastTheEnd,
