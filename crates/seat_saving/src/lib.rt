@@ -1,5 +1,7 @@
 // What one seat puts on a sheet (document 01, "The sheet"): how many octets that is, and the octets. specs/Seat.antt has it of any seat of a
 // hall, taken or free; the whole sheet stands in `saving`.
+#![tactic(auto)]
+
 ghost use Rattle.std.specs.Prelude.{◌≡◌, ◌+◌, ◌≤◌, ◌<◌, length};
 ghost use Rattle.octets.specs.Octets.{over};
 ghost use Rattle.identities.specs.Identity.{octets_of};
