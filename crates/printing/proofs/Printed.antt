@@ -8,15 +8,15 @@ use mathlib.Core.List.{List}
 use mathlib.Core.Path.{◌≡◌}
 use lib.Dec.{leb}
 use lib.ListN.{length, get_or}
+use Rattle.std.specs.Prelude.{slice_range}
 use borrow.Author.Tests.{leb-true, leb-false}
-use Rattle.bytes.specs.Bytes.{index_of, slice}
 use Rattle.io.specs.Digits.{IsDigitCount}
 use Rattle.words.specs.Choice.{by_test}
-use Rattle.printing.specs.Printed.{piece_start, Pieces, count_in, PiecesCoincide, DigitsCoincide}
+use Rattle.printing.specs.Printed.{index_of, piece_start, Pieces, count_in, PiecesCoincide, DigitsCoincide}
 
 module _ (mark : ℕ) (s : List ℕ) where
   -- behind the mark that is found from where piece k begins, the next one begins
-  pub next-begins : (k from end : ℕ) → from ≡ piece_start mark s k → end ≡ from + index_of mark (slice from (length s) s)
+  pub next-begins : (k from end : ℕ) → from ≡ piece_start mark s k → end ≡ from + index_of mark (slice_range s from (length s))
       → end + 1 ≡ piece_start mark s (k + 1)
   unfolding piece_start
   next-begins k from end p q = rw (add-one k, q, p)
