@@ -1,4 +1,6 @@
 // Which clocks a step of the desk starts anew, and which it stops. specs/Clocks.antt has the rule, for each timer.
+#![tactic(auto)]
+
 ghost use Rattle.std.specs.Prelude.{◌≡◌, not, ◌&&◌, ◌||◌};
 ghost use Rattle.clocks.specs.Clocks.{timer_number, starts_anew, stopped_timers};
 
