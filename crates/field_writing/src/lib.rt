@@ -1,4 +1,6 @@
 // One field written: how many octets it takes, and laid at a place (document 01, "The packet").
+#![tactic(auto)]
+
 ghost use Rattle.std.specs.Prelude.{◌≡◌, [], ◌∷◌, ◌++◌, true, ◌+◌, ◌≤◌, length, replicate};
 ghost use Rattle.octets.specs.Octets.{part, Laid};
 ghost use Rattle.message.specs.Table.{padding, row_of};

@@ -1,0 +1,21 @@
+-- `field_writing::put_queue` keeps its promise, `Laid (now room.entry) at (optional 3 (of_queue q)) (now room.exit) r`. Lays Queue
+-- Info. Assumes nothing.
+use mathlib.Core.Path.{ap}
+use lib.ListN.{length}
+use Rattle.field_writing.specs.Wire.{optional}
+use Rattle.octets.proofs.Lays.{lay_none, lay_as}
+use Rattle.field_writing.proofs.Fields.{queue_is}
+use native.Mathlib.Omega.{arith}
+use Rattle.field_writing.proofs.put_queue.Goals as goal
+
+pub put_two-requires : goal.put_two-requires
+put_two-requires c =
+    let a = c.args in omega (arith, c.requires, ap length (queue_is c.in-Is.is))
+
+pub returns-in-Absent : goal.returns-in-Absent
+unfolding optional
+returns-in-Absent c = rw c.in-Absent.is (lay_none c.args.room.now c.args.at)
+
+pub returns-in-Is : goal.returns-in-Is
+returns-in-Is c =
+    let a = c.args in lay_as (queue_is c.in-Is.is) c.put_two.ensures
