@@ -6,7 +6,6 @@ use Rattle.line.specs.Line.{waiting, line_of, seat_set}
 use Rattle.hall.specs.declared.Hall.{Hall}
 use Rattle.hall.specs.declared.Answer.TheVariants.{CallStopped, NotExpected}
 use Rattle.hall.specs.Seats.{only, everybody}
-use Rattle.steps.specs.declared.AlsoRuns.TheVariants.{T2, T20}
 use Rattle.steps.specs.declared.Phase.{Phase}
 use Rattle.steps.specs.declared.Phase.TheVariants.{Stopped, Idle, Taken, Revoking}
 use Rattle.steps.specs.declared.Core.{Core}

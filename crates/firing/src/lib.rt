@@ -1,4 +1,6 @@
 // What happens when a timer fires, and Stop, which T4 is as (document 01, "The desk").
+#![tactic(auto)]
+
 ghost use Rattle.std.specs.Prelude.{◌≡◌};
 ghost use Rattle.giving.specs.Floor.{floor_ends};
 ghost use Rattle.firing.specs.Firing.{halted, stops, ends_in, revokes_in, idle_again, revokes_again, grants_or_ends, grants_again, fires, expires};
