@@ -1,5 +1,7 @@
 // Reading (document 01, "The packet" and "What is answered to packets", 1 to 11; document 02, #107, 14): the header, all fields as the reader
 // that rests on the packet hands them out, and then the message.
+#![tactic(auto)]
+
 ghost use Rattle.std.specs.Prelude.{◌≡◌, List, ℕ, ◌+◌, ◌-◌, ◌≤◌, length, get_or, replicate};
 ghost use Rattle.message.specs.Answers.{result};
 ghost use Rattle.message.specs.Message.{said, complete};
@@ -14,7 +16,7 @@ use message::{Cause, Has, Message, MessageType, Number, Octet, Part, Queue, Refu
 use walk::Walk;
 
 // The answer of reading.
-#[derive(Drop)]
+#[derive(Clone, Copy)]
 pub enum Reading {
     Read(Message),
     Refused(Refusal),
@@ -23,7 +25,7 @@ pub enum Reading {
 // What a message has of a field whose content starts at `at`; nothing where that is 0.
 fn octet_at(s: &[u8], at: usize) -> Octet
     requires { at + 2 ≤ length s.now }
-    ensures* { λ r. ⌜ r ≡ octet_at s.now at ⌝ }
+    ensures { result ≡ octet_at s.now at }
 {
     if at == 0 {
         return Octet::Absent;
@@ -33,7 +35,7 @@ fn octet_at(s: &[u8], at: usize) -> Octet
 
 fn word_at(s: &[u8], at: usize) -> Word
     requires { at + 2 ≤ length s.now }
-    ensures* { λ r. ⌜ r ≡ word_at s.now at ⌝ }
+    ensures { result ≡ word_at s.now at }
 {
     if at == 0 {
         return Word::Absent;
@@ -43,7 +45,7 @@ fn word_at(s: &[u8], at: usize) -> Word
 
 fn number_at(s: &[u8], at: usize) -> Number
     requires { at + 4 ≤ length s.now }
-    ensures* { λ r. ⌜ r ≡ number_at s.now at ⌝ }
+    ensures { result ≡ number_at s.now at }
 {
     if at == 0 {
         return Number::Absent;
@@ -53,7 +55,7 @@ fn number_at(s: &[u8], at: usize) -> Number
 
 fn queue_at(s: &[u8], at: usize) -> Queue
     requires { at + 2 ≤ length s.now }
-    ensures* { λ r. ⌜ r ≡ queue_at s.now at ⌝ }
+    ensures { result ≡ queue_at s.now at }
 {
     if at == 0 {
         return Queue::Absent;
@@ -63,7 +65,7 @@ fn queue_at(s: &[u8], at: usize) -> Queue
 
 fn part_at(s: &[u8], at: usize) -> Part
     requires { at + 2 ≤ length s.now }
-    ensures* { λ r. ⌜ r ≡ part_at s.now at ⌝ }
+    ensures { result ≡ part_at s.now at }
 {
     if at == 0 {
         return Part::Absent;
@@ -74,7 +76,7 @@ fn part_at(s: &[u8], at: usize) -> Part
 fn cause_at(s: &[u8], at: usize) -> Cause
     requires at_in_bounds { at + 2 ≤ length s.now }
     requires bound { (at ≡ 0 → ⊥) → 2 ≤ get_or s.now (at - 1) 0 }
-    ensures* { λ r. ⌜ r ≡ cause_at s.now at ⌝ }
+    ensures { result ≡ cause_at s.now at }
 {
     if at == 0 {
         return Cause::Absent;
@@ -85,7 +87,7 @@ fn cause_at(s: &[u8], at: usize) -> Cause
 // The message of a packet of this type, from the starts of its fields' contents.
 fn message_at(s: &[u8], kind: MessageType, starts: &[usize; 16]) -> Message
     requires { Reach s.now (λ i. get_or starts.now i 0) }
-    ensures* { λ r. ⌜ r ≡ message_at kind s.now (λ i. get_or starts.now i 0) ⌝ }
+    ensures { result ≡ message_at kind s.now (λ i. get_or starts.now i 0) }
 {
     Message {
         kind: kind,
@@ -108,7 +110,7 @@ fn message_at(s: &[u8], kind: MessageType, starts: &[usize; 16]) -> Message
 
 // Whether every field that a type requires has been noted.
 fn has_all(kind: MessageType, starts: &[usize; 16]) -> bool
-    ensures* { λ r. ⌜ ((s : List ℕ) → r ≡ complete (said (message_at kind s (λ i. get_or starts.now i 0)) s)) ⌝ }
+    ensures { (s : List ℕ) → result ≡ complete (said (message_at kind s (λ i. get_or starts.now i 0)) s) }
 {
     let has = Has {
         duration: starts[1] != 0,
@@ -126,7 +128,7 @@ fn has_all(kind: MessageType, starts: &[usize; 16]) -> bool
 fn judge_fields(s: &[u8], kind: MessageType, starts: &mut [usize; 16]) -> Opening
     requires starts_value { starts.old ≡ replicate 16 0 }
     requires s_value { opening s.now ≡ result kind }
-    ensures* { λ r. ⌜ Judges r s.now starts.new ⌝ }
+    ensures { Judges result s.now starts.new }
 {
     match walk::all_starts(s, starts) {
         Walk::Whole => {
@@ -145,7 +147,7 @@ fn judge_fields(s: &[u8], kind: MessageType, starts: &mut [usize; 16]) -> Openin
 // Judges a packet, and notes where its fields' contents start: with its type they are its message, of which a caller makes what it needs.
 pub fn judge(s: &[u8], starts: &mut [usize; 16]) -> Opening
     requires { starts.old ≡ replicate 16 0 }
-    ensures* { λ r. ⌜ Judges r s.now starts.new ⌝ }
+    ensures { Judges result s.now starts.new }
 {
     match header::opened(s) {
         Opening::Of(kind) => judge_fields(s, kind, starts),
@@ -155,7 +157,7 @@ pub fn judge(s: &[u8], starts: &mut [usize; 16]) -> Opening
 
 // Reads a packet: its message, or the first refusal that applies.
 pub fn read(s: &[u8]) -> Reading
-    ensures* { λ r. ⌜ Reads s.now r ⌝ }
+    ensures { Reads s.now result }
 {
     let mut starts = [0usize; 16];
     match judge(s, &mut starts) {
@@ -169,8 +171,8 @@ pub fn read(s: &[u8]) -> Reading
 
 // The part of the packet that holds an identity or a phrase, itself and no copy of it; an empty part where the packet has none there.
 pub fn part_in(s: &[u8], p: Part) -> &[u8]
-    ensures* r_value { λ r. ⌜ r.now ≡ part_in s.now p ⌝ }
-    ensures* ref_ptr_value { λ r. ⌜ r.ref_ptr ≡ further (start_in s.now p) s.entry.ref_ptr ⌝ }
+    ensures value { result.now ≡ part_in s.now p }
+    ensures place { result.ref_ptr ≡ further (start_in s.now p) s.entry.ref_ptr }
 {
     let Part::At(from, count) = p else {
         return &s[0..0];
