@@ -1,4 +1,6 @@
 // Saves the seats and settings of a desk as a sheet (document 01, "The sheet", and 13; document 02, #101, 48).
+#![tactic(auto)]
+
 ghost use Rattle.std.specs.Prelude.{◌≡◌, ◌≤◌, length};
 ghost use Rattle.octets.specs.Octets.{over};
 ghost use Rattle.sheet.specs.Layout.{seats_octets, seats_of, longest_sheet};
@@ -9,7 +11,7 @@ use hall::Hall;
 use identities::Names;
 
 // What saving answers: how many octets the sheet has, or why there is none; specs/Saving.antt has the paper's number of each.
-#[derive(Drop)]
+#[derive(Clone, Copy)]
 pub enum Saving {
     Saved(usize),
     // The normal level is not 0, and a sheet has no place for it.
@@ -18,7 +20,7 @@ pub enum Saving {
 }
 
 // How many octets the seats have on the sheet, and how many seats are taken.
-#[derive(Drop)]
+#[derive(Clone, Copy)]
 pub struct Extent {
     pub octets: usize,
     pub count: u8,
