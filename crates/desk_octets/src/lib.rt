@@ -1,5 +1,7 @@
 // The places of the desk in lent octets (docs/FORMS.md has the table), as code names them; specs/Places.antt has the same names. What stands
 // there is in specs/Form.antt; crates desk_reading, core_writing, desk_writing and table_test read, write and test it.
+#![tactic(auto)]
+
 pub const DESK_SIZE: usize = 1200;
 
 pub const PHASE_PLACE: usize = 4;
