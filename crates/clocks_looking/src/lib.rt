@@ -1,5 +1,7 @@
 // Which clocks C programs start anew and stop after a step: crate clocks, between sets of timers as numbers. specs/ClockSets.antt has what
 // each answers.
+#![tactic(auto)]
+
 ghost use Rattle.std.specs.Prelude.{◌≡◌, ◌≤◌, ◌<◌};
 ghost use Rattle.clocks_looking.specs.ClockSets.{bit, timer_set, running_in, set_started, starts_on, stops_on};
 
