@@ -1,5 +1,7 @@
 // The events of a call: start, stop, leave, the packets, media, and the timers (document 01, "The desk"). Each is a rule of specs/ and one
 // function, here or in `request` and `firing`.
+#![tactic(auto)]
+
 ghost use Rattle.std.specs.Prelude.{◌≡◌};
 ghost use Rattle.events.specs.Events.{whole_desk, fresh, starts, caller_of, struck_off, releases, asks_place, talks, request_from, release_from, place_from, media_from, other_from, step, leave_floor, leave};
 
@@ -9,7 +11,7 @@ use steps::{AlsoRuns, Core, Phase, Report, Step};
 use timers::Timer;
 
 // A seat's events come with its SSRC: Request, Release and Queue Position Request, any other packet, media.
-#[derive(Drop)]
+#[derive(Clone, Copy)]
 pub enum Event {
     Start,
     Stop,
@@ -22,14 +24,14 @@ pub enum Event {
 }
 
 // Who speaks: a seat, or nobody that can be heard.
-#[derive(Drop)]
+#[derive(Clone, Copy)]
 pub enum Caller {
     Sits(u8),
     Refused(Answer),
 }
 
 // The whole desk.
-#[derive(Drop)]
+#[derive(Clone, Copy)]
 pub struct Desk {
     pub core: Core,
     pub hall: Hall,
@@ -37,7 +39,7 @@ pub struct Desk {
 }
 
 // What anything that happens to a desk comes to: its answer, the whole desk that it leaves, its report.
-#[derive(Drop)]
+#[derive(Clone, Copy)]
 pub struct Outcome {
     pub desk: Desk,
     pub report: Report,
