@@ -1,4 +1,6 @@
 // The writer (document 01, "The packet" and "What is answered to packets", 12 and 13).
+#![tactic(auto)]
+
 ghost use Rattle.std.specs.Prelude.{◌≡◌, ◌+◌, ◌≤◌, length};
 ghost use Rattle.octets.specs.Octets.{Laid};
 ghost use Rattle.header.specs.Header.{header_size};
@@ -9,7 +11,7 @@ ghost use Rattle.writing.specs.Puts.{front_fields, rest_fields, front_size, rest
 
 use message::{Message, Refusal};
 
-#[derive(Drop)]
+#[derive(Clone, Copy)]
 pub enum Writing {
     Written(usize),
     Refused(Refusal),
