@@ -1,4 +1,6 @@
 // The desk that octets stand for (docs/FORMS.md; the definitions are those of crate desk_octets), read a column of them at a time.
+#![tactic(auto)]
+
 ghost use Rattle.std.specs.Prelude.{◌≡◌, ◌+◌, ◌≤◌, ◌<◌, min, length};
 ghost use Rattle.identities.specs.Identity.{octets_of, name_at};
 ghost use Rattle.desk_octets.specs.Form.{also_of, phase_of, phase_at, entries_at, core_at, bools_at, octets_at, words_at, seat_flags_at, settings_at, hall_at, name_in, names_at};
