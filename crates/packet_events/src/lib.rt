@@ -1,4 +1,6 @@
 // A packet as an event of the call (document 01, "The desk").
+#![tactic(auto)]
+
 ghost use Rattle.std.specs.Prelude.{◌≡◌, ◌+◌, ◌≤◌, length};
 ghost use Rattle.octets.specs.Octets.{be32};
 ghost use Rattle.reading.specs.Reading.{octet_at};
