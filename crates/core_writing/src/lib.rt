@@ -1,5 +1,7 @@
 // The octets of the letters, the floor and the line, written at their places (docs/FORMS.md; the definitions are those of crate desk_octets); the rest
 // of the room is untouched.
+#![tactic(auto)]
+
 ghost use Rattle.std.specs.Prelude.{◌≡◌, ◌≤◌, length};
 ghost use Rattle.words.specs.Choice.{one as flag};
 ghost use Rattle.octets.specs.Octets.{over};
