@@ -1,4 +1,6 @@
 // An outgoing message as a packet (document 01, "The desk").
+#![tactic(auto)]
+
 ghost use Rattle.std.specs.Prelude.{◌≡◌};
 ghost use Rattle.message.specs.declared.MessageType.TheVariants as type;
 ghost use Rattle.message.specs.declared.Octet.{Octet};
@@ -14,14 +16,14 @@ use steps::Kind;
 use writing::Writing;
 
 // A message to be sent, or that there is none.
-#[derive(Drop)]
+#[derive(Clone, Copy)]
 pub enum Outgoing {
     Packet(Message),
     Silence,
 }
 
 // What a message of the desk carries beside its type and the desk's SSRC.
-#[derive(Drop)]
+#[derive(Clone, Copy)]
 pub struct Load {
     pub priority: Octet,
     pub duration: Word,
