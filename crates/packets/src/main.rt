@@ -2,10 +2,15 @@
 // the refusal with its number, and what the writer makes of a message that was read. Then the edges of the writer.
 //
 // A line is a title, a colon, and the packet's octets in hexadecimal, a space before each; ` 00*254` stands for 254 octets of 00.
+#![tactic(auto)]
+
 ghost use Rattle.std.specs.Prelude.{◌≤◌, ◌<◌};
 
 use message::{Cause, Message, MessageType, Number, Octet, Part, Queue, Refusal, Word};
+use printing::{Page, Printout};
 use reading::Reading;
+use std::io;
+use std::io::Read;
 use writing::Writing;
 
 // What is printed, in one table. A name is that of one row, or of the first of several: of the fields and the refusals by their numbers,
@@ -42,8 +47,9 @@ const TITLE: usize = 52;
 
 const EDGES: usize = 53;
 
-fn say(k: usize, a: u64, b: u64) {
+fn say(page: &mut Printout, k: usize, a: u64, b: u64) {
     printing::row(
+        page,
         b"\
           \x20    Request^\
           \x20    Granted^\
@@ -128,7 +134,7 @@ fn digit(s: &[u8], at: usize) -> usize
     if s.len() <= at {
         return 16;
     }
-    bytes::scan::find(b"0123456789ABCDEF", 0, 16, s[at])
+    printing::find(b"0123456789ABCDEF", 0, s[at])
 }
 
 // The number in the decimal digits of a text, the first four; 1 where it has none.
@@ -172,7 +178,7 @@ fn octets_in(s: &[u8], out: &mut [u8]) -> usize {
     let mut i = 0;
     let mut k = 0;
     while i < s.len() {
-        let end = bytes::scan::find(s, i, s.len(), b' ');
+        let end = printing::find(s, i, b' ');
         k = take(&s[i..end], out, k);
         i = end + 1;
     }
@@ -182,162 +188,162 @@ fn octets_in(s: &[u8], out: &mut [u8]) -> usize {
 // A packet as a person would want to see it.
 
 // Octets in hexadecimal, at most `most` of them.
-fn show_octets(s: &[u8], most: usize) {
-    printing::spaces(4);
-    printing::octets(printing::part(s, 0, most));
-    say(either(most < s.len(), MORE, ALL), 0, 0);
+fn show_octets(page: &mut Printout, s: &[u8], most: usize) {
+    printing::spaces(page, 4);
+    printing::octets(page, printing::part(s, 0, most));
+    say(page, either(most < s.len(), MORE, ALL), 0, 0);
 }
 
 // Why a packet or a message is refused.
-fn show_refusal(r: Refusal) {
+fn show_refusal(page: &mut Printout, r: Refusal) {
     let number = message::refusal_number(r);
-    say(REFUSALS + number as usize, number as u64, 0);
+    say(page, REFUSALS + number as usize, number as u64, 0);
 }
 
-fn show_octet(id: usize, o: Octet) {
+fn show_octet(page: &mut Printout, id: usize, o: Octet) {
     if let Octet::Is(n) = o {
-        say(id, n as u64, 0);
+        say(page, id, n as u64, 0);
     }
 }
 
-fn show_word(id: usize, w: Word) {
+fn show_word(page: &mut Printout, id: usize, w: Word) {
     if let Word::Is(n) = w {
-        say(id, n as u64, 0);
+        say(page, id, n as u64, 0);
     }
 }
 
-fn show_number(id: usize, w: Number) {
+fn show_number(page: &mut Printout, id: usize, w: Number) {
     if let Number::Is(n) = w {
-        say(id, n as u64, 0);
+        say(page, id, n as u64, 0);
     }
 }
 
-fn show_queue(id: usize, q: Queue) {
+fn show_queue(page: &mut Printout, id: usize, q: Queue) {
     if let Queue::Is(place, priority) = q {
-        say(id, place as u64, priority as u64);
+        say(page, id, place as u64, priority as u64);
     }
 }
 
-fn show_part(id: usize, p: Part, s: &[u8]) {
+fn show_part(page: &mut Printout, id: usize, p: Part, s: &[u8]) {
     if let Part::At(_, count) = p {
-        say(id, 0, 0);
-        printing::letters(reading::part_in(s, p));
-        say(LETTERS, count as u64, 0);
+        say(page, id, 0, 0);
+        printing::letters(page, reading::part_in(s, p));
+        say(page, LETTERS, count as u64, 0);
     }
 }
 
-fn show_cause(id: usize, c: Cause, s: &[u8]) {
+fn show_cause(page: &mut Printout, id: usize, c: Cause, s: &[u8]) {
     if let Cause::Is(n, from, count) = c {
-        say(id, n as u64, 0);
-        say(either(0 < count, PHRASE, NOTHING), 0, 0);
-        printing::letters(reading::part_in(s, Part::At(from, count)));
-        printing::line_end();
+        say(page, id, n as u64, 0);
+        say(page, either(0 < count, PHRASE, NOTHING), 0, 0);
+        printing::letters(page, reading::part_in(s, Part::At(from, count)));
+        printing::line_end(page);
     }
 }
 
 // The fields that a message has, in the table's order.
 
-fn show_first(m: Message, s: &[u8]) {
+fn show_first(page: &mut Printout, m: Message, s: &[u8]) {
     let priority = m.priority;
     let duration = m.duration;
     let cause = m.cause;
     let queue = m.queue;
-    show_octet(FIELDS, priority);
-    show_word(FIELDS + 1, duration);
-    show_cause(FIELDS + 2, cause, s);
-    show_queue(FIELDS + 3, queue);
+    show_octet(page, FIELDS, priority);
+    show_word(page, FIELDS + 1, duration);
+    show_cause(page, FIELDS + 2, cause, s);
+    show_queue(page, FIELDS + 3, queue);
 }
 
-fn show_second(m: Message, s: &[u8]) {
+fn show_second(page: &mut Printout, m: Message, s: &[u8]) {
     let granted = m.granted;
     let permission = m.permission;
     let user = m.user;
     let sequence = m.sequence;
-    show_part(FIELDS + 4, granted, s);
-    show_word(FIELDS + 5, permission);
-    show_part(FIELDS + 6, user, s);
-    show_word(FIELDS + 8, sequence);
+    show_part(page, FIELDS + 4, granted, s);
+    show_word(page, FIELDS + 5, permission);
+    show_part(page, FIELDS + 6, user, s);
+    show_word(page, FIELDS + 8, sequence);
 }
 
-fn show_last(m: Message) {
+fn show_last(page: &mut Printout, m: Message) {
     let source = m.source;
     let message_type = m.message_type;
     let indicator = m.indicator;
     let ssrc_field = m.ssrc_field;
-    show_word(FIELDS + 10, source);
-    show_octet(FIELDS + 12, message_type);
-    show_word(FIELDS + 13, indicator);
-    show_number(FIELDS + 14, ssrc_field);
+    show_word(page, FIELDS + 10, source);
+    show_octet(page, FIELDS + 12, message_type);
+    show_word(page, FIELDS + 13, indicator);
+    show_number(page, FIELDS + 14, ssrc_field);
 }
 
 // The type, whether an Ack is asked for, and the sender.
-fn show_header(m: Message) {
+fn show_header(page: &mut Printout, m: Message) {
     let kind = m.kind;
-    say(message::type_number(kind) as usize, 0, 0);
-    say(either(m.ack, ACK_ASKED, SSRC), m.ssrc as u64, 0);
+    say(page, message::type_number(kind) as usize, 0, 0);
+    say(page, either(m.ack, ACK_ASKED, SSRC), m.ssrc as u64, 0);
 }
 
 // Whether what was written is what was read, and if not, what it is.
-fn compared(s: &[u8], w: &[u8]) {
+fn compared(page: &mut Printout, s: &[u8], w: &[u8]) {
     let n = w.len() as u64;
     if check::same(w, s) {
-        say(SAME, n, 0);
+        say(page, SAME, n, 0);
     } else {
-        say(OTHER, n, 0);
-        show_octets(w, 64);
-        printing::line_end();
+        say(page, OTHER, n, 0);
+        show_octets(page, w, 64);
+        printing::line_end(page);
     }
 }
 
 // Writes the message again, and says whether that gives the same octets.
-fn again(m: Message, s: &[u8], room: &mut [u8]) {
-    say(AGAIN, 0, 0);
+fn again(page: &mut Printout, m: Message, s: &[u8], room: &mut [u8]) {
+    say(page, AGAIN, 0, 0);
     match writing::write(m, s, room) {
-        Writing::Written(n) => compared(s, printing::part(room, 0, n)),
-        Writing::Refused(r) => show_refusal(r),
+        Writing::Written(n) => compared(page, s, printing::part(room, 0, n)),
+        Writing::Refused(r) => show_refusal(page, r),
     }
 }
 
 // The message, and what the writer makes of it.
-fn show_message(m: Message, s: &[u8]) {
+fn show_message(page: &mut Printout, m: Message, s: &[u8]) {
     let mut room = [0u8; 440];
-    show_header(m);
-    show_first(m, s);
-    show_second(m, s);
-    show_last(m);
-    again(m, s, &mut room);
+    show_header(page, m);
+    show_first(page, m, s);
+    show_second(page, m, s);
+    show_last(page, m);
+    again(page, m, s, &mut room);
 }
 
-fn show_packet(s: &[u8]) {
-    show_octets(s, 32);
-    say(OCTETS, s.len() as u64, 0);
+fn show_packet(page: &mut Printout, s: &[u8]) {
+    show_octets(page, s, 32);
+    say(page, OCTETS, s.len() as u64, 0);
     match reading::read(s) {
-        Reading::Read(m) => show_message(m, s),
+        Reading::Read(m) => show_message(page, m, s),
         Reading::Refused(r) => {
-            printing::spaces(5);
-            show_refusal(r);
+            printing::spaces(page, 5);
+            show_refusal(page, r);
         }
     }
-    printing::line_end();
+    printing::line_end(page);
 }
 
 // Prints one line of the sheet; the packet is put together in lent room.
-fn entry(text: &[u8], count: u64, room: &mut [u8]) {
-    let colon = bytes::scan::find(text, 0, text.len(), b':');
-    say(TITLE, count, 0);
-    printing::text(printing::part(text, 0, colon));
-    printing::line_end();
+fn entry(page: &mut Printout, text: &[u8], count: u64, room: &mut [u8]) {
+    let colon = printing::find(text, 0, b':');
+    say(page, TITLE, count, 0);
+    printing::text(page, printing::part(text, 0, colon));
+    printing::line_end(page);
     let n = octets_in(printing::part(text, colon + 2, 65536), room);
-    show_packet(printing::part(room, 0, n));
+    show_packet(page, printing::part(room, 0, n));
 }
 
 // Prints the sheet, a line after the other.
-fn entries(all: &[u8], room: &mut [u8]) {
+fn entries(page: &mut Printout, all: &[u8], room: &mut [u8]) {
     let mut from = 0;
     let mut count = 1;
     while from < all.len() {
-        let end = bytes::scan::find(all, from, all.len(), b'\n');
-        entry(&all[from..end], count, room);
+        let end = printing::find(all, from, b'\n');
+        entry(page, &all[from..end], count, room);
         count += 1;
         from = end + 1;
     }
@@ -410,40 +416,45 @@ fn message_of(k: usize) -> Message
 }
 
 // What the writer answers.
-fn show_writing(w: Writing) {
+fn show_writing(page: &mut Printout, w: Writing) {
     match w {
-        Writing::Written(n) => say(WRITTEN, n as u64, 0),
-        Writing::Refused(r) => show_refusal(r),
+        Writing::Written(n) => say(page, WRITTEN, n as u64, 0),
+        Writing::Refused(r) => show_refusal(page, r),
     }
 }
 
 // Writes into the first octets of a space, and prints the answer and how the space begins then.
-fn attempt(m: Message, space: &mut [u8], room: usize) {
+fn attempt(page: &mut Printout, m: Message, space: &mut [u8], room: usize) {
     let src = [b'x'; 300];
     if space.len() < room {
         return;
     }
-    show_writing(writing::write(m, &src, &mut space[..room]));
-    show_octets(space, 20);
-    printing::line_end();
+    show_writing(page, writing::write(m, &src, &mut space[..room]));
+    show_octets(page, space, 20);
+    printing::line_end(page);
 }
 
-fn edge(k: usize)
+fn edge(page: &mut Printout, k: usize)
     requires { k < 12 }
 {
     let mut space = [0xEEu8; 512];
-    say(EDGES + k, 0, 0);
-    attempt(message_of(k), &mut space, ROOMS[k]);
+    say(page, EDGES + k, 0, 0);
+    attempt(page, message_of(k), &mut space, ROOMS[k]);
 }
 
-fn main() {
-    let mut sheet = io::large_buffer();
-    let n = io::read_full(0, &mut sheet);
+// So many octets of the sheet are read.
+const SHEET_ROOM: u64 = 65536;
+
+fn main(rt: HostRuntime) -> io::Result<()> {
+    let mut page = Page::new(rt.stdout());
+    let mut sheet = Vec::new(rt.alloc());
+    rt.reader().take(SHEET_ROOM).read_to_end(&mut sheet)?;
     let mut room = [0u8; 1100];
-    entries(printing::part(&sheet, 0, n), &mut room);
+    entries(&mut page, sheet.as_slice(), &mut room);
     let mut k = 0;
     while k < 12 {
-        edge(k);
+        edge(&mut page, k);
         k += 1;
     }
+    page.close()
 }
