@@ -1,5 +1,7 @@
 // The octets of the seats, the settings and the identities, written at their places a column at a time, and those of a whole desk
 // (docs/FORMS.md; the definitions are those of crate desk_octets); the rest of the room is untouched.
+#![tactic(auto)]
+
 ghost use Rattle.std.specs.Prelude.{◌≡◌, ◌+◌, ◌≤◌, length};
 ghost use Rattle.octets.specs.Octets.{over};
 ghost use Rattle.identities.specs.Identity.{name_at};
