@@ -11,7 +11,6 @@ use borrow.Author.Tests.{eqb-true}
 use Rattle.words.specs.Choice.{if◌then◌else◌, by_test}
 use Rattle.octets.specs.Octets.{be16}
 use Rattle.message.specs.Table.{padded}
-use Rattle.message.specs.Message.{Field}
 use Rattle.field.specs.declared.FieldFound.{FieldFound}
 use Rattle.field.specs.declared.FieldStep.{FieldStep}
 use Rattle.field.specs.Fields.{Fields, whole, fault, infront, among, step_then, step_at, fields_from, id_at, length_at}
