@@ -27,11 +27,11 @@ pub not-leave : {x : Doing} {u : ℕ} {A : Type 0} → is_leave x ≡ false → 
 not-leave n q = clash (ap is_leave q) n
 
 -- what is an event gives up what its event does
-pub gives_up : (h : Hall) (x : Doing) (e : Event) (s : ℕ) → becomes x ≡ an_event e → gives_up h x s ≡ released_by h e s
-gives_up h (event f) e s is = ap (λ (b : Becoming). released_in h b s) is
-gives_up h (packet o) e s is = ap (λ (b : Becoming). released_in h b s) is
-gives_up h (leaves t) e s is = no_event_lem is
-gives_up h (joins o n) e s is = no_event_lem is
+pub gives_up_lem : (h : Hall) (x : Doing) (e : Event) (s : ℕ) → becomes x ≡ an_event e → gives_up h x s ≡ released_by h e s
+gives_up_lem h (event f) e s is = ap (λ (b : Becoming). released_in h b s) is
+gives_up_lem h (packet o) e s is = ap (λ (b : Becoming). released_in h b s) is
+gives_up_lem h (leaves t) e s is = no_event_lem is
+gives_up_lem h (joins o n) e s is = no_event_lem is
 
 pub asks-nobody : {t p : ℕ} {A : Type 0} → nobody ≡ asks t p → A
 asks-nobody q = let z : ◌≡◌ {A = ℕ} 0 1 = cc in absurd (omega arith)

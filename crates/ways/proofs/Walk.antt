@@ -55,7 +55,7 @@ use Rattle.events.specs.declared.Desk.{Desk}
 use Rattle.history.specs.Doing.{Doing, event, packet, leaves, joins, joined, does}
 use Rattle.history.specs.Asking.{an_event, read_as, becomes, nobody, asks, from_seat, asked_by, asked_in, asking, gives_up, stops_in, stops_call}
 use Rattle.ways.specs.Ways as way
-use Rattle.ways.proofs.Apart.{no_leave, not-leave, gives_up, asks-nobody, this_one, not-asked}
+use Rattle.ways.proofs.Apart.{no_leave, not-leave, gives_up_lem, asks-nobody, this_one, not-asked}
 use Rattle.ways.proofs.Phases.{stopped_quiet, idle_quiet, busy_else, t7_idle, taken_held, revoking_held}
 
 -- a refusal is not done
@@ -109,14 +109,14 @@ module _ (c : Core) (h : Hall) (t : ℕ) where
 -- the floor ends, in the hall that those who stay make up
 module _ (d : Desk) (x : Doing) (g : Hall) (ns : Names) (t : ℕ) (a : asking d.hall x ≡ nobody) (f : (u : ℕ) → x ≡ leaves u → u ≡ t)
     (k : holds d.core.phase t ≡ true) where
-  passes_on : (es : List Entry) → waiting d.core.line ≡ es → way.Way d x (outcome (passes_on d.core g es marks_ended t) g ns)
+  passes_on_lem : (es : List Entry) → waiting d.core.line ≡ es → way.Way d x (outcome (passes_on d.core g es marks_ended t) g ns)
   unfolding passes_on enters_idle given_out_of_line given
-  passes_on [] q = way.frees t a f k q refl (refl, refl)
-  passes_on (e ∷ es) q = way.passes t e es a f k q refl (refl, refl)
+  passes_on_lem [] q = way.frees t a f k q refl (refl, refl)
+  passes_on_lem (e ∷ es) q = way.passes t e es a f k q refl (refl, refl)
 
   ends : way.Way d x (outcome (floor_ends d.core g t) g ns)
   unfolding floor_ends
-  ends = passes_on (waiting d.core.line) refl
+  ends = passes_on_lem (waiting d.core.line) refl
 
 -- whatever becomes an event
 module _ (d : Desk) (x : Doing) where
@@ -318,7 +318,7 @@ events d x (Request s a) y =
 events d x (Release s) y =
     heard_on d x y s _
     (λ t q k o. releases_on d x y (asks_none d x y refl) t
-    (gives_up d.hall x (Release s) t y ∙ ap (λ (f : Found). finds f t) q ∙ eq-eqb t t refl))
+    (gives_up_lem d.hall x (Release s) t y ∙ ap (λ (f : Found). finds f t) q ∙ eq-eqb t t refl))
     (λ _. unasked d x y (asks_none d x y refl))
 events d x (Position s) y = heard_on d x y s _ (λ t q k o. places_on d x s t y k) (λ _. unasked d x y (asks_none d x y refl))
 events d x (Media s) y =
