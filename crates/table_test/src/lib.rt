@@ -1,5 +1,7 @@
 // Whether octets hold what the table of docs/FORMS.md says (the definitions are those of crate desk_octets). A test of a column has no early exit, so
 // that it runs on many octets at once.
+#![tactic(auto)]
+
 ghost use Rattle.std.specs.Prelude.{◌≡◌, ◌+◌, ◌≤◌, length};
 ghost use Rattle.desk_octets.specs.Form.{up_to, phase_fits, letters_fit, core_fits, hall_fits, canonical};
 ghost use Rattle.desk_octets.specs.Places.{desk_size};
