@@ -1,13 +1,17 @@
 // Whose button is the machine answering? Runs 5,000 events out of a stored seed through the proved steps, counts the marks as demand 3 says
 // (crate `demands`, specs/Demands.antt, statements 1 and 4), and prints both sides for each seat.
+#![tactic(auto)]
+
 ghost use Rattle.std.specs.Prelude.{◌<◌};
 
 use events::{Desk, Event, Outcome};
 use hall::{Answer, Asked, Flags, Newcomer};
+use printing::{Page, Printout};
+use std::io;
 use steps::{Core, Given, Mark, Marks};
 
 // The marks counted, five numbers for each seat: placed, given out of the line, given at once, struck off, ended.
-#[derive(Drop)]
+#[derive(Clone, Copy)]
 pub struct Tally {
     pub of: [u32; 80],
 }
@@ -139,7 +143,7 @@ fn happen(desk: Desk, what: u8, who: u8, how: u8) -> Outcome {
 }
 
 // The night: the desk, and what was counted up to now.
-#[derive(Drop)]
+#[derive(Clone, Copy)]
 pub struct Night {
     pub desk: Desk,
     pub tally: Tally,
@@ -185,26 +189,28 @@ fn run(seed: u64) -> Night {
 
 // A seat's account: both sides, with what they are made of.
 
-fn compare(left: u64, a: u64, b: u64, c: u64) {
+fn compare(page: &mut Printout, left: u64, a: u64, b: u64, c: u64) {
     if left != a % 4294967296 + b % 4294967296 + c % 4294967296 {
-        printing::text(b"  THE SIDES DIFFER\n");
+        printing::text(page, b"  THE SIDES DIFFER\n");
     }
 }
 
-fn show_line(placed: u64, out: u64, struck: u64, waits: u64) {
+fn show_line(page: &mut Printout, placed: u64, out: u64, struck: u64, waits: u64) {
     printing::filled(
+        page,
         b"  placed % = % given out of the line + % struck off + % waiting\n",
         [placed, out, struck, waits],
     );
-    compare(placed, out, struck, waits);
+    compare(page, placed, out, struck, waits);
 }
 
-fn show_floor(out: u64, once: u64, ended: u64, holds: u64) {
+fn show_floor(page: &mut Printout, out: u64, once: u64, ended: u64, holds: u64) {
     printing::filled(
+        page,
         b"  given % out of the line + % at once = % ended + % holding\n",
         [out, once, ended, holds],
     );
-    compare(out % 4294967296 + once % 4294967296, ended, holds, 0);
+    compare(page, out % 4294967296 + once % 4294967296, ended, holds, 0);
 }
 
 // What was counted of a kind for a seat.
@@ -214,25 +220,42 @@ fn counted(tally: Tally, seat: u8, kind: u8) -> u64 {
     if at < 80 { of[at] as u64 } else { 0 }
 }
 
-fn show_seat(tally: Tally, core: Core, seat: u8) {
+fn show_seat(page: &mut Printout, tally: Tally, core: Core, seat: u8) {
     let phase = core.phase;
     let out = counted(tally, seat, 1);
     let waits = request::is_waiting(core, seat) as u64;
     let holds = giving::is_holder(phase, seat) as u64;
-    printing::numbered(b"seat %\n", seat as u64);
-    show_line(counted(tally, seat, 0), out, counted(tally, seat, 3), waits);
-    show_floor(out, counted(tally, seat, 2), counted(tally, seat, 4), holds);
+    printing::numbered(page, b"seat %\n", seat as u64);
+    show_line(
+        page,
+        counted(tally, seat, 0),
+        out,
+        counted(tally, seat, 3),
+        waits,
+    );
+    show_floor(
+        page,
+        out,
+        counted(tally, seat, 2),
+        counted(tally, seat, 4),
+        holds,
+    );
 }
 
-fn main() {
-    printing::text(b"5,000 events out of seed 24388: what the marks say of each seat\n\n");
+fn main(rt: HostRuntime) -> io::Result<()> {
+    let mut page = Page::new(rt.stdout());
+    printing::text(
+        &mut page,
+        b"5,000 events out of seed 24388: what the marks say of each seat\n\n",
+    );
     let night = run(24388);
     let tally = night.tally;
     let desk = night.desk;
     let core = desk.core;
     let mut seat = 0u8;
     while seat < 16 {
-        show_seat(tally, core, seat);
+        show_seat(&mut page, tally, core, seat);
         seat += 1;
     }
+    page.close()
 }
