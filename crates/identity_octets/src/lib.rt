@@ -1,6 +1,8 @@
 // The sixty_two octets of an identity in the desk: whether they are zero, zero from a length on, and the same at two places. They are asked
 // thirty-two from the start and thirty-two up to the end, two of them in both: so all of it is whole vectors, and nothing is left over.
 // Zeros are asked from two places more: a shorter turn would be unrolled octet by octet before it is made vectors.
+#![tactic(auto)]
+
 ghost use Rattle.std.specs.Prelude.{◌≡◌, ◌+◌, ◌-◌, ◌≤◌, min, length};
 ghost use Rattle.words.specs.Below.{all_below};
 ghost use Rattle.desk_octets.specs.Form.{up_to};
