@@ -1,5 +1,7 @@
 // A message as 40 octets (docs/FORMS.md, "A message"), for C programs: its identities and its phrase are places in a source that is lent
 // beside it. A packet is read into such octets here; crate message_writing writes a message out of them.
+#![tactic(auto)]
+
 ghost use Rattle.std.specs.Prelude.{◌≡◌, [], ◌∷◌, ◌+◌, ◌-◌, ◌≤◌, ◌<◌, length, get_or};
 ghost use Rattle.octets.specs.Octets.{octets16, octets32, over};
 ghost use Rattle.message.specs.Message.{of_octet, of_word, of_number, of_queue, of_part, of_cause, is_there};

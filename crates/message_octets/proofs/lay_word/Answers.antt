@@ -1,0 +1,29 @@
+-- `message_octets::lay_word` keeps its promise, `Lays (now room.entry) to (octets16 (wordIn (reads.word_at (now s.entry) at))) (now
+-- room.exit)`. Assumes nothing.
+use mathlib.Core.Path.{refl, sym}
+use native.Mathlib.Nat.{add-zero}
+use borrow.Author.Tests.{eq-eqb, ne_eqb}
+use Rattle.words.specs.Choice.{if◌then◌else◌}
+use Rattle.octets.specs.Octets.{octets16}
+use Rattle.reading.specs.Reading.{word_at}
+use Rattle.message_octets.proofs.Laying.{lays_nothing, lays_octets}
+use native.Mathlib.Omega.{arith}
+use Rattle.message_octets.proofs.lay_word.Goals as goal
+
+pub returns-then-at-eq0 : goal.returns-then-at-eq0
+unfolding word_at if◌then◌else◌ octets16
+returns-then-at-eq0 c =
+    let a = c.args in
+    rw (eq-eqb _ _ c.if-at-eq0.true) (record { lays = lays_nothing a.room.now a.to _ c.requires.blank.0 2 c.requires.blank.1 refl; value = sym (add-zero a.has); upper_bound = omega arith })
+
+pub returns : goal.returns
+unfolding word_at if◌then◌else◌ octets16
+returns c =
+    let a = c.args in
+    let b = c.requires.blank.0 in
+    rw (ne_eqb _ _ c.if-at-eq0.false) (record {
+      lays = lays_octets a.room.now a.to _ b _ c.requires.blank.1
+          (rw (← c.number16.ensures) c.put16.ensures);
+      value = refl;
+      upper_bound = omega arith;
+    })
