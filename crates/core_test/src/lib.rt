@@ -1,6 +1,8 @@
 // The test of a desk: whether it keeps what every desk keeps that steps can reach from a fresh one. Those pass; so do some that no steps
 // reach, for instance one in Idle with C7 at 0. specs/Test.antt has the test; proofs/Sound.antt has that it passes exactly the sound desks.
 // The floor and the line are judged here, in the octets where they rest, so that nothing is decoded twice; the seats in crate `seats_test`.
+#![tactic(auto)]
+
 ghost use Rattle.std.specs.Prelude.{◌≡◌, true, ◌≤◌, ◌<◌, length};
 ghost use Rattle.octets.specs.Octets.{nth_octet};
 ghost use Rattle.words.specs.Below.{all_below};
@@ -91,7 +93,7 @@ fn places_are_sound(s: &[u8], n: usize) -> bool
 // Behind the fifteen places stands a zero, so that sixteen are asked: whole vectors.
 fn places_behind(s: &[u8], n: usize) -> bool
     requires desk_size_in_bounds { desk_size ≤ length s.now }
-    requires s_value { core_fits s.now ≡ true }
+    requires fits { core_fits s.now ≡ true }
     requires n_value { n ≡ nth_octet s.now count_place }
     ensures { result ≡ all_below (place_behind (core_at s.now).line) 15 }
 {
@@ -107,7 +109,7 @@ fn places_behind(s: &[u8], n: usize) -> bool
 
 fn line_is_sound(s: &[u8], n: usize) -> bool
     requires desk_size_in_bounds { desk_size ≤ length s.now }
-    requires s_value { core_fits s.now ≡ true }
+    requires fits { core_fits s.now ≡ true }
     requires n_value { n ≡ nth_octet s.now count_place }
     ensures { result ≡ line_sound (hall_at s.now) (core_at s.now).line }
 {
@@ -155,7 +157,7 @@ fn floor_is_sound(s: &[u8], n: usize) -> bool
 // Whether the core that octets stand for is sound.
 pub fn core_is_sound(s: &[u8]) -> bool
     requires desk_size_in_bounds { desk_size ≤ length s.now }
-    requires s_value { core_fits s.now ≡ true }
+    requires fits { core_fits s.now ≡ true }
     ensures { result ≡ core_sound (hall_at s.now) (core_at s.now) }
 {
     let n = octets::wide(s[COUNT_PLACE]);
