@@ -1,10 +1,14 @@
 // Plays Thursday's exercise (document 01) and prints it: each event, the messages with who gets them and their packets, the marks, and
 // the wall with the floor, the line and the timers. Then the sequence number from 65,535 to 0.
+#![tactic(auto)]
+
 ghost use Rattle.std.specs.Prelude.{◌<◌, ◌≤◌};
 
 use events::{Desk, Event, Outcome};
 use hall::{Answer, Flags, Hall};
 use line::{Entry, Line};
+use printing::{Page, Printout};
+use std::io;
 use steps::{Core, Given, Kind, Mark, Marks, Phase, Report, Sending, Step};
 use timers::{Running, Timer};
 use writing::Writing;
@@ -55,8 +59,9 @@ const END: usize = SEQUENCE + 1;
 
 const EVENTS: usize = END + 1;
 
-fn say(k: usize, a: u16, b: u16, c: u16) {
+fn say(page: &mut Printout, k: usize, a: u16, b: u16, c: u16) {
     printing::row(
+        page,
         b"\
           \x20    Granted, priority % ->^\
           \x20    Taken by seat %, sequence % ->^\
@@ -111,15 +116,15 @@ fn say(k: usize, a: u16, b: u16, c: u16) {
 // The log of a step.
 
 // The kind of a message with its particulars.
-fn show_kind(k: Kind) {
+fn show_kind(page: &mut Printout, k: Kind) {
     match k {
         Kind::Nothing => {}
-        Kind::Granted(priority) => say(GRANTED, priority as u16, 0, 0),
-        Kind::Taken(seat, sequence) => say(TAKEN, seat as u16, sequence, 0),
-        Kind::Deny(cause) => say(DENY, cause, 0, 0),
-        Kind::Idle(sequence) => say(IDLE, sequence, 0, 0),
-        Kind::Revoke(cause) => say(REVOKE, cause, 0, 0),
-        Kind::Info(place, priority) => say(INFO, place as u16, priority as u16, 0),
+        Kind::Granted(priority) => say(page, GRANTED, priority as u16, 0, 0),
+        Kind::Taken(seat, sequence) => say(page, TAKEN, seat as u16, sequence, 0),
+        Kind::Deny(cause) => say(page, DENY, cause, 0, 0),
+        Kind::Idle(sequence) => say(page, IDLE, sequence, 0, 0),
+        Kind::Revoke(cause) => say(page, REVOKE, cause, 0, 0),
+        Kind::Info(place, priority) => say(page, INFO, place as u16, priority as u16, 0),
     }
 }
 
@@ -133,50 +138,56 @@ fn named(k: Kind) -> u8 {
 }
 
 // The octets that a message is sent as.
-fn show_packet(hall: Hall, k: Kind, identity: &[u8], room: &mut [u8]) {
+fn show_packet(page: &mut Printout, hall: Hall, k: Kind, identity: &[u8], room: &mut [u8]) {
     let settings = hall.settings;
     match outgoing::send(settings, k, identity, room) {
         Writing::Written(n) => {
-            printing::octets(printing::part(room, 0, n));
+            printing::octets(page, printing::part(room, 0, n));
         }
-        Writing::Refused(_) => say(NO_PACKET, 0, 0, 0),
+        Writing::Refused(_) => say(page, NO_PACKET, 0, 0, 0),
     }
 }
 
-fn show_octets(desk: Desk, k: Kind) {
+fn show_octets(page: &mut Printout, desk: Desk, k: Kind) {
     let hall = desk.hall;
     let names = desk.names;
     let name = identities::name_at(names, named(k));
     let octets = name.octets;
     let mut room = [0u8; 96];
-    say(PACKET, 0, 0, 0);
-    show_packet(hall, k, printing::part(&octets, 0, name.len), &mut room);
-    printing::line_end();
+    say(page, PACKET, 0, 0, 0);
+    show_packet(
+        page,
+        hall,
+        k,
+        printing::part(&octets, 0, name.len),
+        &mut room,
+    );
+    printing::line_end(page);
 }
 
 // A message, who gets it, and its octets.
-fn show_message(desk: Desk, m: Sending) {
+fn show_message(page: &mut Printout, desk: Desk, m: Sending) {
     let k = m.kind;
     let to = m.to;
     if let Kind::Nothing = k {
         return;
     }
-    show_kind(k);
-    printing::seats(to);
-    show_octets(desk, k);
+    show_kind(page, k);
+    printing::seats(page, to);
+    show_octets(page, desk, k);
 }
 
-fn show_mark(k: usize, m: Mark) {
+fn show_mark(page: &mut Printout, k: usize, m: Mark) {
     if let Mark::Seat(seat) = m {
-        say(k, seat as u16, 0, 0);
+        say(page, k, seat as u16, 0, 0);
     }
 }
 
-fn show_given(g: Given) {
+fn show_given(page: &mut Printout, g: Given) {
     match g {
         Given::NotGiven => {}
-        Given::AtOnce(seat) => say(AT_ONCE, seat as u16, 0, 0),
-        Given::OutOfLine(seat) => say(OUT_OF_LINE, seat as u16, 0, 0),
+        Given::AtOnce(seat) => say(page, AT_ONCE, seat as u16, 0, 0),
+        Given::OutOfLine(seat) => say(page, OUT_OF_LINE, seat as u16, 0, 0),
     }
 }
 
@@ -191,109 +202,109 @@ fn is_any(set: [bool; 16]) -> bool {
     false
 }
 
-fn show_struck(set: [bool; 16]) {
+fn show_struck(page: &mut Printout, set: [bool; 16]) {
     if is_any(set) {
-        say(STRUCK, 0, 0, 0);
-        printing::seats(set);
-        printing::line_end();
+        say(page, STRUCK, 0, 0, 0);
+        printing::seats(page, set);
+        printing::line_end(page);
     }
 }
 
-fn show_marks(m: Marks) {
+fn show_marks(page: &mut Printout, m: Marks) {
     let placed = m.placed;
     let struck = m.struck;
     let ended = m.ended;
     let given = m.given;
-    show_mark(PLACED, placed);
-    show_struck(struck);
-    show_mark(ENDED, ended);
-    show_given(given);
+    show_mark(page, PLACED, placed);
+    show_struck(page, struck);
+    show_mark(page, ENDED, ended);
+    show_given(page, given);
 }
 
 // The wall: the floor, the line, the timers that run, the sequence number, the seats.
 
-fn show_floor(k: usize, e: Entry, cause: u16) {
-    say(k, e.seat as u16, e.priority as u16, cause);
+fn show_floor(page: &mut Printout, k: usize, e: Entry, cause: u16) {
+    say(page, k, e.seat as u16, e.priority as u16, cause);
 }
 
-fn show_phase(p: Phase) {
+fn show_phase(page: &mut Printout, p: Phase) {
     match p {
-        Phase::Stopped => say(PHASE, 0, 0, 0),
-        Phase::Idle(_) => say(PHASE + 1, 0, 0, 0),
-        Phase::Taken(e, _) => show_floor(PHASE + 2, e, 0),
-        Phase::Revoking(e, cause) => show_floor(PHASE + 3, e, cause),
+        Phase::Stopped => say(page, PHASE, 0, 0, 0),
+        Phase::Idle(_) => say(page, PHASE + 1, 0, 0, 0),
+        Phase::Taken(e, _) => show_floor(page, PHASE + 2, e, 0),
+        Phase::Revoking(e, cause) => show_floor(page, PHASE + 3, e, cause),
     }
 }
 
 // The line, from the wall screen's list of it.
-fn show_waiting(l: Line) {
+fn show_waiting(page: &mut Printout, l: Line) {
     let n = line::count(l);
     let entries = screen::listed(l);
     if n == 0 {
-        say(EMPTY, 0, 0, 0);
+        say(page, EMPTY, 0, 0, 0);
     }
     let mut i = 0;
     while i < n {
         let e = entries[i];
-        show_floor(ENTRY, e, 0);
+        show_floor(page, ENTRY, e, 0);
         i += 1;
     }
 }
 
-fn show_timer(k: usize, runs: bool) {
+fn show_timer(page: &mut Printout, k: usize, runs: bool) {
     if runs {
-        say(k, 0, 0, 0);
+        say(page, k, 0, 0, 0);
     }
 }
 
-fn show_timers(r: Running) {
-    show_timer(TIMERS, r.t1);
-    show_timer(TIMERS + 1, r.t2);
-    show_timer(TIMERS + 2, r.t3);
-    show_timer(TIMERS + 3, r.t4);
-    show_timer(TIMERS + 4, r.t7);
-    show_timer(TIMERS + 5, r.t8);
-    show_timer(TIMERS + 6, r.t20);
+fn show_timers(page: &mut Printout, r: Running) {
+    show_timer(page, TIMERS, r.t1);
+    show_timer(page, TIMERS + 1, r.t2);
+    show_timer(page, TIMERS + 2, r.t3);
+    show_timer(page, TIMERS + 3, r.t4);
+    show_timer(page, TIMERS + 4, r.t7);
+    show_timer(page, TIMERS + 5, r.t8);
+    show_timer(page, TIMERS + 6, r.t20);
 }
 
-fn show_wall(core: Core, present: [bool; 16]) {
+fn show_wall(page: &mut Printout, core: Core, present: [bool; 16]) {
     let p = core.phase;
     let l = core.line;
-    show_phase(p);
-    show_waiting(l);
-    say(RUNNING, 0, 0, 0);
-    show_timers(timers::running_timers(p));
-    say(SEQUENCE, core.sequence, 0, 0);
-    printing::seats(present);
-    say(END, 0, 0, 0);
+    show_phase(page, p);
+    show_waiting(page, l);
+    say(page, RUNNING, 0, 0, 0);
+    show_timers(page, timers::running_timers(p));
+    say(page, SEQUENCE, core.sequence, 0, 0);
+    printing::seats(page, present);
+    say(page, END, 0, 0, 0);
 }
 
-fn show_answer(answer: Answer) {
+fn show_answer(page: &mut Printout, answer: Answer) {
     let n = hall::number_of(answer);
     if 0 < n {
-        say(ANSWER, n as u16, 0, 0);
+        say(page, ANSWER, n as u16, 0, 0);
     }
 }
 
-fn show_report(desk: Desk, report: Report) {
+fn show_report(page: &mut Printout, desk: Desk, report: Report) {
     let first = report.first;
     let second = report.second;
     let marks = report.marks;
-    show_message(desk, first);
-    show_message(desk, second);
-    show_marks(marks);
+    show_message(page, desk, first);
+    show_message(page, desk, second);
+    show_marks(page, marks);
 }
 
-fn show_outcome(o: Outcome) {
+fn show_outcome(page: &mut Printout, o: Outcome) {
     let answer = o.answer;
     let desk = o.desk;
     let report = o.report;
     let core = desk.core;
     let hall = desk.hall;
     let present = hall.present;
-    show_answer(answer);
-    show_report(desk, report);
-    show_wall(core, present);
+    show_answer(page, answer);
+    show_report(page, desk, report);
+    show_wall(page, core, present);
 }
 
 // The exercise: what happens, one after the other.
@@ -369,15 +380,15 @@ fn happen(desk: Desk, k: usize) -> Outcome
 }
 
 // Plays from one event up to another.
-fn play(desk: Desk, from: usize, to: usize) -> Desk
+fn play(page: &mut Printout, desk: Desk, from: usize, to: usize) -> Desk
     requires { (from ≤ to) × (to ≤ 15) }
 {
     let mut now = desk;
     let mut k = from;
     while k < to {
         let o = happen(now, k);
-        say(EVENTS + k, 0, 0, 0);
-        show_outcome(o);
+        say(page, EVENTS + k, 0, 0, 0);
+        show_outcome(page, o);
         now = o.desk;
         k += 1;
     }
@@ -445,11 +456,15 @@ fn around(desk: Desk) -> Desk {
     Desk { core, hall, names }
 }
 
-fn main() {
+fn main(rt: HostRuntime) -> io::Result<()> {
+    let mut page = Page::new(rt.stdout());
     printing::text(
+        &mut page,
         b"\
           Thursday's exercise: level 200, line limit 2, C7 and C20 limits 2\n\
           seats 0 test1, 1 test10, 2 test2, 3 test3; all but seat 3 queue\n\n",
     );
-    play(around(play(class(), 0, 13)), 13, 15);
+    let desk = play(&mut page, class(), 0, 13);
+    play(&mut page, around(desk), 13, 15);
+    page.close()
 }
