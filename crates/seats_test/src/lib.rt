@@ -1,5 +1,7 @@
 // The seats of a desk judged in its octets, with no identity decoded: specs/Seated.antt has the test, a definition for each function here;
 // proofs/Seated.antt has that it is the test of the seats that the octets stand for.
+#![tactic(auto)]
+
 ghost use Rattle.std.specs.Prelude.{◌≡◌, true, ◌+◌, ◌≤◌, ◌<◌, length};
 ghost use Rattle.octets.specs.Octets.{nth_octet};
 ghost use Rattle.words.specs.Below.{all_below};
@@ -16,7 +18,7 @@ use desk_octets::{
 fn behind_is_zero(s: &[u8], seat: usize) -> bool
     requires desk_size_in_bounds { desk_size ≤ length s.now }
     requires seat_bound { seat < 16 }
-    requires seat_bound_2 { nth_octet s.now (lengths_column + seat) ≤ 62 }
+    requires length_bound { nth_octet s.now (lengths_column + seat) ≤ 62 }
     ensures { result ≡ zeros_behind s.now seat }
 {
     let at = IDENTITIES_COLUMN + 62 * seat;
@@ -121,7 +123,7 @@ fn free_fits(s: &[u8], seat: usize, ssrc: u32) -> bool
 fn seat_fits(s: &[u8], seat: usize) -> bool
     requires desk_size_in_bounds { desk_size ≤ length s.now }
     requires seat_bound { seat < 16 }
-    requires seat_bound_2 { nth_octet s.now (lengths_column + seat) ≤ 62 }
+    requires length_bound { nth_octet s.now (lengths_column + seat) ≤ 62 }
     ensures { result ≡ seat_fits s.now seat }
 {
     let ssrc = octets::number32(s, SSRCS_COLUMN + 4 * seat);
@@ -138,7 +140,7 @@ fn seat_fits(s: &[u8], seat: usize) -> bool
 
 fn each_seat_fits(s: &[u8]) -> bool
     requires desk_size_in_bounds { desk_size ≤ length s.now }
-    requires s_value { names_fit s.now ≡ true }
+    requires names_part { names_fit s.now ≡ true }
     ensures { result ≡ all_below (seat_fits s.now) 16 }
 {
     let mut ok = true;
@@ -154,8 +156,8 @@ fn each_seat_fits(s: &[u8]) -> bool
 // Whether the seats and the settings that octets stand for are sound.
 pub fn seats_are_sound(s: &[u8]) -> bool
     requires desk_size_in_bounds { desk_size ≤ length s.now }
-    requires s_value { hall_fits s.now ≡ true }
-    requires s_value_2 { names_fit s.now ≡ true }
+    requires hall_part { hall_fits s.now ≡ true }
+    requires names_part { names_fit s.now ≡ true }
     ensures { result ≡ seats_sound (hall_at s.now) (names_at s.now) }
 {
     let settings = desk_reading::settings_at(s);
