@@ -7,8 +7,9 @@
 #   make clean
 #   make dist        build/floor-VERSION.tar.gz: all that a bench needs, on a machine without the kit too
 #
-# The archive is proved and compiled by the Rattle kit (`rt staticlib floor`) and links into x86-64 programs. On an x86-64 machine they
-# are compiled by its own compiler; on any other by Debian's cross compiler, and run under the emulator.
+# The archive is proved and compiled by the Rattle kit (`rt lib` in crates/floor_c, whose functions are those of the crate floor under their C
+# names) and links into x86-64 programs. On an x86-64 machine they are compiled by its own compiler; on any other by Debian's cross compiler,
+# and run under the emulator.
 #
 # libfloor.a has the proved functions and nothing else; what prints them for people (floor_text.h) has an archive of its own.
 #
@@ -50,13 +51,12 @@ all: $(ARCHIVE) $(TEXT) $(OUT)/floorplay $(OUT)/thursday $(OUT)/server $(OUT)/fl
 
 # ---- the archive ----
 
-SOURCES = $(shell find crates -name '*.rt' -o -name '*.antt') crates.txt
+SOURCES = $(shell find crates -name out -prune -o \( -name '*.rt' -o -name '*.antt' \) -print) crates.txt
 
-# What the archive stands on is proved first, side by side, and said as it goes. PROVED=yes: it has just been proved, as in the gate.
+# What the archive stands on is proved first, where it has changed since it was proved here.
 build/libfloor.a: $(SOURCES) | build
-	$(if $(PROVED),,@tools/prove check $(shell sed -n 's/^floor://p' crates.txt))
-	@tools/prove staticlib floor
-	cp target/staticlib/libfloor.a $@
+	cd crates/floor_c && rt lib
+	cp crates/floor_c/out/libfloor_c.a $@
 
 # plain.c under the library's names; as_plain.h has the list of them.
 build/plain/libfloor.a: build/plain.o bench/as_plain.h | build/plain
