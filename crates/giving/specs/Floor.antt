@@ -12,8 +12,8 @@ use Rattle.steps.specs.declared.Core.{Core}
 use Rattle.steps.specs.declared.Kind.TheVariants as say
 use Rattle.steps.specs.declared.Given.TheVariants.{AtOnce, OutOfLine}
 use Rattle.steps.specs.declared.Step.{Step}
-use Rattle.steps.specs.Words.{◌in_phase◌, ◌with_line◌, ◌counting_c7◌, ◌counting_c20◌, next, numbered, ◌⇒◌, done, ◌turns◌, ◌sends◌, ◌marks_ended◌}
-use Rattle.steps.specs.Words.{◌marks_given◌}
+use Rattle.steps.specs.Words.{◌in_phase◌, ◌with_line◌, ◌counting_c7◌, ◌counting_c20◌, next, numbered, ◌⇒◌, done, ◌turns◌, ◌sends◌}
+use Rattle.steps.specs.Words.{◌marks_ended◌, ◌marks_given◌}
 
 -- who holds the floor: the holder in Taken and in Revoking
 abbrev pub holds : Phase → ℕ → Bool

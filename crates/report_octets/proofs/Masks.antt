@@ -24,10 +24,12 @@ mask_fits (b ∷ bs) (suc k) h =
     rw pow-suc (omega (arith, one-most b))
 
 -- one seat more in front
-pub mask_from : (set : List Bool) (i : ℕ) → i < length set → mask_of (drop i set) ≡ one (get_or set i false) + 2 * mask_of (drop (i + 1) set)
+pub mask_from : (set : List Bool) (i : ℕ) → i < length set →
+    mask_of (drop i set) ≡ one (get_or set i false) + 2 * mask_of (drop (i + 1) set)
 mask_from set i h = rw add-one (ap mask_of (drop-cons set i false h))
 
-pub mask_turn : (set : List Bool) (i mask : ℕ) (b : Bool) → 0 < i → i ≤ length set → mask ≡ mask_of (drop i set) → get_or set (i - 1) false ≡ b
+pub mask_turn : (set : List Bool) (i mask : ℕ) (b : Bool) → 0 < i → i ≤ length set → mask ≡ mask_of (drop i set) →
+    get_or set (i - 1) false ≡ b
     → one b + 2 * mask ≡ mask_of (drop (i - 1) set)
 mask_turn set i mask b p h m e =
     let j : i - 1 + 1 ≡ i = omega arith in
