@@ -1,4 +1,6 @@
 // Whether lent octets are a desk's (document 01, "The desk": "Octets not in that form get 20, before all else").
+#![tactic(auto)]
+
 ghost use Rattle.std.specs.Prelude.{◌≡◌};
 ghost use Rattle.desk_test.specs.Lent.{formed};
 
