@@ -1,5 +1,7 @@
 // A message that 40 octets hold (docs/FORMS.md, "A message") written as a packet, for C programs: straight out of the octets, its identities
 // and its phrase out of a source that is lent beside them. No message is made on the way.
+#![tactic(auto)]
+
 ghost use Rattle.std.specs.Prelude.{◌≡◌, true, ◌&&◌, ◌+◌, ◌≤◌, ◌<◌, length, get_or};
 ghost use Rattle.octets.specs.Octets.{be16, be32, Laid};
 ghost use Rattle.message.specs.Types.{typed};
@@ -151,7 +153,7 @@ fn part_fits(s: &[u8], fields: u16, worth: u16, at: usize, src: &[u8]) -> bool
     ensures { result ≡ (part_lies src.now (part_held s.now fields worth at) && identity_fits (part_held s.now fields worth at)) }
 {
     let p = part_in(s, fields, worth, at);
-    readable::part_lies_lem(p, src) && readable::identity_fits(p)
+    readable::part_lies(p, src) && readable::identity_fits(p)
 }
 
 fn cause_fits(s: &[u8], fields: u16, src: &[u8]) -> bool
@@ -171,6 +173,7 @@ fn word_fits(s: &[u8], fields: u16, worth: u16, at: usize, id: u8) -> bool
 }
 
 // Whether the identities and the phrase are in the source, and no field is against the table.
+#[tactic(auto, using(crate::proofs::Laws::fits_order), unfolding(crate::specs::Writes::message_in, message_octets::specs::Held::message_with, message::specs::Message::lies, readable::specs::Fitting::fitting))]
 fn all_fit(s: &[u8], fields: u16, src: &[u8]) -> bool
     requires { message_size ≤ length s.now }
     ensures { result ≡ (lies (message_in s.now fields) src.now && fitting (message_in s.now fields)) }

@@ -1,0 +1,16 @@
+-- `message_writing::cause_in` keeps its promise, `r ≡ cause_if (bitOf fields worth) (be16 (now s.entry) at) (be16 (now s.entry)
+-- phrase) (be16 (now s.entry) (phrase + 2))`. The cause stands at one place, where its phrase is at another. Assumes nothing.
+use mathlib.Core.Path.{sym, ◌∙◌}
+use Rattle.message_writing.proofs.cause_in.Goals as goal
+
+pub returns-then-is_set : goal.returns-then-is_set
+returns-then-is_set c =
+    rw (
+      c.number16.ensures,
+      c.place_at.ensures,
+      c.place_at-then-is_set.ensures,
+      sym c.is_set.ensures ∙ c.if-is_set.true,
+    )
+
+pub returns-else-is_set : goal.returns-else-is_set
+returns-else-is_set c = rw (sym c.is_set.ensures ∙ c.if-is_set.false)
