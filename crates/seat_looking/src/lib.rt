@@ -1,5 +1,7 @@
 // A seat of a desk in lent octets, written into a lent room as the sheet lays it out, and its settings, as the desk's octets have them.
 // specs/Showing.antt has what each answers, and what is left in the room.
+#![tactic(auto)]
+
 ghost use Rattle.std.specs.Prelude.{◌≡◌, true, ◌<◌};
 ghost use Rattle.hall.specs.Seats.{is_present};
 ghost use Rattle.seat_octets.specs.Layout.{settings_octets};
