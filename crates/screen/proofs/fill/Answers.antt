@@ -39,5 +39,7 @@ pub returns : goal.returns
 returns c =
     let l = c.args.line in
     let r = c.args.room.now in
-    let e : c.loop-i.i ≡ c.shown_in-n.result = omega arith in
-    (c.answer.ensures ∙ ap (list_answer (waiting l)) c.loop-i.auto.room, c.loop-i.invariant.1 ∙ ap (up_to (waiting l) r) (e ∙ c.shown_in-n.ensures) ∙ upto_left (waiting l) r)
+    let e : c.loop-i.i ≡ c.shown_in-n.result = omega arith in (
+      c.answer.ensures ∙ ap (list_answer (waiting l)) c.loop-i.auto.room,
+      c.loop-i.invariant.1 ∙ ap (up_to (waiting l) r) (e ∙ c.shown_in-n.ensures) ∙ upto_left (waiting l) r,
+    )

@@ -1,4 +1,5 @@
--- `screen::shown_in` meets its contract: each branch's test says which case of `shown_in` holds, and `count` how many wait. Assumes nothing.
+-- `screen::shown_in` meets its contract: each branch's test says which case of `shown_in` holds, and `count` how many wait. Assumes
+-- nothing.
 use mathlib.Core.Path.{sym, ◌∙◌}
 use Prim.Native.Nat.{◌≤◌, ◌<◌}
 use native.Mathlib.Omega.{arith}
