@@ -6,7 +6,7 @@ use mathlib.Core.Bool.{Bool, true, false, not}
 use mathlib.Core.Path.{◌≡◌, refl, sym}
 use lib.Dec.{eqb, leb}
 use borrow.Author.Tests.{eq-eqb, ne_eqb}
-use Rattle.words.specs.Choice.{if◌then◌else◌, one}
+use Rattle.words.specs.Choice.{when◌then◌else◌, one}
 use Rattle.octets.specs.Octets.{octets16}
 use Rattle.steps.specs.declared.Given.{Given}
 use Rattle.steps.specs.declared.Given.TheVariants.{NotGiven, AtOnce, OutOfLine}
@@ -20,7 +20,7 @@ use Rattle.clocks_laws.specs.Clockwork.{SetBack, someone_given, StartsTold, Stop
 
 -- a bit, as its weight once or not at all
 weighs : (b : Bool) (w : ℕ) → bit b w ≡ w * one b
-unfolding if◌then◌else◌
+unfolding when◌then◌else◌
 weighs true w = sym (mul-one w)
 weighs false w = sym (mul-zero w)
 
@@ -114,7 +114,7 @@ how_given_lem (AtOnce s) = refl
 how_given_lem (OutOfLine s) = refl
 
 pub starts_told : StartsTold
-unfolding starts_on if◌then◌else◌
+unfolding starts_on when◌then◌else◌
 starts_told before after fired r =
     rw (
       twenty_four r,

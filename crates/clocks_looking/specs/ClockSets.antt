@@ -1,7 +1,7 @@
 -- Which clocks a C program starts anew and stops after a step (clocks/specs/Clocks), between sets of timers as numbers, and with the report
 -- of the step for whether the floor was given. Assumes nothing.
 use Rattle.std.specs.Prelude.{ℕ, ◌+◌, ◌/◌, ◌%◌, Bool, not, ◌&&◌, List, eqb, leb, length, ℤ}
-use Rattle.words.specs.Choice.{if◌then◌else◌}
+use Rattle.words.specs.Choice.{when◌then◌else◌}
 use Rattle.octets.specs.Octets.{nth_octet}
 use Rattle.message.specs.Answers.{refused, result}
 use Rattle.timers.specs.declared.Running.{Running}
@@ -12,7 +12,7 @@ use Rattle.signed.specs.Signed.{signed}
 
 -- bit 1 for T1, .., bit 20 for T20
 abbrev pub bit : Bool → ℕ → ℕ
-bit b n = if b then n else 0
+bit b n = when b then n else 0
 
 unfoldable pub timer_set : Running → ℕ
 timer_set t = bit t.t1 2 + bit t.t2 4 + bit t.t3 8 + bit t.t4 16 + bit t.t7 128 + bit t.t8 256 + bit t.t20 1048576
@@ -49,7 +49,7 @@ set_started before after fired given =
     signed (result (timer_set (starts_anew (running_in before) (running_in after) (timer_named fired) given)))
 
 unfoldable pub starts_on : ℕ → ℕ → ℕ → List ℕ → ℤ
-starts_on before after fired r = if says_how_given r then set_started before after fired (was_given r) else signed (refused 12)
+starts_on before after fired r = when says_how_given r then set_started before after fired (was_given r) else signed (refused 12)
 
 abbrev pub stops_on : ℕ → ℕ → ℤ
 stops_on before after = signed (result (timer_set (stopped_timers (running_in before) (running_in after))))

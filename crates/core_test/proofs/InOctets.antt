@@ -13,7 +13,7 @@ use lib.ListN.{length, get_or, length-take, get_or-eq_default}
 use lib.Seq.{get_or-take}
 use borrow.Author.Tests.{eqb-true, eq-eqb, le-leb, ltb-true, ltb-false, le-ltb, not-true, ne_eqb}
 use Rattle.line.specs.Line.{entry_of}
-use Rattle.words.specs.Choice.{if◌then◌else◌, by_test}
+use Rattle.words.specs.Choice.{when◌then◌else◌, by_test}
 use Rattle.words.specs.Below.{all_below, below}
 use Rattle.words.proofs.Tests.{clash, both, or_right}
 use Rattle.line.specs.declared.Entry.{Entry}
@@ -166,23 +166,23 @@ module _ (s : List ℕ) (fits : core_fits s ≡ true) where
 -- the phase, by its number
 module _ (s : List ℕ) where
   pub phase_0 : nth_octet s phase_place ≡ 0 → (core_at s).phase ≡ Stopped
-  unfolding core_at phase_at phase_of if◌then◌else◌
+  unfolding core_at phase_at phase_of when◌then◌else◌
   phase_0 e = rw (eq-eqb (nth_octet s phase_place) 0 e)
 
   module _ (no-0 : ¬ (nth_octet s phase_place ≡ 0)) where
     pub phase_1 : nth_octet s phase_place ≡ 1 → (core_at s).phase ≡ Idle (eqb (nth_octet s timers_place) 1)
-    unfolding core_at phase_at phase_of if◌then◌else◌
+    unfolding core_at phase_at phase_of when◌then◌else◌
     phase_1 e = rw (ne_eqb (nth_octet s phase_place) 0 no-0, eq-eqb (nth_octet s phase_place) 1 e)
 
     module _ (no-1 : ¬ (nth_octet s phase_place ≡ 1)) where
       pub phase_2 : nth_octet s phase_place ≡ 2 →
           (core_at s).phase ≡ Taken (entry_of (nth_octet s holder_place) (nth_octet s held_at_place)) (also_of (nth_octet s timers_place))
-      unfolding core_at phase_at phase_of if◌then◌else◌
+      unfolding core_at phase_at phase_of when◌then◌else◌
       phase_2 e = rw (ne_eqb (nth_octet s phase_place) 0 no-0, ne_eqb (nth_octet s phase_place) 1 no-1, eq-eqb (nth_octet s phase_place) 2 e)
 
       pub phase_3 : ¬ (nth_octet s phase_place ≡ 2) →
           (core_at s).phase ≡ Revoking (entry_of (nth_octet s holder_place) (nth_octet s held_at_place)) (be16 s cause_place)
-      unfolding core_at phase_at phase_of if◌then◌else◌
+      unfolding core_at phase_at phase_of when◌then◌else◌
       phase_3 e = rw (ne_eqb (nth_octet s phase_place) 0 no-0, ne_eqb (nth_octet s phase_place) 1 no-1, ne_eqb (nth_octet s phase_place) 2 e)
 
 -- the counters

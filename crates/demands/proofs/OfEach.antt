@@ -8,7 +8,7 @@ use mathlib.Core.List.{List, [], ◌∷◌}
 use lib.Dec.{eqb}
 use lib.ListN.{get_or}
 use borrow.Author.Tests.{eqb-true, eq-eqb, ne_eqb}
-use Rattle.words.specs.Choice.{if◌then◌else◌, if_yes, if_no, by_test, by_if}
+use Rattle.words.specs.Choice.{when◌then◌else◌, if_yes, if_no, by_test, by_if}
 use Rattle.words.specs.Table.{get_d_fill}
 use Rattle.words.proofs.Tests.{clash, and_no, or_left, or_right}
 use Rattle.line.specs.declared.Entry.{Entry}
@@ -139,15 +139,15 @@ stops-nobody h x y = stops_in_lem h (becomes x) y
 -- a seat's place after its marks
 module _ (s : ℕ) (a : Asking) (m : Marks) (w : Place) where
   pub place_stays : is_struck s m ≡ false → is_given_out s m ≡ false → is_placed s m ≡ false → place_after s a m w ≡ asked_again s a w
-  unfolding place_after if◌then◌else◌
+  unfolding place_after when◌then◌else◌
   place_stays p q r = rw (p, q, r)
 
   place_comes : is_struck s m ≡ false → is_given_out s m ≡ false → is_placed s m ≡ true → place_after s a m w ≡ placed_at a
-  unfolding place_after if◌then◌else◌
+  unfolding place_after when◌then◌else◌
   place_comes p q r = rw (p, q, r)
 
   place_goes : (is_struck s m || is_given_out s m) ≡ true → place_after s a m w ≡ away
-  unfolding place_after if◌then◌else◌
+  unfolding place_after when◌then◌else◌
   place_goes p = rw p
 
 module _ (d : Desk) (x : Doing) (new : Core) (m : Marks) where

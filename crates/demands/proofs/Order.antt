@@ -8,7 +8,7 @@ use native.Mathlib.Omega.{arith}
 use lib.Dec.{eqb}
 use lib.ListN.{length}
 use borrow.Author.Tests.{eqb-true, eq-eqb, ne_eqb}
-use Rattle.words.specs.Choice.{if◌then◌else◌, if_yes, if_no, by_test, by_if}
+use Rattle.words.specs.Choice.{when◌then◌else◌, if_yes, if_no, by_test, by_if}
 use Rattle.words.proofs.Tests.{clash, or_left, or_right, or_else, neither}
 use Rattle.line.specs.declared.Entry.{Entry}
 use Rattle.line.specs.Line.{waiting, is_in, enter, without, priority_of, entry_of}
@@ -61,7 +61,7 @@ order_same at to (x ∷ xs) f k = (
 
 -- the times after a step
 abbrev stamp : Marks → Asking → List Entry → ℕ → (ℕ → ℕ) → ℕ → ℕ
-stamp m a es n at s = if is_placed s m || is_moved s a (place_in s es) then suc n else at s
+stamp m a es n at s = when is_placed s m || is_moved s a (place_in s es) then suc n else at s
 
 apart : (t s : ℕ) (es : List Entry) → is_in t es ≡ false → is_in s es ≡ true → eqb t s ≡ false
 apart t s es w i = by_test (eqb t s) (λ z. clash i (ap (λ (x : ℕ). is_in x es) (sym (eqb-true t s z)) ∙ w)) (λ z. z)

@@ -7,7 +7,7 @@ use native.Mathlib.Omega.{arith}
 use lib.Dec.{eqb, leb}
 use lib.ListN.{get_or}
 use borrow.Author.Tests.{eqb-true, eq-eqb}
-use Rattle.words.specs.Choice.{if◌then◌else◌, if_yes, if_no, by_test, by_if}
+use Rattle.words.specs.Choice.{when◌then◌else◌, if_yes, if_no, by_test, by_if}
 use Rattle.words.proofs.Tests.{clash, or_else, neither_left, neither_right}
 use Rattle.line.specs.declared.Entry.{Entry}
 use Rattle.line.specs.Line.{is_in, empty, enter, without, priority_of}
@@ -18,7 +18,7 @@ use Rattle.demands.specs.Demands.{Place, away, in_line}
 
 -- the priority at which a seat waits, place by place
 pub priority_cons : (s : ℕ) (x : Entry) (xs : List Entry) →
-    priority_of s (x ∷ xs) ≡ (if eqb x.seat s then x.priority else priority_of s xs)
+    priority_of s (x ∷ xs) ≡ (when eqb x.seat s then x.priority else priority_of s xs)
 unfolding priority_of
 priority_cons s x xs =
     by_test (eqb x.seat s)
@@ -32,20 +32,20 @@ priority_most p s (x ∷ xs) k i =
     (by_if (λ (n : ℕ). n ≤ p) (eqb x.seat s) (λ _. k.0) (λ q. priority_most p s xs k.1 (or_else _ _ q (sym (in_cons s x xs) ∙ i))))
 
 swapped : (a b : Bool) (m n o : ℕ) → (a ≡ true → b ≡ true → ⊥) →
-    (if a then m else if b then n else o) ≡ (if b then n else if a then m else o)
-unfolding if◌then◌else◌
+    (when a then m else when b then n else o) ≡ (when b then n else when a then m else o)
+unfolding when◌then◌else◌
 swapped true true m n o f = absurd (f refl refl)
 swapped true false m n o f = refl
 swapped false true m n o f = refl
 swapped false false m n o f = refl
 
 pub priority_enter : (s : ℕ) (e : Entry) (es : List Entry) → is_in e.seat es ≡ false →
-    priority_of s (enter e es) ≡ (if eqb e.seat s then e.priority else priority_of s es)
+    priority_of s (enter e es) ≡ (when eqb e.seat s then e.priority else priority_of s es)
 priority_enter s e [] n = ap (priority_of s) (enter_nil e) ∙ priority_cons s e []
 priority_enter s e (x ∷ xs) n =
     let m : (eqb x.seat e.seat || is_in e.seat xs) ≡ false = sym (in_cons e.seat x xs) ∙ n in
     rw (enter_cons e x xs)
-    (by_if (λ (es : List Entry). priority_of s es ≡ (if eqb e.seat s then e.priority else priority_of s (x ∷ xs)))
+    (by_if (λ (es : List Entry). priority_of s es ≡ (when eqb e.seat s then e.priority else priority_of s (x ∷ xs)))
     (leb e.priority x.priority)
     (λ _. rw (
       priority_cons s x (enter e xs),
@@ -73,7 +73,7 @@ priority_without s seats (x ∷ xs) q =
 
 -- where a seat is in a line
 abbrev pub place_in : ℕ → List Entry → Place
-place_in s es = if is_in s es then in_line (priority_of s es) else away
+place_in s es = when is_in s es then in_line (priority_of s es) else away
 
 pub place_out : (s : ℕ) (es : List Entry) → is_in s es ≡ false → place_in s es ≡ away
 place_out s es q = if_no _ _ _ q
@@ -90,24 +90,24 @@ in_place s p es q =
 
 -- another in the line, or fewer
 pub place_enter : (s : ℕ) (e : Entry) (es : List Entry) → is_in e.seat es ≡ false →
-    place_in s (enter e es) ≡ (if eqb e.seat s then in_line e.priority else place_in s es)
-unfolding if◌then◌else◌
+    place_in s (enter e es) ≡ (when eqb e.seat s then in_line e.priority else place_in s es)
+unfolding when◌then◌else◌
 place_enter s e es n =
     by_test (eqb e.seat s) (λ q. rw (in_enter s e es, priority_enter s e es n, q))
     (λ q. rw (in_enter s e es, priority_enter s e es n, q))
 
 pub place_without : (s : ℕ) (seats : List Bool) (es : List Entry) →
-    place_in s (without seats es) ≡ (if get_or seats s false then away else place_in s es)
-unfolding if◌then◌else◌
+    place_in s (without seats es) ≡ (when get_or seats s false then away else place_in s es)
+unfolding when◌then◌else◌
 place_without s seats es =
     by_test (get_or seats s false)
     (λ q. rw (q, in_without s seats es) (gone (is_in s es) (priority_of s (without seats es)) (get_or seats s false) q))
     (λ q. rw (priority_without s seats es q, in_without s seats es, q) (kept (is_in s es) (priority_of s es)))
   where
-    gone : (b : Bool) (n : ℕ) (g : Bool) → g ≡ true → (if b && not g then in_line n else away) ≡ away
+    gone : (b : Bool) (n : ℕ) (g : Bool) → g ≡ true → (when b && not g then in_line n else away) ≡ away
     gone true n g q = rw q
     gone false n g q = refl
 
-    kept : (b : Bool) (n : ℕ) → (if b && true then in_line n else away) ≡ (if b then in_line n else away)
+    kept : (b : Bool) (n : ℕ) → (when b && true then in_line n else away) ≡ (when b then in_line n else away)
     kept true n = refl
     kept false n = refl

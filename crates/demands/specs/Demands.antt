@@ -9,7 +9,7 @@
 -- 3 of any sequence of steps: the statements below. 1, 4 and the first half of 5 in proofs/Counts, 2 and the rest of 5 in proofs/Steps,
 --         3 in proofs/Order. The same of the library that C programs call, from its promises: crate library.
 use Rattle.std.specs.Prelude.{ℕ, suc, ◌+◌, ◌≤◌, ◌<◌, ◌≡◌, Bool, true, false, not, ◌&&◌, ◌||◌, List, [], ◌∷◌, eqb, length, get_or}
-use Rattle.words.specs.Choice.{if◌then◌else◌, one}
+use Rattle.words.specs.Choice.{when◌then◌else◌, one}
 use Rattle.line.specs.declared.Entry.{Entry}
 use Rattle.line.specs.Line.{waiting, is_in, enter, without, priority_of, entry_of}
 use Rattle.hall.specs.declared.Hall.{Hall}
@@ -94,7 +94,7 @@ moves s p es = is_in s es && not (eqb (priority_of s es) p)
 abbrev pub comes_into : Asking → Mark → List Entry → List Entry
 comes_into nobody m es = es
 comes_into (asks s p) (Seat t) es = enter (entry_of s p) es
-comes_into (asks s p) NoSeat es = if moves s p es then enter (entry_of s p) (without (only s) es) else es
+comes_into (asks s p) NoSeat es = when moves s p es then enter (entry_of s p) (without (only s) es) else es
 
 -- who is given the floor out of the line goes out
 abbrev pub goes_out : Given → List Entry → List Entry
@@ -133,12 +133,12 @@ placed_at (asks t p) = in_line p
 abbrev pub asked_again : ℕ → Asking → Place → Place
 asked_again s nobody w = w
 asked_again s (asks t p) away = away
-asked_again s (asks t p) (in_line q) = if eqb t s then in_line p else in_line q
+asked_again s (asks t p) (in_line q) = when eqb t s then in_line p else in_line q
 
 unfoldable pub place_after : ℕ → Asking → Marks → Place → Place
 place_after s a m w =
-    if is_struck s m || is_given_out s m then away
-    else if is_placed s m then placed_at a
+    when is_struck s m || is_given_out s m then away
+    else when is_placed s m then placed_at a
     else asked_again s a w
 
 abbrev pub place_of : ℕ → List Row → Place
@@ -154,7 +154,7 @@ is_moved s (asks t p) (in_line q) = eqb t s && not (eqb q p)
 abbrev pub latest : ℕ → List Row → ℕ
 latest s [] = 0
 latest s (r ∷ past) =
-    if is_placed s r.report.marks || is_moved s r.asked (place_of s past) then suc (length past) else latest s past
+    when is_placed s r.report.marks || is_moved s r.asked (place_of s past) then suc (length past) else latest s past
 
 -- WHY A SEAT MAY BE STRUCK OFF: its own release, its own leave, or the call stops
 

@@ -1,5 +1,5 @@
 -- What a look answers. Assumes nothing.
-use Rattle.words.specs.Choice.{if◌then◌else◌}
+use Rattle.words.specs.Choice.{when◌then◌else◌}
 use Prim.Native.Nat.{ℕ}
 use mathlib.Core.Path.{◌≡◌}
 use mathlib.Core.Bool.{true, false}
@@ -12,9 +12,9 @@ use Rattle.desk_looking.specs.Looking.{looks}
 
 -- what a look answers
 pub looks_so : (d : List ℕ) (a : Answer ℕ) → formed d ≡ true → looks d a ≡ signed a
-unfolding looks if◌then◌else◌
+unfolding looks when◌then◌else◌
 looks_so d a q = rw q
 
 pub looks-not : (d : List ℕ) (a : Answer ℕ) → formed d ≡ false → looks d a ≡ neg_ℤ (pos 20)
-unfolding looks if◌then◌else◌
+unfolding looks when◌then◌else◌
 looks-not d a q = rw q

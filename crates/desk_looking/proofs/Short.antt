@@ -5,7 +5,7 @@ use native.Mathlib.Omega.{arith}
 use lib.Dec.{ltb}
 use lib.ListN.{length}
 use Rattle.header.specs.Header.{longest_packet}
-use Rattle.words.specs.Choice.{if◌then◌else◌, by_test}
+use Rattle.words.specs.Choice.{when◌then◌else◌, by_test}
 use Rattle.message.specs.Message.{said}
 use Rattle.message.specs.declared.Message.{Message}
 use Rattle.writing.specs.Wire.{wire}
@@ -19,7 +19,7 @@ use Rattle.message_octets.specs.Held.{Held, Is, Nothing, writing_of}
 use Rattle.desk_looking.specs.Looking.{size_in}
 
 writing_short : (m : Message) (src : List ℕ) (room : ℕ) → size_in (writing m src room) ≤ longest_packet
-unfolding writing if◌then◌else◌
+unfolding writing when◌then◌else◌
 writing_short m src room =
     by_test (readable m src)
     (λ r. by_test (ltb room (length (wire (said m src)))) (λ t. rw (r, t) (omega arith))

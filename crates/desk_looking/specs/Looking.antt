@@ -2,7 +2,7 @@
 -- packet; and packets by themselves (document 01, "The desk"). The order of the tests: 20, where a desk is lent; then the paper's refusals;
 -- then 13. A refusal leaves all as it was. Assumes nothing.
 use Rattle.std.specs.Prelude.{ℕ, ◌*◌, List, [], ◌∷◌, leb, length, get_or, ℤ}
-use Rattle.words.specs.Choice.{if◌then◌else◌}
+use Rattle.words.specs.Choice.{when◌then◌else◌}
 use Rattle.octets.specs.Octets.{over}
 use Rattle.message.specs.Answers.{Answer, refused, result}
 use Rattle.signed.specs.Signed.{told_as, signed, by_number, answers}
@@ -29,7 +29,7 @@ use Rattle.desk_test.specs.Lent.{formed}
 -- LOOKING AT A DESK
 
 unfoldable pub looks : List ℕ → Answer ℕ → ℤ
-looks d a = if formed d then signed a else signed (refused 20)
+looks d a = when formed d then signed a else signed (refused 20)
 
 -- what is asked of the holder: its seat, and the priority at which it was given the floor; 22 where nobody holds it
 abbrev pub of_holder : (Entry → ℕ) → Phase → Answer ℕ
@@ -64,10 +64,10 @@ pairs es = rows (pair_at es) 0 (length es)
 
 unfoldable pub screened : List Entry → List ℕ → ℤ × List ℕ
 screened es room =
-    if leb (2 * length es) (length room) then answers (result (length es)) (over room 0 (pairs es)) else answers (refused 13) room
+    when leb (2 * length es) (length room) then answers (result (length es)) (over room 0 (pairs es)) else answers (refused 13) room
 
 abbrev pub screen_on : List ℕ → List ℕ → ℤ × List ℕ
-screen_on d room = if formed d then screened (waiting (core_at d).line) room else answers (refused 20) room
+screen_on d room = when formed d then screened (waiting (core_at d).line) room else answers (refused 20) room
 
 -- a sheet
 abbrev pub saved_answer : Save → Answer ℕ
@@ -75,7 +75,7 @@ saved_answer s = by_number s.number s.written
 
 abbrev pub save_on : List ℕ → List ℕ → ℤ × List ℕ
 save_on d room =
-    if formed d then answers (saved_answer (saving (hall_at d) (names_at d) room)) (room_after (hall_at d) (names_at d) room)
+    when formed d then answers (saved_answer (saving (hall_at d) (names_at d) room)) (room_after (hall_at d) (names_at d) room)
     else answers (refused 20) room
 
 -- a report's message as its packet; the seat that Taken names has its identity in the desk
@@ -90,7 +90,7 @@ tells d room NoMessage = answers (refused 12) room
 tells d room (Says k) = answers (sending (packet_for d k) (identity_in d k) (length room)) (sent (packet_for d k) (identity_in d k) room)
 
 abbrev pub message_on : List ℕ → List ℕ → ℕ → List ℕ → ℤ × List ℕ
-message_on d r which room = if formed d then tells d room (told_in r which) else answers (refused 20) room
+message_on d r which room = when formed d then tells d room (told_in r which) else answers (refused 20) room
 
 -- a packet by itself: read into a message's 40 octets, and written out of them
 abbrev pub read_on : List ℕ → List ℕ → ℤ × List ℕ

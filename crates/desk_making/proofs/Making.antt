@@ -1,5 +1,5 @@
 -- What making, loading and joining leave, a law for each way they can end, and settings that octets hold. Assumes nothing.
-use Rattle.words.specs.Choice.{if◌then◌else◌}
+use Rattle.words.specs.Choice.{when◌then◌else◌}
 use Rattle.desk_octets.specs.Places.{desk_size}
 use Prim.Native.Nat.{ℕ, ◌<◌}
 use mathlib.Core.Path.{◌≡◌, refl, sym}
@@ -27,16 +27,16 @@ use Rattle.desk_making.specs.Making.{desk_written, in_octets, settable, make_on}
 
 module _ (room : List ℕ) (n k : ℕ) (c : Core) (h : Hall) (ns : Names) where
   pub unwritten : eqb n 0 ≡ false → desk_written room n k c h ns ≡ answers (refused n) room
-  unfolding desk_written if◌then◌else◌
+  unfolding desk_written when◌then◌else◌
   unwritten e = rw e
 
   pub too_short : eqb n 0 ≡ true → leb desk_size (length room) ≡ false → desk_written room n k c h ns ≡ answers (refused 13) room
-  unfolding desk_written if◌then◌else◌
+  unfolding desk_written when◌then◌else◌
   too_short e l = rw (e, l)
 
   pub written_so : eqb n 0 ≡ true → leb desk_size (length room) ≡ true →
       desk_written room n k c h ns ≡ answers (result k) (over room 0 (octets_of_desk c h ns))
-  unfolding desk_written if◌then◌else◌
+  unfolding desk_written when◌then◌else◌
   written_so e l = rw (e, l)
 
 -- settings that octets hold, as a test and as facts
@@ -71,9 +71,9 @@ module _ (s : Settings) where
 -- a desk is made by the answer to its settings
 module _ (room : List ℕ) (s : Settings) where
   made_by : (b : Bool)
-      → (if b then desk_written room 0 0 fresh (empty_hall s) no_names else answers (refused (answer_number OutsideRange)) room)
-      ≡ desk_written room (answer_number (if b then Done else OutsideRange)) 0 fresh (empty_hall s) no_names
-  unfolding desk_written if◌then◌else◌
+      → (when b then desk_written room 0 0 fresh (empty_hall s) no_names else answers (refused (answer_number OutsideRange)) room)
+      ≡ desk_written room (answer_number (when b then Done else OutsideRange)) 0 fresh (empty_hall s) no_names
+  unfolding desk_written when◌then◌else◌
   made_by true = refl
   made_by false = refl
 
@@ -82,5 +82,5 @@ module _ (room : List ℕ) (s : Settings) where
   made_so q = rw q (sym (made_by (in_range s)))
 
   pub not_made : in_octets s ≡ false → make_on room s ≡ answers (refused (answer_number OutsideRange)) room
-  unfolding settable if◌then◌else◌
+  unfolding settable when◌then◌else◌
   not_made q = rw q

@@ -3,7 +3,7 @@
 -- is long enough: what stood there is not asked. Assumes nothing.
 use Rattle.desk_octets.specs.Places.{desk_size}
 use Rattle.std.specs.Prelude.{ℕ, Bool, not, ◌&&◌, List, eqb, leb, ltb, ℤ, length}
-use Rattle.words.specs.Choice.{if◌then◌else◌}
+use Rattle.words.specs.Choice.{when◌then◌else◌}
 use Rattle.octets.specs.Octets.{over}
 use Rattle.message.specs.Answers.{refused, result}
 use Rattle.signed.specs.Signed.{answers}
@@ -29,8 +29,8 @@ use Rattle.desk_making.specs.declared.WideSettings.{WideSettings}
 -- a desk that is written, unless its number n refuses it: k is what is answered once it is done
 unfoldable pub desk_written : List ℕ → (n k : ℕ) → Core → Hall → Names → ℤ × List ℕ
 desk_written room n k c h ns =
-    if eqb n 0
-    then (if leb desk_size (length room) then answers (result k) (over room 0 (octets_of_desk c h ns)) else answers (refused 13) room)
+    when eqb n 0
+    then (when leb desk_size (length room) then answers (result k) (over room 0 (octets_of_desk c h ns)) else answers (refused 13) room)
     else answers (refused n) room
 
 -- settings come as numbers of 32 bits: those that no octet holds are outside their range
@@ -45,7 +45,7 @@ unfoldable pub settable : Settings → Bool
 settable s = in_octets s && in_range s
 
 abbrev pub make_on : List ℕ → Settings → ℤ × List ℕ
-make_on room s = if settable s then desk_written room 0 0 fresh (empty_hall s) no_names else answers (refused (answer_number OutsideRange)) room
+make_on room s = when settable s then desk_written room 0 0 fresh (empty_hall s) no_names else answers (refused (answer_number OutsideRange)) room
 
 abbrev pub load_on : List ℕ → List ℕ → ℤ × List ℕ
 load_on room sheet = desk_written room (loading sheet).number 0 (loading sheet).core (loading sheet).hall (loading sheet).names
@@ -62,7 +62,7 @@ seat_taken Nowhere = 0
 
 abbrev pub joined_on : List ℕ → Joined → ℤ × List ℕ
 joined_on d j =
-    if formed d then desk_written d (answer_number j.answer) (seat_taken j.seat) (core_at d) j.hall j.names
+    when formed d then desk_written d (answer_number j.answer) (seat_taken j.seat) (core_at d) j.hall j.names
     else answers (refused 20) d
 
 abbrev pub join_on : List ℕ → List ℕ → Newcomer → ℤ × List ℕ

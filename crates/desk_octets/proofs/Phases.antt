@@ -4,7 +4,7 @@ use native.Mathlib.Omega.{arith}
 use mathlib.Core.Path.{◌≡◌, refl, sym, ap}
 use mathlib.Core.Bool.{true}
 use lib.Dec.{eqb, leb}
-use Rattle.words.specs.Choice.{if◌then◌else◌, by_test}
+use Rattle.words.specs.Choice.{when◌then◌else◌, by_test}
 use borrow.Author.Tests.{eqb-true, eqb-false, leb-true}
 use Rattle.line.specs.declared.Entry.{Entry}
 use Rattle.steps.specs.declared.AlsoRuns.{AlsoRuns}
@@ -16,7 +16,7 @@ use Rattle.words.proofs.Tests.{and_both, and_four}
 use Rattle.desk_octets.proofs.Flags.{flag_back, flag_fits, flag_forth}
 
 also_back : (b : AlsoRuns) → also_of (also_octet b) ≡ b
-unfolding also_of if◌then◌else◌
+unfolding also_of when◌then◌else◌
 also_back NoMore = refl
 also_back T2 = refl
 also_back T20 = refl
@@ -27,21 +27,21 @@ also_fits T2 = refl
 also_fits T20 = refl
 
 pub phase_back : (p : Phase) → phase_of (kind_octet p) (timers_octet p) (holder_in p) (cause_in p) ≡ p
-unfolding phase_of if◌then◌else◌
+unfolding phase_of when◌then◌else◌
 phase_back Stopped = refl
 phase_back (Idle b) = ap Idle (flag_back b)
 phase_back (Taken e b) = ap (Taken e) (also_back b)
 phase_back (Revoking e n) = refl
 
 pub phase_fits_lem : (p : Phase) → phase_fits (kind_octet p) (timers_octet p) (holder_in p) (cause_in p) ≡ true
-unfolding phase_fits if◌then◌else◌
+unfolding phase_fits when◌then◌else◌
 phase_fits_lem Stopped = refl
 phase_fits_lem (Idle b) = rw (flag_fits b)
 phase_fits_lem (Taken e b) = rw (also_fits b)
 phase_fits_lem (Revoking e n) = refl
 
 also_forth : (n : ℕ) → leb n 2 ≡ true → also_octet (also_of n) ≡ n
-unfolding also_of if◌then◌else◌
+unfolding also_of when◌then◌else◌
 also_forth n h =
     by_test (eqb n 0)
     (λ t. rw t (sym (eqb-true n 0 t)))
@@ -59,7 +59,7 @@ pub record Octets4 (kind timers : ℕ) (holder : Entry) (cause : ℕ) (p : Phase
 
 pub phase_forth : (kind timers : ℕ) (holder : Entry) (cause : ℕ) → phase_fits kind timers holder cause ≡ true →
     Octets4 kind timers holder cause (phase_of kind timers holder cause)
-unfolding phase_of phase_fits if◌then◌else◌
+unfolding phase_of phase_fits when◌then◌else◌
 phase_forth k t e n h =
     by_test (eqb k 0)
     (λ a. let f = and_four (eqb t 0) (eqb e.seat 0) (eqb e.priority 0) (eqb n 0) (rw a at h) in

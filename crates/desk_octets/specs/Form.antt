@@ -5,7 +5,7 @@
 -- names in specs/Places. Assumes nothing.
 use Rattle.std.specs.Prelude.{ℕ, ◌+◌, ◌*◌, Bool, false, ◌&&◌, List, [], ◌∷◌, ◌++◌, leb, eqb, length, get_or, replicate}
 use Rattle.line.specs.Line.{entry_of}
-use Rattle.words.specs.Choice.{if◌then◌else◌, one}
+use Rattle.words.specs.Choice.{when◌then◌else◌, one}
 use Rattle.words.specs.Below.{all_below}
 use Rattle.octets.specs.Octets.{be16, be32, octets16, octets32, nth_octet}
 use Rattle.line.specs.declared.Entry.{Entry}
@@ -125,11 +125,11 @@ abbrev pub bool_at : List ℕ → ℕ → Bool
 bool_at s i = eqb (get_or s i 0) 1
 
 unfoldable pub also_of : ℕ → AlsoRuns
-also_of n = if eqb n 0 then NoMore else if eqb n 1 then T2 else T20
+also_of n = when eqb n 0 then NoMore else when eqb n 1 then T2 else T20
 
 unfoldable pub phase_of : ℕ → ℕ → Entry → ℕ → Phase
 phase_of kind timers holder cause =
-    if eqb kind 0 then Stopped else if eqb kind 1 then Idle (eqb timers 1) else if eqb kind 2 then Taken holder (also_of timers)
+    when eqb kind 0 then Stopped else when eqb kind 1 then Idle (eqb timers 1) else when eqb kind 2 then Taken holder (also_of timers)
     else Revoking holder cause
 
 unfoldable pub phase_at : List ℕ → Phase
@@ -195,9 +195,9 @@ up_to top s at n = all_below (λ i. leb (nth_octet s (at + i)) top) n
 -- what a phase does not have is zero
 unfoldable pub phase_fits : ℕ → ℕ → Entry → ℕ → Bool
 phase_fits kind timers holder cause =
-    if eqb kind 0 then eqb timers 0 && eqb holder.seat 0 && eqb holder.priority 0 && eqb cause 0
-    else if eqb kind 1 then leb timers 1 && eqb holder.seat 0 && eqb holder.priority 0 && eqb cause 0
-    else if eqb kind 2 then leb timers 2 && eqb cause 0
+    when eqb kind 0 then eqb timers 0 && eqb holder.seat 0 && eqb holder.priority 0 && eqb cause 0
+    else when eqb kind 1 then leb timers 1 && eqb holder.seat 0 && eqb holder.priority 0 && eqb cause 0
+    else when eqb kind 2 then leb timers 2 && eqb cause 0
     else eqb kind 3 && eqb timers 0
 
 unfoldable pub letters_fit : List ℕ → Bool

@@ -1,5 +1,5 @@
 -- What a step on lent octets leaves, a law for each way it can end. Assumes nothing.
-use Rattle.words.specs.Choice.{if◌then◌else◌}
+use Rattle.words.specs.Choice.{when◌then◌else◌}
 use Prim.Native.Nat.{ℕ}
 use mathlib.Core.Path.{◌≡◌}
 use mathlib.Core.Bool.{true, false}
@@ -19,17 +19,17 @@ same_leaves {d = d} {r = r} p = λ i. step_leaves (p i) d r
 module _ (d : List ℕ) (q : formed d ≡ true) where
   module _ (r : List ℕ) (n : ℕ) (desk report : List ℕ) where
     pub refused_so : eqb n 0 ≡ false → settles d r n desk report ≡ refusal n d r
-    unfolding settles if◌then◌else◌
+    unfolding settles when◌then◌else◌
     refused_so e = rw (q, e)
 
     pub no_room_so : eqb n 0 ≡ true → leb report_size (length r) ≡ false → settles d r n desk report ≡ refusal 13 d r
-    unfolding settles if◌then◌else◌
+    unfolding settles when◌then◌else◌
     no_room_so e l = rw (q, e, l)
 
     pub done_so : eqb n 0 ≡ true → leb report_size (length r) ≡ true → settles d r n desk report ≡ finished desk (over r 0 report)
-    unfolding settles if◌then◌else◌
+    unfolding settles when◌then◌else◌
     done_so e l = rw (q, e, l)
 
 pub no_desk_so : (d r : List ℕ) (n : ℕ) (desk report : List ℕ) → formed d ≡ false → settles d r n desk report ≡ refusal 20 d r
-unfolding settles if◌then◌else◌
+unfolding settles when◌then◌else◌
 no_desk_so d r n desk report q = rw q

@@ -2,7 +2,7 @@
 -- Octets not in that form get 20, before all else"): each is its rule between decoding and encoding, what it answers, and what it leaves in
 -- every lent buffer. The order of the tests: 20; then the paper's refusals; then 13. A refusal leaves all as it was. Assumes nothing.
 use Rattle.std.specs.Prelude.{ℕ, List, eqb, leb, ltb, ℤ, length}
-use Rattle.words.specs.Choice.{if◌then◌else◌}
+use Rattle.words.specs.Choice.{when◌then◌else◌}
 use Rattle.octets.specs.Octets.{over}
 use Rattle.message.specs.Answers.{refused, result}
 use Rattle.signed.specs.Signed.{signed}
@@ -37,8 +37,8 @@ finished d r = step_leaves (signed (result 0)) d r
 -- a step to which the rules answer n, with the desk and the report it would write
 unfoldable pub settles : List ℕ → List ℕ → ℕ → List ℕ → List ℕ → Leaves
 settles d r n desk report =
-    if formed d
-    then (if eqb n 0 then (if leb report_size (length r) then finished desk (over r 0 report) else refusal 13 d r) else refusal n d r)
+    when formed d
+    then (when eqb n 0 then (when leb report_size (length r) then finished desk (over r 0 report) else refusal 13 d r) else refusal n d r)
     else refusal 20 d r
 
 -- what happens comes to an outcome: the whole desk afterwards, and the report
@@ -62,7 +62,7 @@ packet_on d r p = step_on d r (hears (core_at d) (hall_at d) p)
 
 -- every number that no seat has is one such number
 unfoldable pub seat_numbered : ℕ → ℕ
-seat_numbered n = if ltb n 16 then n else 16
+seat_numbered n = when ltb n 16 then n else 16
 
 abbrev pub leave_on : List ℕ → List ℕ → ℕ → Leaves
 leave_on d r seat = outcome_on d r (leave (whole_desk (core_at d) (hall_at d) (names_at d)) seat)

@@ -7,7 +7,7 @@ use native.Mathlib.Omega.{arith}
 use lib.Dec.{eqb, ltb}
 use lib.ListN.{length, get_or, get_or-eq_default}
 use borrow.Author.Tests.{eqb-true, eqb-false, eq-eqb, ne_eqb, ltb-true, ltb-false, not-true}
-use Rattle.words.specs.Choice.{if◌then◌else◌, if_yes, if_no, by_test}
+use Rattle.words.specs.Choice.{when◌then◌else◌, if_yes, if_no, by_test}
 use Rattle.words.specs.Below.{all_below, below}
 use Rattle.words.specs.Table.{padded, padded-length}
 use Rattle.words.proofs.Tests.{clash, and_both, and_four, both, four, or_left, or_right, or_else}
@@ -98,7 +98,7 @@ none_set : (f : Flags) → eqb (flags_octet f) 0 ≡ true → f ≡ no_flags
 none_set f q = sym (flags_back f) ∙ ap flags_of (eqb-true (flags_octet f) 0 q) ∙ none_of
 
 no_flags_lem : eqb (flags_octet no_flags) 0 ≡ true
-unfolding flags_octet if◌then◌else◌
+unfolding flags_octet when◌then◌else◌
 no_flags_lem = refl
 
 -- a seat's tests, one by one
@@ -166,10 +166,10 @@ module _ (h : Hall) (ns : Names) (shaped : TypedSeats h ns) (q : seats_sound h n
   tests = and_both (in_range h.settings) (all_below (seat_sound h ns) 16) q
 
   module _ (s : ℕ) (b : s < 16) where
-    seat : (name_sound (name_at ns s) ≡ true) × ((if is_present h s then taken_sound h ns s else free_sound h ns s) ≡ true)
+    seat : (name_sound (name_at ns s) ≡ true) × ((when is_present h s then taken_sound h ns s else free_sound h ns s) ≡ true)
     unfolding seat_sound
     seat =
-        and_both (name_sound (name_at ns s)) (if is_present h s then taken_sound h ns s else free_sound h ns s)
+        and_both (name_sound (name_at ns s)) (when is_present h s then taken_sound h ns s else free_sound h ns s)
         (below (seat_sound h ns) 16 tests.1 s b)
 
     whole_there : name_at ns s ≡ name_of (octets_of (name_at ns s))
@@ -214,7 +214,7 @@ unfolding seats_sound seat_sound
 seats_test_lem h ns k =
     both (in_range h.settings) (all_below (seat_sound h ns) 16) k.settings
     (all_below_lem (seat_sound h ns) 16
-    (λ s b. both (name_sound (name_at ns s)) (if is_present h s then taken_sound h ns s else free_sound h ns s)
+    (λ s b. both (name_sound (name_at ns s)) (when is_present h s then taken_sound h ns s else free_sound h ns s)
     (name_test (name_at ns s) (k.behind s))
     (by_test (is_present h s)
     (λ p. if_yes _ _ _ p ∙ taken_test h ns s k b p)

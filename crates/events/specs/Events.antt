@@ -1,6 +1,6 @@
 -- The events of document 01, "The desk". Assumes nothing.
 use Rattle.std.specs.Prelude.{ℕ, [], eqb}
-use Rattle.words.specs.Choice.{if◌then◌else◌}
+use Rattle.words.specs.Choice.{when◌then◌else◌}
 use Rattle.line.specs.Line.{waiting, line_of, without}
 use Rattle.hall.specs.declared.Hall.{Hall}
 use Rattle.identities.specs.declared.Names.{Names}
@@ -51,7 +51,7 @@ sitting (At s) = Sits s
 sitting Nowhere = Refused NoSuchSeat
 
 unfoldable pub caller_of : Core → Hall → ℕ → Caller
-caller_of c h ssrc = if is_stopped c.phase then Refused CallStopped else sitting (seat_of h ssrc)
+caller_of c h ssrc = when is_stopped c.phase then Refused CallStopped else sitting (seat_of h ssrc)
 
 abbrev pub heard : Core → Caller → (ℕ → Step) → Step
 heard c (Sits s) rule = rule s
@@ -64,8 +64,8 @@ struck_off c s = done (c with_line line_of (without (only s) (waiting c.line))) 
 -- Release: by the holder it ends the floor, by one in line it strikes it off; anybody else has nothing to release, 23.
 unfoldable pub releases : Core → Hall → ℕ → Step
 releases c h s =
-    if holds c.phase s then floor_ends c h s
-    else if waits c s then struck_off c s
+    when holds c.phase s then floor_ends c h s
+    else when waits c s then struck_off c s
     else refused c NotExpected
 
 -- Queue Position Request: the asker is told its place, whatever the phase and whoever it is.
@@ -74,8 +74,8 @@ asks_place c s = done c sends info_of c.line s ⇒ only s
 
 -- Media: the holder talks, so T2 takes the place of whatever ran beside T1; once revoked, its talk changes nothing more; 23 for all else.
 unfoldable pub talks : Core → ℕ → Phase → Step
-talks c s (Taken e b) = if eqb e.seat s then done (c in_phase Taken e T2) else refused c NotExpected
-talks c s (Revoking e n) = if eqb e.seat s then done c else refused c NotExpected
+talks c s (Taken e b) = when eqb e.seat s then done (c in_phase Taken e T2) else refused c NotExpected
+talks c s (Revoking e n) = when eqb e.seat s then done c else refused c NotExpected
 talks c s (Idle t7) = refused c NotExpected
 talks c s Stopped = refused c NotExpected
 
@@ -111,11 +111,11 @@ step c h (Other x) = other_from c (caller_of c h x)
 -- those who stay, so the floor ends in the hall without the leaver.
 unfoldable pub leave_floor : Core → Hall → ℕ → Step
 leave_floor c h s =
-    if holds c.phase s then floor_ends c (vacated h s) s
-    else if waits c s then struck_off c s
+    when holds c.phase s then floor_ends c (vacated h s) s
+    else when waits c s then struck_off c s
     else done c
 
 unfoldable pub leave : Desk → ℕ → Outcome
 leave d s =
-    if is_present d.hall s then outcome (leave_floor d.core d.hall s) (vacated d.hall s) (with_name d.names s no_name)
+    when is_present d.hall s then outcome (leave_floor d.core d.hall s) (vacated d.hall s) (with_name d.names s no_name)
     else outcome (refused d.core NoSuchSeat) d.hall d.names

@@ -2,7 +2,7 @@
 -- leaves open is chosen here: the desk's SSRC is 1 and the seats' are 10, 11, 12, 13; their identities are test1, test10, test2, test3;
 -- the duration is 30 seconds; the normal level is 0, and no row asks for it. Assumes nothing.
 use Rattle.std.specs.Prelude.{ℕ, ◌+◌, ◌≡◌, refl, Bool, true, false, List, [], ◌∷◌, replicate}
-use Rattle.words.specs.Choice.{if◌then◌else◌}
+use Rattle.words.specs.Choice.{when◌then◌else◌}
 use Rattle.line.specs.declared.Entry.{Entry}
 use Rattle.line.specs.Line.{waiting, line_of, before, ahead, enter, another_at_least, without, seat_set, no_seats, priority_of, entry_of}
 use Rattle.hall.specs.declared.Settings.{Settings}
@@ -179,7 +179,7 @@ seen_all (l ∷ ls) = seen l ∷ seen_all ls
 
 -- the statement: the rules, from the desk that was made and the four that joined it, give the table
 pub thursday : seen_all (steps_of start (events thursday_table)) ≡ outcomes thursday_table
-unfolding if◌then◌else◌ waiting line_of before ahead enter another_at_least without seat_set empty_hall alone effective seat_of free_seat with_seat
+unfolding when◌then◌else◌ waiting line_of before ahead enter another_at_least without seat_set empty_hall alone effective seat_of free_seat with_seat
     octets_of name_of no_names with_name same seat_named length_allowed ssrc_taken seated join next given given_at_once given_out_of_line enters_idle
     passes_on floor_ends revokes waits priority_in priority_of full presses denied info_of holder_asks informed pressed rule6 asks_again placed
     request halted stops ends_in revokes_in idle_again revokes_again grants_or_ends grants_again fires expires fresh starts caller_of struck_off
@@ -192,6 +192,6 @@ answers [] = []
 answers (l ∷ ls) = l.answer ∷ answers ls
 
 pub four-joined : (answers (steps_of (made settings) arrivals) ≡ Done ∷ Done ∷ Done ∷ Done ∷ []) × (start.hall.present ≡ all_four)
-unfolding if◌then◌else◌ empty_hall seat_of free_seat with_seat octets_of name_of no_names with_name same seat_named length_allowed ssrc_taken seated
+unfolding when◌then◌else◌ empty_hall seat_of free_seat with_seat octets_of name_of no_names with_name same seat_named length_allowed ssrc_taken seated
     join fresh does
 four-joined = (refl, refl)

@@ -6,7 +6,7 @@
 use Rattle.std.specs.Prelude.{ℕ, ◌+◌, ◌≡◌, refl, Bool, true, false, ◌&&◌, ◌||◌, List, [], ◌∷◌, length, take}
 use Rattle.std.proofs.Common.{ap, sym, ◌∙◌, arith}
 use Rattle.words.proofs.Tests.{clash}
-use Rattle.words.specs.Choice.{if◌then◌else◌}
+use Rattle.words.specs.Choice.{when◌then◌else◌}
 use Rattle.line.specs.declared.Entry.{Entry}
 use Rattle.line.specs.Line.{waiting, line_of, before, is_in, ahead, enter, another_at_least, without, priority_of, entry_of}
 use Rattle.hall.specs.declared.Settings.{Settings}
@@ -87,16 +87,16 @@ letters d s = take 4 (octets_of (name_at d.names s))
 
 abbrev shares_letters : Desk → ℕ → List Entry → Bool
 shares_letters d s [] = false
-shares_letters d s (e ∷ es) = if same (letters d e.seat) (letters d s) then true else shares_letters d s es
+shares_letters d s (e ∷ es) = when same (letters d e.seat) (letters d s) then true else shares_letters d s es
 
 abbrev written_over : Desk → ℕ → ℕ → List Entry → List Entry
 written_over d s p [] = []
-written_over d s p (e ∷ es) = if same (letters d e.seat) (letters d s) then entry_of s p ∷ es else e ∷ written_over d s p es
+written_over d s p (e ∷ es) = when same (letters d e.seat) (letters d s) then entry_of s p ∷ es else e ∷ written_over d s p es
 
 abbrev by_letters : Desk → Asking → Outcome → Outcome
 by_letters d nobody r = r
 by_letters d (asks s p) r =
-    if is_placed s r.report.marks
+    when is_placed s r.report.marks
     && shares_letters d s (waiting d.core.line) then relined r (written_over d s p (waiting d.core.line)) else r
 
 unfoldable pub student : Server
@@ -113,7 +113,7 @@ student_evening :
     × (times (is_struck 0) (log student at_first two_wait) ≡ 0) × (waits (desk_after student at_first two_wait).core 0 ≡ false)
     × (waits (desk_after student at_first one-waits).core 0 ≡ true) × ((is_struck 0 student-marks || is_given_out 0 student-marks) ≡ false)
     × (length (waiting (desk_after student at_first two_wait).core.line) ≡ 1) × (length (line_from (log student at_first two_wait)) ≡ 2)
-unfolding student changed moves if◌then◌else◌ waiting line_of before ahead enter another_at_least without empty_hall alone effective seat_of
+unfolding student changed moves when◌then◌else◌ waiting line_of before ahead enter another_at_least without empty_hall alone effective seat_of
     free_seat with_seat octets_of name_of no_names with_name same seat_named length_allowed ssrc_taken seated join next given given_at_once enters_idle
     revokes waits priority_in priority_of full presses denied info_of holder_asks informed pressed rule6 asks_again placed request fresh starts
     caller_of step does
@@ -139,7 +139,7 @@ handed_over = lets_go 2 ∷ one-waits
 
 stays_counts : (times (is_placed 0) (log stays at_first handed_over) ≡ 1) × (times (is_given_out 0) (log stays at_first handed_over) ≡ 1)
     × (times (is_struck 0) (log stays at_first handed_over) ≡ 0) × (waits (desk_after stays at_first handed_over).core 0 ≡ true)
-unfolding stays if◌then◌else◌ waiting line_of before ahead enter another_at_least without empty_hall alone effective seat_of free_seat with_seat
+unfolding stays when◌then◌else◌ waiting line_of before ahead enter another_at_least without empty_hall alone effective seat_of free_seat with_seat
     octets_of name_of no_names with_name same seat_named length_allowed ssrc_taken seated join next given given_at_once given_out_of_line enters_idle
     passes_on floor_ends revokes waits priority_in priority_of full presses denied info_of holder_asks informed pressed rule6 asks_again placed
     request fresh starts caller_of struck_off releases step does
@@ -185,7 +185,7 @@ invents_and_miscounts k =
 abbrev behind_all : Desk → Asking → Outcome → Outcome
 behind_all d nobody r = r
 behind_all d (asks s p) r =
-    if is_in s (waiting d.core.line) then relined r (enter (entry_of s p) (without (only s) (waiting d.core.line))) else r
+    when is_in s (waiting d.core.line) then relined r (enter (entry_of s p) (without (only s) (waiting d.core.line))) else r
 
 unfoldable pub sends_back : Server
 sends_back d x = behind_all d (asking d.hall x) (does d x)
@@ -200,7 +200,7 @@ sent_back :
     × ((sends_back (desk_after sends_back at_first asked_again_lem) (lets_go 2)).report.marks.given ≡ OutOfLine 1)
     × (place_of 0 (log sends_back at_first asked_again_lem) ≡ in_line 5) × (place_of 1 (log sends_back at_first asked_again_lem) ≡ in_line 5)
     × (latest 0 (log sends_back at_first asked_again_lem) ≡ 6) × (latest 1 (log sends_back at_first asked_again_lem) ≡ 7)
-unfolding sends_back place_after priority_of if◌then◌else◌ waiting line_of before ahead enter another_at_least without empty_hall alone effective
+unfolding sends_back place_after priority_of when◌then◌else◌ waiting line_of before ahead enter another_at_least without empty_hall alone effective
     seat_of free_seat with_seat octets_of name_of no_names with_name same seat_named length_allowed ssrc_taken seated join next given given_at_once
     given_out_of_line enters_idle passes_on floor_ends revokes waits priority_in full presses denied info_of holder_asks informed pressed rule6
     asks_again placed request fresh starts caller_of struck_off releases step does
@@ -244,7 +244,7 @@ let_go = lets_go 2 ∷ asks_for 2 5 ∷ opened
 
 forgotten : (times (is_given_any 2) (log forgets at_first let_go) ≡ 1) × (times (is_ended 2) (log forgets at_first let_go) ≡ 0)
     × (holds (desk_after forgets at_first let_go).core.phase 2 ≡ false) × (is_seat (holder_from (log forgets at_first let_go)) 2 ≡ true)
-unfolding forgets if◌then◌else◌ waiting line_of before ahead enter another_at_least without empty_hall alone effective seat_of free_seat with_seat
+unfolding forgets when◌then◌else◌ waiting line_of before ahead enter another_at_least without empty_hall alone effective seat_of free_seat with_seat
     octets_of name_of no_names with_name same seat_named length_allowed ssrc_taken seated join next given given_at_once given_out_of_line enters_idle
     passes_on floor_ends revokes waits priority_in priority_of full presses denied info_of holder_asks informed pressed rule6 asks_again placed
     request fresh starts caller_of struck_off releases step does

@@ -7,7 +7,7 @@ use mathlib.Core.Path.{◌≡◌, refl, sym, ap, subst}
 use lib.Dec.{leb, ltb}
 use lib.ListN.{length}
 use borrow.Author.Tests.{le-leb, lt-leb, le-ltb, lt-ltb, leb-true, leb-false, ltb-true, ltb-false}
-use Rattle.words.specs.Choice.{if◌then◌else◌, by_test}
+use Rattle.words.specs.Choice.{when◌then◌else◌, by_test}
 use Rattle.octets.specs.Octets.{be16}
 use Rattle.message.specs.Table.{listed, against, padded}
 use Rattle.field.specs.declared.FieldFound.{FieldFound}
@@ -17,29 +17,29 @@ use Rattle.field.specs.Fields.{id_at, length_at, field_at, step_at}
 
 module _ (s : List ℕ) (at : ℕ) where
   pub step_end : length s ≤ at → step_at s at ≡ End
-  unfolding step_at if◌then◌else◌
+  unfolding step_at when◌then◌else◌
   step_end h = rw (le-leb (length s) at h)
 
   pub step_high : at < length s → 192 ≤ id_at s at → step_at s at ≡ AgainstTheTable (id_at s at)
-  unfolding step_at if◌then◌else◌
+  unfolding step_at when◌then◌else◌
   step_high h i = rw (lt-leb (length s) at h, le-leb 192 (id_at s at) i)
 
   pub step_past : at < length s → id_at s at < 192 → length s < at + padded (length_at s at) → step_at s at ≡ PastTheEnd
-  unfolding step_at if◌then◌else◌
+  unfolding step_at when◌then◌else◌
   step_past h i p = rw (lt-leb (length s) at h, lt-leb 192 (id_at s at) i, lt-ltb (length s) (at + padded (length_at s at)) p)
 
   module _ (h : at < length s) (i : id_at s at < 192) (p : at + padded (length_at s at) ≤ length s) where
     pub step-skipped : listed (id_at s at) ≡ false → step_at s at ≡ Skipped (field_at s at)
-    unfolding step_at if◌then◌else◌
+    unfolding step_at when◌then◌else◌
     step-skipped k = rw (lt-leb (length s) at h, lt-leb 192 (id_at s at) i, le-ltb (length s) (at + padded (length_at s at)) p, k)
 
     module _ (k : listed (id_at s at) ≡ true) where
       pub step-against : against (id_at s at) (length_at s at) (be16 s (at + 2)) ≡ true → step_at s at ≡ AgainstTheTable (id_at s at)
-      unfolding step_at if◌then◌else◌
+      unfolding step_at when◌then◌else◌
       step-against a = rw (lt-leb (length s) at h, lt-leb 192 (id_at s at) i, le-ltb (length s) (at + padded (length_at s at)) p, k, a)
 
       pub step_field : against (id_at s at) (length_at s at) (be16 s (at + 2)) ≡ false → step_at s at ≡ Field (field_at s at)
-      unfolding step_at if◌then◌else◌
+      unfolding step_at when◌then◌else◌
       step_field a = rw (lt-leb (length s) at h, lt-leb 192 (id_at s at) i, le-ltb (length s) (at + padded (length_at s at)) p, k, a)
 
 -- what is known where a step gave each of its answers: this taken apart the other way round, once for all who walk

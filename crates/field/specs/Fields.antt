@@ -1,7 +1,7 @@
 -- The fields of a packet, judged from front to back (document 01, "The packet" and "What is answered to packets", 9 and 10; document 02,
 -- #107, 14). Assumes nothing.
 use Rattle.std.specs.Prelude.{ℕ, zero, suc, ◌+◌, Bool, false, not, ◌||◌, List, [], ◌∷◌, ltb, leb, eqb, length, get_or}
-use Rattle.words.specs.Choice.{if◌then◌else◌}
+use Rattle.words.specs.Choice.{when◌then◌else◌}
 use Rattle.octets.specs.Octets.{be16}
 use Rattle.message.specs.Table.{listed, against, padded}
 use Rattle.message.specs.Answers.{refusal_number}
@@ -25,11 +25,11 @@ field_at s at = record { id = id_at s at; start = at + 2; len = length_at s at; 
 -- length". A field that is against the table is told with its ID.
 unfoldable pub step_at : List ℕ → ℕ → FieldStep
 step_at s at =
-    if leb (length s) at then End
-    else if leb 192 (id_at s at) then AgainstTheTable (id_at s at)
-    else if ltb (length s) (at + padded (length_at s at)) then PastTheEnd
-    else if not (listed (id_at s at)) then Skipped (field_at s at)
-    else if against (id_at s at) (length_at s at) (be16 s (at + 2)) then AgainstTheTable (id_at s at)
+    when leb (length s) at then End
+    else when leb 192 (id_at s at) then AgainstTheTable (id_at s at)
+    else when ltb (length s) (at + padded (length_at s at)) then PastTheEnd
+    else when not (listed (id_at s at)) then Skipped (field_at s at)
+    else when against (id_at s at) (length_at s at) (be16 s (at + 2)) then AgainstTheTable (id_at s at)
     else Field (field_at s at)
 
 -- all fields of the table: those found, in their order, or the number of the first refusal
@@ -53,9 +53,9 @@ abbrev pub step_then : List ℕ → FieldStep → (List ℕ → ℕ → Fields) 
 step_then before End rest = whole []
 step_then before PastTheEnd rest = fault (refusal_number Refusal.PastTheEnd)
 step_then before (AgainstTheTable i) rest =
-    if among before i then fault (refusal_number Refusal.Repeated) else fault (refusal_number Refusal.AgainstTheTable)
+    when among before i then fault (refusal_number Refusal.Repeated) else fault (refusal_number Refusal.AgainstTheTable)
 step_then before (Field f) rest =
-    if among before f.id then fault (refusal_number Refusal.Repeated) else infront f (rest (f.id ∷ before) f.next)
+    when among before f.id then fault (refusal_number Refusal.Repeated) else infront f (rest (f.id ∷ before) f.next)
 step_then before (Skipped f) rest = rest before f.next
 
 -- from a place on, behind fields with these IDs; a field has at least 4 octets, so as many steps as there are octets are enough

@@ -6,7 +6,7 @@ use mathlib.Core.Bool.{true}
 use mathlib.Core.List.{List, [], ◌∷◌, ◌++◌, append-nil}
 use mathlib.Core.Path.{◌≡◌, refl, sym, ap}
 use lib.ListN.{length, replicate, length-append, length-replicate}
-use Rattle.words.specs.Choice.{if◌then◌else◌}
+use Rattle.words.specs.Choice.{when◌then◌else◌}
 use Rattle.octets.specs.Octets.{octets16, octets32, part}
 use Rattle.message.specs.Table.{row_of, row_in, padding}
 use Rattle.message.specs.Message.{of_octet, of_word, of_number, of_queue, of_part, of_cause, part_lies, phrase_lies}
@@ -30,11 +30,11 @@ word_is i s e = rw (e, s)
 
 pub queue_is : {q : Queue} {position priority : ℕ} → q ≡ Queue.Is position priority →
     (3 ∷ 2 ∷ position ∷ priority ∷ []) ≡ optional 3 (of_queue q)
-unfolding optional field_octets padding row_in if◌then◌else◌
+unfolding optional field_octets padding row_in when◌then◌else◌
 queue_is e = rw e
 
 pub number_is : {x : Number} {n : ℕ} → x ≡ Number.Is n → (14 ∷ 6 ∷ octets32 n ++ (0 ∷ 0 ∷ [])) ≡ optional 14 (of_number x)
-unfolding optional field_octets padding row_in if◌then◌else◌ octets32 octets16
+unfolding optional field_octets padding row_in when◌then◌else◌ octets32 octets16
 number_is e = rw e
 
 -- a field with no spare octets, by the length of its content
@@ -58,7 +58,7 @@ identity_is i s src {p} {from} {count} e h =
 
 pub cause_is : (src : List ℕ) {x : Cause} {n from count : ℕ} → x ≡ Cause.Is n from count → phrase_lies src x ≡ true
     → (2 ∷ (count + 2) ∷ octets16 n ++ text src from count (count + 2)) ≡ optional 2 (of_cause src x)
-unfolding optional octets16 row_in if◌then◌else◌
+unfolding optional octets16 row_in when◌then◌else◌
 cause_is src {x} {n} {from} {count} e h =
     rw e
     (unspared 2 (count + 2) (octets16 n ++ part src from count) refl

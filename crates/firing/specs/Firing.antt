@@ -1,6 +1,6 @@
 -- The timers of document 01, "The desk": what happens when one fires; and Stop, which T4 is as. Assumes nothing.
 use Rattle.std.specs.Prelude.{◌+◌, false, [], ltb}
-use Rattle.words.specs.Choice.{if◌then◌else◌}
+use Rattle.words.specs.Choice.{when◌then◌else◌}
 use Rattle.line.specs.declared.Entry.{Entry}
 use Rattle.line.specs.Line.{waiting, line_of, seat_set}
 use Rattle.hall.specs.declared.Hall.{Hall}
@@ -46,7 +46,7 @@ revokes_in c Stopped = refused c NotExpected
 -- T7 sends Idle once more and C7 counts it, until C7 is at its limit: then T7 stops, and T4 runs on alone.
 unfoldable pub idle_again : Core → Hall → Step
 idle_again c h =
-    if ltb c.c7 h.settings.c7 then done (numbered (c counting_c7 (c.c7 + 1))) sends say.Idle (next c.sequence) ⇒ everybody h
+    when ltb c.c7 h.settings.c7 then done (numbered (c counting_c7 (c.c7 + 1))) sends say.Idle (next c.sequence) ⇒ everybody h
     else done (c in_phase Idle false)
 
 -- T8 repeats the Revoke, with the cause that it had.
@@ -58,7 +58,7 @@ revokes_again c Stopped = refused c NotExpected
 
 -- T20 sends Granted once more, as rule 1 does, and C20 counts it, until C20 is at its limit: then the floor ends.
 unfoldable pub grants_or_ends : Core → Hall → Entry → Step
-grants_or_ends c h e = if ltb c.c20 h.settings.c20 then granted_again (c counting_c20 (c.c20 + 1)) e else floor_ends c h e.seat
+grants_or_ends c h e = when ltb c.c20 h.settings.c20 then granted_again (c counting_c20 (c.c20 + 1)) e else floor_ends c h e.seat
 
 unfoldable pub grants_again : Core → Hall → Phase → Step
 grants_again c h (Taken e b) = grants_or_ends c h e
@@ -80,6 +80,6 @@ fires c h timer.NoSuchTimer = refused c NotExpected
 -- In a stopped call every timer is refused by 21; in a running one, those that do not run by 23.
 unfoldable pub expires : Core → Hall → Timer → Step
 expires c h t =
-    if is_stopped c.phase then refused c CallStopped
-    else if runs (running c.phase) t then fires c h t
+    when is_stopped c.phase then refused c CallStopped
+    else when runs (running c.phase) t then fires c h t
     else refused c NotExpected

@@ -18,7 +18,7 @@ use Rattle.hall.specs.Seats.{in_range, empty_hall}
 use Rattle.identities.specs.Identity.{no_names}
 use Rattle.joining.specs.Join.{join}
 use Rattle.events.specs.Events.{fresh}
-use Rattle.words.specs.Choice.{if◌then◌else◌, by_if}
+use Rattle.words.specs.Choice.{when◌then◌else◌, by_if}
 use Rattle.events.specs.declared.Desk.{Desk}
 use Rattle.history.specs.Doing.{made, does, after_all, Fresh, just_made, and_joined}
 use Rattle.loading.specs.Loading.{Load, Seats, whole, fault, not_loaded, if_seated, join_all, seat_all, settled, loading, who_is, read_seat}
@@ -169,5 +169,5 @@ loaded_in_form room sheet m room' p z o =
 
 -- an accepted sheet and enough room
 pub loads : (room sheet : List ℕ) → (loading sheet).number ≡ 0 → desk_size ≤ length room → (load_on room sheet).0 ≡ signed (result 0)
-unfolding desk_written if◌then◌else◌
+unfolding desk_written when◌then◌else◌
 loads room sheet z b = rw (z, le-leb desk_size (length room) b)

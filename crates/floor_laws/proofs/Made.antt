@@ -12,7 +12,7 @@ use borrow.Author.Tests.{eqb-true, le-leb}
 use Rattle.words.proofs.Tests.{clash}
 use Rattle.signed.specs.Signed.{Succeeds}
 use Rattle.signed.proofs.Signed.{not_done}
-use Rattle.words.specs.Choice.{if◌then◌else◌, by_if}
+use Rattle.words.specs.Choice.{when◌then◌else◌, by_if}
 use Rattle.octets.specs.Octets.{over}
 use Rattle.hall.specs.declared.Settings.{Settings}
 use Rattle.events.specs.declared.Desk.{Desk}
@@ -50,7 +50,7 @@ module _ (d : Desk) where
       (λ e z. clash z (not_done n e))
 
 pub makes : Makes
-unfolding desk_written if◌then◌else◌
+unfolding desk_written when◌then◌else◌
 makes room g n room' p q l = ap (λ (w : ℤ × List ℕ). w.0) p ∙ rw (q, le-leb desk_size (length room) l)
 
 -- settings that are refused make none

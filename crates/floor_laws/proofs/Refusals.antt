@@ -9,7 +9,7 @@ use lib.Dec.{eqb, leb}
 use lib.ListN.{length}
 use lib.IntN.{ℤ}
 use borrow.Author.Tests.{eqb-true, le-leb}
-use Rattle.words.specs.Choice.{if◌then◌else◌, by_test, by_if}
+use Rattle.words.specs.Choice.{when◌then◌else◌, by_test, by_if}
 use native.Mathlib.Omega.{arith}
 use Rattle.message.specs.Answers.{Answer, refused}
 use Rattle.hall.specs.Answers.{answer_number}
@@ -94,11 +94,11 @@ unfolding outcome_on
 outcome_no_desk d r o q = ap (λ (l : Leaves). l.answer) (no_desk_so d r _ _ _ q)
 
 join_no_desk : (d o : List ℕ) (w : Newcomer) → formed d ≡ false → Minus20 (join_on d o w).0
-unfolding if◌then◌else◌
+unfolding when◌then◌else◌
 join_no_desk d o w q = rw q
 
 no_look : (d : List ℕ) (a : Answer ℕ) → formed d ≡ false → looks d a ≡ signed (refused 20)
-unfolding looks if◌then◌else◌
+unfolding looks when◌then◌else◌
 no_look d a q = rw q
 
 pub not_looked_at : NotLookedAt
@@ -116,23 +116,23 @@ not_looked_at d n q = (
 )
 
 no_screen : (d room : List ℕ) → formed d ≡ false → screen_on d room ≡ answers (refused 20) room
-unfolding if◌then◌else◌
+unfolding when◌then◌else◌
 no_screen d room q = rw q
 
 no_sheet : (d room : List ℕ) → formed d ≡ false → save_on d room ≡ answers (refused 20) room
-unfolding if◌then◌else◌
+unfolding when◌then◌else◌
 no_sheet d room q = rw q
 
 no_message : (d r : List ℕ) (which : ℕ) (room : List ℕ) → formed d ≡ false → message_on d r which room ≡ answers (refused 20) room
-unfolding if◌then◌else◌
+unfolding when◌then◌else◌
 no_message d r which room q = rw q
 
 no_seat : (d : List ℕ) (seat : ℕ) (room : List ℕ) → formed d ≡ false → seat_shown d seat room ≡ answers (refused 20) room
-unfolding if◌then◌else◌
+unfolding when◌then◌else◌
 no_seat d seat room q = rw q
 
 no_settings_lem : (d room : List ℕ) → formed d ≡ false → settings_shown d room ≡ answers (refused 20) room
-unfolding if◌then◌else◌
+unfolding when◌then◌else◌
 no_settings_lem d room q = rw q
 
 not_read : (n : ℤ) (room room' : List ℕ) → (n, room') ≡ answers (refused 20) room → Unread n room room'
@@ -158,7 +158,7 @@ not-a-desk d x p f = no_desk_by x.act d x.room x.answer x.desk x.report p f
 -- what the rules answer
 settles-answers : (d r : List ℕ) (n : ℕ) (desk report : List ℕ) → formed d ≡ true → (n ≡ 0 → report_size ≤ length r) →
     (settles d r n desk report).answer ≡ signed (by_number n 0)
-unfolding settles if◌then◌else◌
+unfolding settles when◌then◌else◌
 settles-answers d r n desk report q b =
     by_test (eqb n 0) (λ e. rw (q, e, le-leb report_size (length r) (b (eqb-true n 0 e)))) (λ e. rw (q, e))
 
@@ -169,7 +169,7 @@ module _ (d r : List ℕ) (q : formed d ≡ true) where
   outcome-answers o b = settles-answers d r (answer_number o.answer) _ _ q b
 
   written-answers : (n k : ℕ) (c : Core) (h : Hall) (ns : Names) → (desk_written d n k c h ns).0 ≡ signed (by_number n k)
-  unfolding desk_written if◌then◌else◌
+  unfolding desk_written when◌then◌else◌
   written-answers n k c h ns = by_test (eqb n 0) (λ e. rw (e, le-leb desk_size (length d) (has_room d q))) (λ e. rw e)
 
 -- who joins sits in the lowest free seat
@@ -191,7 +191,7 @@ module _ (h : Hall) (ns : Names) (o : List ℕ) (w : Newcomer) where
 
 -- the seat counts only where it was taken
 same_number : (n k m : ℕ) → (n ≡ 0 → k ≡ m) → signed (by_number n k) ≡ signed (by_number n m)
-unfolding if◌then◌else◌
+unfolding when◌then◌else◌
 same_number n k m f = by_test (eqb n 0) (λ e. rw (e, f (eqb-true n 0 e))) (λ e. rw e)
 
 module _ (d : List ℕ) (q : formed d ≡ true) (i : List ℕ) (w : Newcomer) where

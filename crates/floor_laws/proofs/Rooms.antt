@@ -5,7 +5,7 @@ use mathlib.Core.List.{List}
 use lib.Dec.{eqb, leb, ltb}
 use lib.IntN.{ℤ}
 use lib.ListN.{length}
-use Rattle.words.specs.Choice.{if◌then◌else◌, by_test, by_if}
+use Rattle.words.specs.Choice.{when◌then◌else◌, by_test, by_if}
 use Rattle.words.proofs.Tests.{clash}
 use Rattle.message.specs.declared.Message.{Message}
 use Rattle.message.specs.Message.{said}
@@ -63,7 +63,7 @@ module _ (room : List ℕ) where
   held_kept (Is m) src z = written_kept m src z
 
   reading_kept : (a : Answer Message) → Refuses (told_as (read_number a (length room))) → keeping a room ≡ room
-  unfolding if◌then◌else◌
+  unfolding when◌then◌else◌
   reading_kept (refused n) z = refl
   reading_kept (result m) z = by_test (ltb (length room) message_size) (λ e. rw e) (λ e. clash refl (rw e at z))
 
@@ -73,7 +73,7 @@ module _ (room : List ℕ) where
 
   -- the sheet
   sheet_kept : (h : Hall) (ns : Names) → Unwritten room (answers (saved_answer (saving h ns room)) (room_after h ns room))
-  unfolding room_after if◌then◌else◌
+  unfolding room_after when◌then◌else◌
   sheet_kept h ns z = by_test (eqb (saving h ns room).number 0) (λ e. clash refl (rw e at z)) (λ e. rw e)
 
   save_kept : (d : List ℕ) → Unwritten room (save_on d room)

@@ -8,7 +8,7 @@ use mathlib.Core.List.{List}
 use lib.ListN.{length, take}
 use lib.IntN.{ℤ, pos, negsuc}
 use lib.Dec.{eqb}
-use Rattle.words.specs.Choice.{if◌then◌else◌, by_test}
+use Rattle.words.specs.Choice.{when◌then◌else◌, by_test}
 use Rattle.hall.specs.declared.Hall.{Hall}
 use Rattle.octets.specs.Octets.{over, Octets}
 use Rattle.message.specs.Answers.{refused, result}
@@ -49,19 +49,19 @@ module _ (d room : List ℕ) where
   level = (hall_at d).settings.normal
 
   saves : formed d ≡ true → level ≡ 0 → length sheet ≤ length room → save_on d room ≡ answers (result (length sheet)) (over room 0 sheet)
-  unfolding if◌then◌else◌
+  unfolding when◌then◌else◌
   saves q e t = rw (q, saves_whole (hall_at d) (names_at d) room e t, room_written (hall_at d) (names_at d) room e t)
 
   saves_short : formed d ≡ true → level ≡ 0 → length room < length sheet → save_on d room ≡ answers (refused 13) room
-  unfolding if◌then◌else◌
+  unfolding when◌then◌else◌
   saves_short q e t = rw (q, saves_no_room (hall_at d) (names_at d) room e t, room_untouched (hall_at d) (names_at d) room e t)
 
   saves_48 : formed d ≡ true → (level ≡ 0 → ⊥) → save_on d room ≡ answers (refused 48) room
-  unfolding if◌then◌else◌
+  unfolding when◌then◌else◌
   saves_48 q e = rw (q, saves_none (hall_at d) (names_at d) room e, room_kept (hall_at d) (names_at d) room e)
 
   saves_not : formed d ≡ false → save_on d room ≡ answers (refused 20) room
-  unfolding if◌then◌else◌
+  unfolding when◌then◌else◌
   saves_not q = rw q
 
   -- what was saved is the sheet of a desk in the form

@@ -8,7 +8,7 @@ use mathlib.Core.List.{List}
 use lib.Dec.{eqb, leb}
 use lib.IntN.{ℤ}
 use lib.ListN.{length}
-use Rattle.words.specs.Choice.{if◌then◌else◌, by_if}
+use Rattle.words.specs.Choice.{when◌then◌else◌, by_if}
 use Rattle.octets.specs.Octets.{over, Octets}
 use Rattle.hall.specs.Answers.{answer_number}
 use Rattle.hall.specs.declared.Newcomer.{Newcomer}
@@ -42,11 +42,11 @@ module _ (d : List ℕ) (o : Octets d) (q : formed d ≡ true) (k : Right (desk_
   Stands x l = Holds l.desk (after_all (desk_at d) (did l.answer x))
 
   refused_so : (n : ℕ) (x : Doing) → eqb n 0 ≡ false → Holds d (after_all (desk_at d) (did (signed (refused n)) x))
-  unfolding if◌then◌else◌
+  unfolding when◌then◌else◌
   refused_so n x e = rw (not_done n e) stays
 
   done_so : (s : List ℕ) (k : ℕ) (x : Doing) → Holds s (after (desk_at d) x) → Holds s (after_all (desk_at d) (did (signed (result k)) x))
-  unfolding if◌then◌else◌
+  unfolding when◌then◌else◌
   done_so s k x w = w
 
   outcome_so : (r : List ℕ) (x : Doing) → DoingFits x → Stands x (outcome_on d r (does (desk_at d) x))

@@ -4,13 +4,13 @@ use native.Mathlib.Omega.{arith}
 use lib.Dec.{leb}
 use lib.ListN.{length}
 use borrow.Author.Tests.{leb-true, leb-false, le-leb, lt-leb}
-use Rattle.words.specs.Choice.{if◌then◌else◌, by_test}
+use Rattle.words.specs.Choice.{when◌then◌else◌, by_test}
 use Rattle.screen.specs.Screen.{list_answer}
 use Rattle.desk_looking.specs.Looking.{screened}
 use Rattle.floor_laws.specs.Kept.{OneScreen}
 
 pub one_screen : OneScreen
-unfolding screened list_answer if◌then◌else◌
+unfolding screened list_answer when◌then◌else◌
 one_screen es room =
     let n = length es in
     let m = length room in

@@ -7,7 +7,7 @@ use Rattle.report_octets.specs.Places.{report_size}
 use Rattle.desk_octets.specs.Places.{desk_size}
 use Rattle.std.specs.Prelude.{ℕ, ◌/◌, ◌≤◌, ◌<◌, ◌≡◌, true, false, List, [], ◌∷◌, length, take, ℤ, pos}
 use Rattle.octets.specs.Octets.{over, Octets}
-use Rattle.words.specs.Choice.{if◌then◌else◌}
+use Rattle.words.specs.Choice.{when◌then◌else◌}
 use Rattle.message.specs.Answers.{refused, result}
 use Rattle.signed.specs.Signed.{signed, by_number, is_done, Succeeds, Refuses}
 use Rattle.line.specs.declared.Entry.{Entry}
@@ -125,7 +125,7 @@ AllFit (x ∷ xs) = DoingFits x × AllFit xs
 
 -- what was done: what is refused, for whatever reason, is not
 abbrev pub did : ℤ → Doing → List Doing
-did answer x = if is_done answer then x ∷ [] else []
+did answer x = when is_done answer then x ∷ [] else []
 
 abbrev pub doings : Call → List Doing
 doings x = did x.answer (meant x.act)

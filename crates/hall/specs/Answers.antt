@@ -1,7 +1,7 @@
 -- The numbers that document 01, "The desk", gives the desk's answers; 0 is done. A packet that was not read is answered by the reader's
 -- number. Assumes nothing.
 use Rattle.std.specs.Prelude.{ℕ}
-use Rattle.words.specs.Choice.{if◌then◌else◌}
+use Rattle.words.specs.Choice.{when◌then◌else◌}
 use Rattle.hall.specs.declared.Settings.{Settings}
 use Rattle.hall.specs.Seats.{in_range}
 use Rattle.hall.specs.declared.Answer.{Answer}
@@ -22,4 +22,4 @@ answer_number (NotRead n) = n
 
 -- 28 for settings that no desk may have
 unfoldable pub settings_answer : Settings → Answer
-settings_answer s = if in_range s then Done else OutsideRange
+settings_answer s = when in_range s then Done else OutsideRange

@@ -1,6 +1,6 @@
 -- The sixteen seats and the settings of document 01, "The desk", without the identities. Assumes nothing.
 use Rattle.std.specs.Prelude.{ℕ, zero, suc, Bool, true, false, not, ◌&&◌, List, [], ◌∷◌, leb, eqb, get_or, set, replicate}
-use Rattle.words.specs.Choice.{if◌then◌else◌}
+use Rattle.words.specs.Choice.{when◌then◌else◌}
 use Rattle.hall.specs.declared.Settings.{Settings}
 use Rattle.hall.specs.declared.Flags.{Flags}
 use Rattle.hall.specs.declared.Hall.{Hall}
@@ -60,7 +60,7 @@ others h s = set h.present s false
 
 abbrev pub someone : List Bool → Bool
 someone [] = false
-someone (b ∷ bs) = if b then true else someone bs
+someone (b ∷ bs) = when b then true else someone bs
 
 -- a seat is alone in the call if no other is present
 unfoldable pub alone : Hall → ℕ → Bool
@@ -73,7 +73,7 @@ asked normal (Priority p) = p
 asked normal NoField = normal
 
 abbrev pub lower : ℕ → ℕ → ℕ
-lower a b = if leb a b then a else b
+lower a b = when leb a b then a else b
 
 unfoldable pub effective : Hall → ℕ → Asked → ℕ
 effective h s a = lower (asked h.settings.normal a) (get_or h.highest s 0)
@@ -81,7 +81,7 @@ effective h s a = lower (asked h.settings.normal a) (get_or h.highest s 0)
 -- the lowest seat for which a test holds
 abbrev pub first_from : (ℕ → Bool) → ℕ → ℕ → Found
 first_from test zero s = Nowhere
-first_from test (suc n) s = if test s then At s else first_from test n (suc s)
+first_from test (suc n) s = when test s then At s else first_from test n (suc s)
 
 abbrev pub lowest : (ℕ → Bool) → Found
 lowest test = first_from test 16 0

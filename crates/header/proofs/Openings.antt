@@ -8,7 +8,7 @@ use mathlib.Core.Path.{◌≡◌, refl, ap, ◌∙◌}
 use lib.Dec.{eqb, ltb}
 use lib.ListN.{length, get_or}
 use borrow.Author.Tests.{lt-ltb, le-ltb, eq-eqb, ne_eqb, ltb-false, eqb-true, eqb-false, not-false}
-use Rattle.words.specs.Choice.{if◌then◌else◌}
+use Rattle.words.specs.Choice.{when◌then◌else◌}
 use Rattle.octets.specs.Octets.{be32}
 use Rattle.message.specs.Types.{typed}
 use Rattle.message.specs.Answers.{refused, result}
@@ -23,27 +23,27 @@ use Rattle.header.specs.Opening.{of_type, opening, opening_answer}
 
 module _ (s : List ℕ) where
   pub answers_1 : length s < 12 → opening s ≡ refused 1
-  unfolding opening if◌then◌else◌
+  unfolding opening when◌then◌else◌
   answers_1 h = rw (lt-ltb (length s) 12 h)
 
   module _ (h1 : 12 ≤ length s) where
     pub answers_2 : 1024 < length s → opening s ≡ refused 2
-    unfolding opening if◌then◌else◌
+    unfolding opening when◌then◌else◌
     answers_2 h = rw (le-ltb (length s) 12 h1, lt-ltb 1024 (length s) h)
 
     module _ (h2 : length s ≤ 1024) where
       pub answers_3 : (version s ≡ 2 → ⊥) → opening s ≡ refused 3
-      unfolding opening if◌then◌else◌
+      unfolding opening when◌then◌else◌
       answers_3 h = rw (le-ltb (length s) 12 h1, le-ltb 1024 (length s) h2, ne_eqb (version s) 2 h)
 
       module _ (h3 : version s ≡ 2) where
         pub answers_4 : pad_bit s ≡ 1 → opening s ≡ refused 4
-        unfolding opening if◌then◌else◌
+        unfolding opening when◌then◌else◌
         answers_4 h = rw (le-ltb (length s) 12 h1, le-ltb 1024 (length s) h2, eq-eqb (version s) 2 h3, eq-eqb (pad_bit s) 1 h)
 
         module _ (h4 : pad_bit s ≡ 1 → ⊥) where
           pub answers_5 : (get_or s 1 0 ≡ 204 → ⊥) → opening s ≡ refused 5
-          unfolding opening if◌then◌else◌
+          unfolding opening when◌then◌else◌
           answers_5 h =
               rw (
                 le-ltb (length s) 12 h1,
@@ -55,7 +55,7 @@ module _ (s : List ℕ) where
 
           module _ (h5 : get_or s 1 0 ≡ 204) where
             pub answers_6 : (ends s ≡ length s → ⊥) → opening s ≡ refused 6
-            unfolding opening if◌then◌else◌
+            unfolding opening when◌then◌else◌
             answers_6 h =
                 rw (
                   le-ltb (length s) 12 h1,
@@ -68,7 +68,7 @@ module _ (s : List ℕ) where
 
             module _ (h6 : ends s ≡ length s) where
               pub answers_7 : (be32 s name_place ≡ name → ⊥) → opening s ≡ refused 7
-              unfolding opening if◌then◌else◌
+              unfolding opening when◌then◌else◌
               answers_7 h =
                   rw (
                     le-ltb (length s) 12 h1,
@@ -81,7 +81,7 @@ module _ (s : List ℕ) where
                   )
 
               pub answers_8 : be32 s name_place ≡ name → opening s ≡ of_type (typed (type_bits s))
-              unfolding opening if◌then◌else◌
+              unfolding opening when◌then◌else◌
               answers_8 h7 =
                   rw (
                     le-ltb (length s) 12 h1,
@@ -109,8 +109,8 @@ opens s k o =
     answers_8 s o.long o.short o.two o.plain o.application o.measured o.called ∙ ap of_type o.type
 
 -- a choice whose answer is not its first: were it so, 0 would be 1
-pub passed : {A : Type 0} (t : Bool) (a b r : A) → (a ≡ r → ◌≡◌ {A = ℕ} 0 1) → (if t then a else b) ≡ r → (t ≡ false) × (b ≡ r)
-unfolding if◌then◌else◌
+pub passed : {A : Type 0} (t : Bool) (a b r : A) → (a ≡ r → ◌≡◌ {A = ℕ} 0 1) → (when t then a else b) ≡ r → (t ≡ false) × (b ≡ r)
+unfolding when◌then◌else◌
 passed true a b r d e = let z : ◌≡◌ {A = ℕ} 0 1 = d e in absurd (omega arith)
 passed false a b r d e = (refl, e)
 

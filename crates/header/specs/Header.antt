@@ -1,7 +1,7 @@
 -- A packet's first twelve octets (document 01, "The packet"): "Octet 0: version 2 (two bits), P (one bit), subtype (five bits). Octet 1:
 -- 204. Octets 2 and 3: length in 32-bit words less one (RFC 3550). Then SSRC (4 octets), the name MCPT, the fields." Assumes nothing.
 use Rattle.std.specs.Prelude.{ℕ, ◌+◌, ◌-◌, ◌*◌, ◌/◌, ◌%◌, Bool, List, ◌∷◌, ◌++◌, get_or}
-use Rattle.words.specs.Choice.{if◌then◌else◌}
+use Rattle.words.specs.Choice.{when◌then◌else◌}
 use Rattle.octets.specs.Octets.{be16, octets16, octets32}
 use Rattle.message.specs.Types.{type_number}
 use Rattle.message.specs.declared.MessageType.{MessageType}
@@ -46,7 +46,7 @@ name = 0x4D43_5054
 
 -- the same written: version 2, P not set, the Ack bit and the type
 unfoldable pub first_octet : MessageType → Bool → ℕ
-first_octet kind ack = 128 + (if ack then 16 else 0) + type_number kind
+first_octet kind ack = 128 + (when ack then 16 else 0) + type_number kind
 
 -- the header of a packet that has this first octet, this SSRC and so many octets in all
 unfoldable pub headed : ℕ → ℕ → ℕ → List ℕ

@@ -1,7 +1,7 @@
 -- What is answered to a packet by its first twelve octets (document 01, "What is answered to packets", 1 to 8, in that order): the refusal,
 -- or the packet's type. Assumes nothing.
 use Rattle.std.specs.Prelude.{ℕ, not, List, ◌≡◌, ltb, eqb, length, get_or}
-use Rattle.words.specs.Choice.{if◌then◌else◌}
+use Rattle.words.specs.Choice.{when◌then◌else◌}
 use Rattle.octets.specs.Octets.{be32}
 use Rattle.message.specs.Types.{typed}
 use Rattle.message.specs.Answers.{Answer, refused, result, refusal_number}
@@ -18,13 +18,13 @@ of_type (Listed k) = result k
 
 unfoldable pub opening : List ℕ → Answer MessageType
 opening s =
-    if ltb (length s) header_size then refused 1
-    else if ltb 1024 (length s) then refused 2
-    else if not (eqb (version s) 2) then refused 3
-    else if eqb (pad_bit s) 1 then refused 4
-    else if not (eqb (get_or s 1 0) 204) then refused 5
-    else if not (eqb (ends s) (length s)) then refused 6
-    else if not (eqb (be32 s name_place) name) then refused 7
+    when ltb (length s) header_size then refused 1
+    else when ltb 1024 (length s) then refused 2
+    else when not (eqb (version s) 2) then refused 3
+    else when eqb (pad_bit s) 1 then refused 4
+    else when not (eqb (get_or s 1 0) 204) then refused 5
+    else when not (eqb (ends s) (length s)) then refused 6
+    else when not (eqb (be32 s name_place) name) then refused 7
     else of_type (typed (type_bits s))
 
 -- the code's answer in the paper's numbers

@@ -6,7 +6,7 @@ use mathlib.Core.Bool.{Bool, true, false, ◌&&◌}
 use mathlib.Core.List.{List, [], ◌∷◌}
 use lib.Dec.{eqb}
 use borrow.Author.Tests.{eqb-true, eq-eqb}
-use Rattle.words.specs.Choice.{if◌then◌else◌, by_test}
+use Rattle.words.specs.Choice.{when◌then◌else◌, by_test}
 use Rattle.words.proofs.Tests.{clash}
 use Rattle.hall.specs.declared.Found.{Found}
 use Rattle.hall.specs.declared.Found.TheVariants.{At}
@@ -16,13 +16,13 @@ use Rattle.identities.specs.declared.Names.{Names}
 use Rattle.identities.specs.Identity.{octets_of, name_at, same, Reflexive, Symmetric, Transitive, has_name, seat_named, FoundAlike}
 
 pub same_self : Reflexive
-unfolding same if◌then◌else◌
+unfolding same when◌then◌else◌
 same_self [] = refl
 same_self (x ∷ a) = rw (eq-eqb x x refl) (same_self a)
 
 -- octet for octet is the same list
 same_is : (a b : List ℕ) → same a b ≡ true → a ≡ b
-unfolding same if◌then◌else◌
+unfolding same when◌then◌else◌
 same_is [] [] q = refl
 same_is [] (y ∷ b) q = clash q refl
 same_is (x ∷ a) [] q = clash q refl
@@ -55,9 +55,9 @@ module _ (h : Hall) (ns : Names) (a b : List ℕ) (q : same a b ≡ true) where
   alike_from : (n s : ℕ) → first_from (has_name h ns a) n s ≡ first_from (has_name h ns b) n s
   alike_from zero s = refl
   alike_from (suc n) s =
-      ap (λ (t : Bool). if (is_present h s && t) then At s else first_from (has_name h ns a) n (suc s))
+      ap (λ (t : Bool). when (is_present h s && t) then At s else first_from (has_name h ns a) n (suc s))
       (same_alike (octets_of (name_at ns s)) a b q)
-      ∙ ap (λ (f : Found). if has_name h ns b s then At s else f) (alike_from n (suc s))
+      ∙ ap (λ (f : Found). when has_name h ns b s then At s else f) (alike_from n (suc s))
 
 pub found_alike : FoundAlike
 unfolding seat_named

@@ -1,6 +1,6 @@
 -- Identities (document 01, "The desk", 25 and 26): 1 to 62 octets, kept in an array of 62 with zeros behind them. Assumes nothing.
 use Rattle.std.specs.Prelude.{ℕ, Bool, true, false, ◌&&◌, List, [], ◌∷◌, ◌≡◌, leb, eqb, length, take, get_or, set, replicate}
-use Rattle.words.specs.Choice.{if◌then◌else◌}
+use Rattle.words.specs.Choice.{when◌then◌else◌}
 use Rattle.words.specs.Table.{padded}
 use Rattle.identities.specs.declared.Name.{Name}
 use Rattle.identities.specs.declared.Names.{Names}
@@ -38,7 +38,7 @@ unfoldable pub same : List ℕ → List ℕ → Bool
 same [] [] = true
 same [] (y ∷ ys) = false
 same (x ∷ xs) [] = false
-same (x ∷ xs) (y ∷ ys) = if eqb x y then same xs ys else false
+same (x ∷ xs) (y ∷ ys) = when eqb x y then same xs ys else false
 
 abbrev pub Reflexive : Type 0
 Reflexive = (a : List ℕ) → same a a ≡ true

@@ -5,7 +5,7 @@ use mathlib.Core.Bool.{not}
 use mathlib.Core.List.{List}
 use native.Mathlib.Omega.{arith}
 use borrow.Author.Tests.{not-true}
-use Rattle.words.specs.Choice.{if◌then◌else◌, by_test}
+use Rattle.words.specs.Choice.{when◌then◌else◌, by_test}
 use Rattle.hall.specs.declared.Answer.TheVariants.{AllSeatsTaken, IdentityLength, IdentityPresent, SsrcPresent}
 use Rattle.hall.specs.declared.Found.{Found}
 use Rattle.hall.specs.declared.Found.TheVariants.{At, Nowhere}
@@ -21,7 +21,7 @@ use Rattle.hall.proofs.Laws.{found_holds}
 module _ (h : Hall) (ns : Names) (o : List ℕ) (n : Newcomer) where
   -- a newcomer that passes every test is seated
   pub join_seats : Passes h ns o n → join h ns o n ≡ seated h ns o n (free_seat h)
-  unfolding join if◌then◌else◌
+  unfolding join when◌then◌else◌
   join_seats p = rw (p.long, p.unnamed, p.unheard)
 
   takes : Passes h ns o n → (f : Found) → free_seat h ≡ f → Joins h ns o n (seated h ns o n f)
@@ -32,7 +32,7 @@ module _ (h : Hall) (ns : Names) (o : List ℕ) (n : Newcomer) where
       sits_down s p q (not-true (is_present h s) f.0) (let z = f.1 in omega arith) refl
 
   joins : Joins h ns o n (join h ns o n)
-  unfolding join if◌then◌else◌
+  unfolding join when◌then◌else◌
   joins =
       by_test (length_allowed o)
       (λ a. by_test (is_at (seat_named h ns o))

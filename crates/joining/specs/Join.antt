@@ -1,6 +1,6 @@
 -- Join, by document 01, "The desk": tests 25, 26, 27, 24 and takes the lowest free seat. Assumes nothing.
 use Rattle.std.specs.Prelude.{ℕ, Bool, true, not, List, eqb}
-use Rattle.words.specs.Choice.{if◌then◌else◌}
+use Rattle.words.specs.Choice.{when◌then◌else◌}
 use Rattle.hall.specs.declared.Answer.{Answer}
 use Rattle.hall.specs.declared.Answer.TheVariants.{Done, AllSeatsTaken, IdentityLength, IdentityPresent, SsrcPresent}
 use Rattle.hall.specs.declared.Found.{Found}
@@ -14,7 +14,7 @@ use Rattle.identities.specs.Identity.{seat_named, name_of, with_name, length_all
 
 -- 27: the SSRC is present already, or it is the desk's
 unfoldable pub ssrc_taken : Hall → ℕ → Bool
-ssrc_taken h x = if eqb x h.settings.ssrc then true else is_at (seat_of h x)
+ssrc_taken h x = when eqb x h.settings.ssrc then true else is_at (seat_of h x)
 
 abbrev pub not_joined : Hall → Names → Answer → Joined
 not_joined h ns a = record { answer = a; seat = Nowhere; hall = h; names = ns }
@@ -26,7 +26,7 @@ seated h ns o n (At s) = record { answer = Done; seat = At s; hall = with_seat h
 
 unfoldable pub join : Hall → Names → List ℕ → Newcomer → Joined
 join h ns o n =
-    if not (length_allowed o) then not_joined h ns IdentityLength
-    else if is_at (seat_named h ns o) then not_joined h ns IdentityPresent
-    else if ssrc_taken h n.ssrc then not_joined h ns SsrcPresent
+    when not (length_allowed o) then not_joined h ns IdentityLength
+    else when is_at (seat_named h ns o) then not_joined h ns IdentityPresent
+    else when ssrc_taken h n.ssrc then not_joined h ns SsrcPresent
     else seated h ns o n (free_seat h)

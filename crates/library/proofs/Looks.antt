@@ -10,7 +10,7 @@ use lib.Dec.{leb}
 use lib.IntN.{ℤ, pos, negsuc}
 use lib.ListN.{length, get_or, drop}
 use borrow.Author.Tests.{le-leb}
-use Rattle.words.specs.Choice.{if◌then◌else◌, by_test}
+use Rattle.words.specs.Choice.{when◌then◌else◌, by_test}
 use Rattle.octets.specs.Octets.{over, Octets}
 use Rattle.message.specs.Answers.{refused, result}
 use Rattle.line.specs.declared.Entry.{Entry}
@@ -63,11 +63,11 @@ module _ (d room : List ℕ) (q : formed d ≡ true) where
   es = waiting (core_at d).line
 
   screens : leb (2 * length es) (length room) ≡ true → screen_on d room ≡ answers (result (length es)) (over room 0 (pairs es))
-  unfolding screened if◌then◌else◌
+  unfolding screened when◌then◌else◌
   screens l = rw (q, l)
 
   screens_not : leb (2 * length es) (length room) ≡ false → screen_on d room ≡ answers (refused 13) room
-  unfolding screened if◌then◌else◌
+  unfolding screened when◌then◌else◌
   screens_not l = rw (q, l)
 
   shown_so : (n : ℕ) (shown : List ℕ) → ScreenPromise d room (pos n) shown → entries_in shown n ≡ es

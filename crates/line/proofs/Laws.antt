@@ -8,7 +8,7 @@ use native.Mathlib.Omega.{arith}
 use lib.Dec.{eqb, leb}
 use lib.ListN.{length, take, drop, get_or, set, replicate, length-take, length-append, length-drop, drop_of_length-le, get_or-append}
 use lib.Seq.{drop-cons, take-suc, take_all, take-take, take-append_seam, take-set-lt, get_or-append-add, get_or-take, get_or-drop, get_or_at}
-use Rattle.words.specs.Choice.{if◌then◌else◌, if_yes, if_no, by_test}
+use Rattle.words.specs.Choice.{when◌then◌else◌, if_yes, if_no, by_test}
 use Rattle.words.specs.Table as table
 use Rattle.line.specs.declared.Entry.{Entry}
 use Rattle.line.specs.declared.Line.{Line}
@@ -143,8 +143,8 @@ unfolding enter ahead
 enter_nil e = refl
 
 pub enter_cons : (e x : Entry) (xs : List Entry) →
-    enter e (x ∷ xs) ≡ (if leb e.priority x.priority then x ∷ enter e xs else e ∷ x ∷ xs)
-unfolding enter ahead if◌then◌else◌
+    enter e (x ∷ xs) ≡ (when leb e.priority x.priority then x ∷ enter e xs else e ∷ x ∷ xs)
+unfolding enter ahead when◌then◌else◌
 enter_cons e x xs = by_test (leb e.priority x.priority) (λ q. rw q) (λ q. rw q)
 
 pub enter-length : (e : Entry) (es : List Entry) → length (enter e es) ≡ length es + 1
@@ -153,11 +153,11 @@ enter-length e es = put_length es (ahead e.priority es) e (ahead_le e.priority e
 
 -- how many stand before a seat, place by place
 pub before_here : (e : Entry) (es : List Entry) (s : ℕ) → eqb e.seat s ≡ true → before s (e ∷ es) ≡ 0
-unfolding before if◌then◌else◌
+unfolding before when◌then◌else◌
 before_here e es s t = rw t
 
 pub before_later : (e : Entry) (es : List Entry) (s : ℕ) → eqb e.seat s ≡ false → before s (e ∷ es) ≡ suc (before s es)
-unfolding before if◌then◌else◌
+unfolding before when◌then◌else◌
 before_later e es s t = rw t
 
 -- the line of the first so many of a list
@@ -171,14 +171,14 @@ line_front a es n p q = line_is a es n (p ∙ take_front 15 es (replicate 15 emp
 
 -- striking off goes entry by entry
 pub without-append : (seats : List Bool) (a b : List Entry) → without seats (a ++ b) ≡ without seats a ++ without seats b
-unfolding without if◌then◌else◌
+unfolding without when◌then◌else◌
 without-append seats [] b = refl
 without-append seats (e ∷ a) b = by_test (get_or seats e.seat false)
     (λ t. rw t (without-append seats a b))
     (λ t. rw t (ap (λ (l : List Entry). e ∷ l) (without-append seats a b)))
 
 pub without_le : (seats : List Bool) (es : List Entry) → length (without seats es) ≤ length es
-unfolding without if◌then◌else◌
+unfolding without when◌then◌else◌
 without_le seats [] = omega arith
 without_le seats (e ∷ es) = let h : length (without seats es) ≤ length es = without_le seats es in by_test (get_or seats e.seat false)
     (λ t. rw t (omega arith))
@@ -186,12 +186,12 @@ without_le seats (e ∷ es) = let h : length (without seats es) ≤ length es = 
 
 module _ (seats : List Bool) (es : List Entry) (i : ℕ) (h : i < length es) where
   pub without_struck : get_or seats (get_or es i empty).seat false ≡ true → without seats (take (i + 1) es) ≡ without seats (take i es)
-  unfolding without if◌then◌else◌
+  unfolding without when◌then◌else◌
   without_struck t = rw (next-taken es i h, without-append seats (take i es), t) (append-nil _)
 
   pub without_kept : get_or seats (get_or es i empty).seat false ≡ false →
       without seats (take (i + 1) es) ≡ without seats (take i es) ++ (get_or es i empty ∷ [])
-  unfolding without if◌then◌else◌
+  unfolding without when◌then◌else◌
   without_kept t = rw (next-taken es i h, without-append seats (take i es), t)
 
 -- the set of those in line, entry by entry

@@ -2,7 +2,7 @@
 -- fifteen places and a length; here it is a list of entries, its head first. Assumes nothing.
 use Rattle.std.specs.Prelude.{ℕ, suc, ltb, leb, eqb, Bool, true, false, not, ◌&&◌, List, [], ◌∷◌, ◌++◌, length, take, drop, get_or, set, replicate}
 use Rattle.words.specs.Table.{padded}
-use Rattle.words.specs.Choice.{if◌then◌else◌}
+use Rattle.words.specs.Choice.{when◌then◌else◌}
 use Rattle.line.specs.declared.Entry.{Entry}
 use Rattle.line.specs.declared.Line.{Line}
 
@@ -24,7 +24,7 @@ line_of es = record { entries = padded empty 15 es; len = length (take 15 es) }
 -- how many at the front pass the test
 abbrev pub leading : (Entry → Bool) → List Entry → ℕ
 leading test [] = 0
-leading test (e ∷ es) = if test e then suc (leading test es) else 0
+leading test (e ∷ es) = when test e then suc (leading test es) else 0
 
 -- how many stand before the seat: the head has 0 before it, and a seat that is not in line has everybody
 abbrev pub is_other : ℕ → Entry → Bool
@@ -53,7 +53,7 @@ enter e es = take (ahead e.priority es) es ++ e ∷ drop (ahead e.priority es) e
 -- is there one in line who is not this seat and has at least this priority
 abbrev pub anyone : (Entry → Bool) → List Entry → Bool
 anyone test [] = false
-anyone test (e ∷ es) = if test e then true else anyone test es
+anyone test (e ∷ es) = when test e then true else anyone test es
 
 abbrev pub other_at_least : ℕ → ℕ → Entry → Bool
 other_at_least s p e = not (eqb e.seat s) && leb p e.priority
@@ -64,7 +64,7 @@ another_at_least s p es = anyone (other_at_least s p) es
 -- the line once the seats of a set are struck off
 unfoldable pub without : List Bool → List Entry → List Entry
 without seats [] = []
-without seats (e ∷ es) = if get_or seats e.seat false then without seats es else e ∷ without seats es
+without seats (e ∷ es) = when get_or seats e.seat false then without seats es else e ∷ without seats es
 
 -- the seats in line, as a set
 abbrev pub no_seats : List Bool

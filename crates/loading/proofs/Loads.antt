@@ -5,7 +5,7 @@ use mathlib.Core.Bool.{true, false}
 use mathlib.Core.List.{List}
 use mathlib.Core.Path.{◌≡◌, refl, sym, ap, ◌∙◌}
 use borrow.Author.Tests.{leb-true, eq-eqb, ne_eqb}
-use Rattle.words.specs.Choice.{if◌then◌else◌, by_test}
+use Rattle.words.specs.Choice.{when◌then◌else◌, by_test}
 use Rattle.words.specs.Below.{and_left}
 use Rattle.octets.specs.Octets.{part}
 use Rattle.hall.specs.declared.Hall.{Hall}
@@ -28,25 +28,25 @@ use Rattle.loading.specs.Walk.{turn_at}
 -- 41, 42 and 43 first
 module _ (s : List ℕ) where
   pub loads_framed : verdict_number (framing s) ≡ 0 → loading s ≡ settled s
-  unfolding loading if◌then◌else◌
+  unfolding loading when◌then◌else◌
   loads_framed h = rw (eq-eqb (verdict_number (framing s)) 0 h)
 
   pub loads_refused : (n : ℕ) → n ≡ verdict_number (framing s) → (n ≡ 0 → ⊥) → loading s ≡ not_loaded n
-  unfolding loading if◌then◌else◌
+  unfolding loading when◌then◌else◌
   loads_refused n e h = rw (← e, ne_eqb n 0 h)
 
   pub settles_range : in_range (settings_on s) ≡ false → settled s ≡ not_loaded 44
-  unfolding if◌then◌else◌
+  unfolding when◌then◌else◌
   settles_range e = rw e
 
   module _ (r : in_range (settings_on s) ≡ true) where
     pub settles_zeros : zeros_fit s (settings_place s) ≡ false → settled s ≡ not_loaded 44
-    unfolding if◌then◌else◌
+    unfolding when◌then◌else◌
     settles_zeros e = rw (r, e)
 
     pub settles : zeros_fit s (settings_place s) ≡ true
         → settled s ≡ seat_all (empty_hall (settings_on s)) no_names (read_seats (seat_count s) s 0)
-    unfolding if◌then◌else◌
+    unfolding when◌then◌else◌
     settles e = rw (r, e)
 
 -- a seat that is laid out ends before the settings
@@ -72,7 +72,7 @@ module _ (h : Hall) (ns : Names) where
     pub turns : seat_all h ns (read_seats (suc n) s at)
         ≡ if_seated (turn_at s at h ns).seat
         (seat_all (turn_at s at h ns).hall (turn_at s at h ns).names (read_seats n s (turn_at s at h ns).next))
-    unfolding read_seats turn_at if◌then◌else◌
+    unfolding read_seats turn_at when◌then◌else◌
     turns =
         by_test (laid_out s at) (λ e. rw e (seat_infront_lem (read_seat s at) (read_seats n s (after_seat s at)))) (λ e. rw e)
 
@@ -94,13 +94,13 @@ module _ (h : Hall) (ns : Names) where
   pub turn_made : (s : List ℕ) (at : ℕ) (w : Newcomer) (o : List ℕ) (j : Joined) → laid_out s at ≡ true → w ≡ who_is s at
       → o ≡ part s (at + seat_head) (identity_length s at) → j ≡ join h ns o w
       → ◌≡◌ {A = Turn} (record { seat = j.seat; next = after_seat s at; hall = j.hall; names = j.names }) (turn_at s at h ns)
-  unfolding turn_at read_seat if◌then◌else◌
+  unfolding turn_at read_seat when◌then◌else◌
   turn_made s at w o j l e f g = rw (l, g, e, f)
 
   pub loads_end : (s : List ℕ) (at : ℕ) → at ≡ settings_place s → seat_all h ns (read_seats 0 s at) ≡ loaded h ns
-  unfolding read_seats join_all if◌then◌else◌
+  unfolding read_seats join_all when◌then◌else◌
   loads_end s at e = rw (eq-eqb at (settings_place s) e)
 
   pub loads_gap : (s : List ℕ) (at : ℕ) → (at ≡ settings_place s → ⊥) → seat_all h ns (read_seats 0 s at) ≡ not_loaded 45
-  unfolding read_seats if◌then◌else◌
+  unfolding read_seats when◌then◌else◌
   loads_gap s at e = rw (ne_eqb at (settings_place s) e)

@@ -1,6 +1,6 @@
 -- Loading (document 01, "The sheet", 41 to 45), for any octets whatever. Assumes nothing.
 use Rattle.std.specs.Prelude.{ℕ, zero, suc, ◌+◌, ◌≡◌, Bool, not, ◌&&◌, ◌||◌, List, [], ◌∷◌, leb, eqb, get_or}
-use Rattle.words.specs.Choice.{if◌then◌else◌}
+use Rattle.words.specs.Choice.{when◌then◌else◌}
 use Rattle.octets.specs.Octets.{be32, part}
 use Rattle.hall.specs.declared.Settings.{Settings}
 use Rattle.hall.specs.declared.Newcomer.{Newcomer}
@@ -64,8 +64,8 @@ seat_infront x (whole xs) = whole (x ∷ xs)
 seat_infront x fault = fault
 
 unfoldable pub read_seats : ℕ → List ℕ → ℕ → Seats
-read_seats zero s at = if eqb at (settings_place s) then whole [] else fault
-read_seats (suc n) s at = if laid_out s at then seat_infront (read_seat s at) (read_seats n s (after_seat s at)) else fault
+read_seats zero s at = when eqb at (settings_place s) then whole [] else fault
+read_seats (suc n) s at = when laid_out s at then seat_infront (read_seat s at) (read_seats n s (after_seat s at)) else fault
 
 -- 45, join's rules: the seats join one after the other, in sheet order
 abbrev pub if_seated : Found → Load → Load
@@ -85,12 +85,12 @@ seat_all h ns fault = not_loaded 45
 -- 44 and 45, once the trailer is in order
 abbrev pub settled : List ℕ → Load
 settled s =
-    if not (in_range (settings_on s)) || not (zeros_fit s (settings_place s)) then not_loaded 44
+    when not (in_range (settings_on s)) || not (zeros_fit s (settings_place s)) then not_loaded 44
     else seat_all (empty_hall (settings_on s)) no_names (read_seats (seat_count s) s 0)
 
 -- 41, 42 and 43, and then these
 unfoldable pub loading : List ℕ → Load
-loading s = if eqb (verdict_number (framing s)) 0 then settled s else not_loaded (verdict_number (framing s))
+loading s = when eqb (verdict_number (framing s)) 0 then settled s else not_loaded (verdict_number (framing s))
 
 -- loading's answer in the paper's numbers
 abbrev pub loading_answer : Loading → Load

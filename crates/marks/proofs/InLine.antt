@@ -8,7 +8,7 @@ use lib.Dec.{eqb, leb-suc-suc}
 use lib.ListN.{length, take, drop, get_or, set, replicate, length-set, length-replicate, take-append-drop}
 use lib.Seq.{get_or-set_same, get_or-set_other}
 use borrow.Author.Tests.{eqb-true, eqb-false, eq-eqb, lt-ltb}
-use Rattle.words.specs.Choice.{if◌then◌else◌, by_test}
+use Rattle.words.specs.Choice.{when◌then◌else◌, by_test}
 use Rattle.words.specs.Table.{get_d_fill}
 use Rattle.line.specs.declared.Entry.{Entry}
 use Rattle.line.specs.Line.{before, leading, is_other, is_in, enter, ahead, without, added}
@@ -23,7 +23,7 @@ pub none_in : (s : ℕ) {es : List Entry} → es ≡ [] → is_in s es ≡ false
 none_in s q = ap (is_in s) q ∙ in_nil s
 
 pub in_cons : (s : ℕ) (e : Entry) (es : List Entry) → is_in s (e ∷ es) ≡ (eqb e.seat s || is_in s es)
-unfolding before if◌then◌else◌
+unfolding before when◌then◌else◌
 in_cons s e es =
     by_test (eqb e.seat s)
     (λ q. rw q (lt-ltb 0 (suc (length es)) (omega arith)))
@@ -57,7 +57,7 @@ in_enter s e es =
     swap false y z = refl
 
 pub in_without : (s : ℕ) (seats : List Bool) (es : List Entry) → is_in s (without seats es) ≡ (is_in s es && not (get_or seats s false))
-unfolding without if◌then◌else◌
+unfolding without when◌then◌else◌
 in_without s seats [] = rw (in_nil s)
 in_without s seats (e ∷ es) =
     by_test (get_or seats e.seat false)
@@ -91,7 +91,7 @@ only_at t s h =
 -- striking off a seat that is in line makes the line shorter
 pub without_less : (t : ℕ) (seats : List Bool) (es : List Entry) → get_or seats t false ≡ true → is_in t es ≡ true →
     length (without seats es) < length es
-unfolding without if◌then◌else◌
+unfolding without when◌then◌else◌
 without_less t seats [] h i = let z : ◌≡◌ {A = ℕ} 0 1 = cc (in_nil t) in absurd (omega arith)
 without_less t seats (e ∷ es) h i =
     by_test (get_or seats e.seat false)

@@ -3,7 +3,7 @@
 use Prim.Native.Nat.{ℕ}
 use mathlib.Core.Bool.{Bool}
 use mathlib.Core.Path.{◌≡◌, refl}
-use Rattle.words.specs.Choice.{if◌then◌else◌}
+use Rattle.words.specs.Choice.{when◌then◌else◌}
 use Rattle.message.specs.Message.{required, has_all}
 use Rattle.message.specs.Asked.{has_id}
 use Rattle.message.specs.declared.Has.{Has}
@@ -23,7 +23,7 @@ pub record Tells (h : Has) (f : ℕ → Bool) : Type 0 where
   pub message_type : h.message_type ≡ f 12
 
 pub required_by : (h : Has) (f : ℕ → Bool) → Tells h f → (k : MessageType) → has_all (has_id h) (required k) ≡ has_all f (required k)
-unfolding has_all has_id if◌then◌else◌
+unfolding has_all has_id when◌then◌else◌
 required_by h f t Request = refl
 required_by h f t Granted = rw t.duration
 required_by h f t Taken = rw t.granted

@@ -9,7 +9,7 @@ use lib.Dec.{eqb, ltb}
 use lib.ListN.{get_or}
 use borrow.Author.Tests.{eqb-true, ne_eqb, ltb-true, ltb-false, lt-ltb, le-ltb}
 use Rattle.words.specs.Below.{below, and_left, and_right}
-use Rattle.words.specs.Choice.{if◌then◌else◌, if_yes, if_no, by_test}
+use Rattle.words.specs.Choice.{when◌then◌else◌, if_yes, if_no, by_test}
 use Rattle.words.proofs.Tests.{clash}
 use Rattle.message.specs.Table.{FieldRow, table, row_in, row_of, listed_in, listed, against, at_fault}
 
@@ -18,7 +18,7 @@ abbrev mark : ℕ
 mark = 0
 
 unfoldable marked_greatest : ℕ → ℕ
-marked_greatest i = if listed i then (row_of i).greatest else mark
+marked_greatest i = when listed i then (row_of i).greatest else mark
 
 abbrev pub leasts : List ℕ
 leasts = 2 ∷ 2 ∷ 2 ∷ 2 ∷ 1 ∷ 2 ∷ 1 ∷ 0 ∷ 2 ∷ 0 ∷ 2 ∷ 0 ∷ 2 ∷ 2 ∷ 6 ∷ 0 ∷ []
@@ -27,11 +27,11 @@ abbrev pub greatests : List ℕ
 greatests = 2 ∷ 2 ∷ 255 ∷ 2 ∷ 62 ∷ 2 ∷ 62 ∷ mark ∷ 2 ∷ mark ∷ 2 ∷ mark ∷ 2 ∷ 2 ∷ 6 ∷ mark ∷ []
 
 pub least_is : (i : ℕ) → i < 16 → get_or leasts i 0 ≡ (row_of i).least
-unfolding row_in if◌then◌else◌
+unfolding row_in when◌then◌else◌
 least_is i h = eqb-true (get_or leasts i 0) (row_of i).least (below (λ k. eqb (get_or leasts k 0) (row_of k).least) 16 refl i h)
 
 greatest_is : (i : ℕ) → i < 16 → get_or greatests i 0 ≡ marked_greatest i
-unfolding marked_greatest listed_in row_in if◌then◌else◌
+unfolding marked_greatest listed_in row_in when◌then◌else◌
 greatest_is i h = eqb-true (get_or greatests i 0) (marked_greatest i) (below (λ k. eqb (get_or greatests k 0) (marked_greatest k)) 16 refl i h)
 
 -- the table has no ID from 16 on
@@ -72,7 +72,7 @@ same_is false true e = e
 same_is false false e = refl
 
 pub mark-tells : (i : ℕ) → i < 16 → not (eqb (get_or greatests i 0) mark) ≡ listed i
-unfolding same listed_in if◌then◌else◌
+unfolding same listed_in when◌then◌else◌
 mark-tells i h = same_is _ _ (below (λ k. same (not (eqb (get_or greatests k 0) mark)) (listed k)) 16 refl i h)
 
 -- a length that the table has leaves only the content to be at fault

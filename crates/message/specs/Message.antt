@@ -3,7 +3,7 @@
 -- that source (`lies`): else it holds none, and the writer answers 12. Assumes nothing.
 use Rattle.std.specs.Prelude.{ℕ, ◌+◌, Bool, true, false, ◌&&◌, List, [], ◌∷◌, ◌++◌, eqb, leb, length}
 use Rattle.std.proofs.Math.Option.{Option, none, some}
-use Rattle.words.specs.Choice.{if◌then◌else◌}
+use Rattle.words.specs.Choice.{when◌then◌else◌}
 use Rattle.octets.specs.Octets.{octets16, octets32, part}
 use Rattle.message.specs.declared.MessageType.{MessageType}
 use Rattle.message.specs.declared.MessageType.TheVariants.{Request, Granted, Taken, Deny, Release, Idle, Revoke}
@@ -116,7 +116,7 @@ is_there (some xs) = true
 -- whether the fields have this ID; whether all of these are given
 unfoldable pub has : List Field → ℕ → Bool
 has [] i = false
-has (f ∷ fs) i = if eqb i f.id then is_there f.content else has fs i
+has (f ∷ fs) i = when eqb i f.id then is_there f.content else has fs i
 
 unfoldable pub has_all : (ℕ → Bool) → List ℕ → Bool
 has_all given [] = true

@@ -1,7 +1,7 @@
 -- The table of fields (document 01, "The packet"): for each ID the least and the greatest L, and how many octets of the content are spare.
 -- Assumes nothing.
 use Rattle.std.specs.Prelude.{ℕ, ◌+◌, ◌-◌, ◌*◌, ◌/◌, Bool, true, false, ◌||◌, List, [], ◌∷◌, ltb, eqb, length}
-use Rattle.words.specs.Choice.{if◌then◌else◌}
+use Rattle.words.specs.Choice.{when◌then◌else◌}
 
 pub record FieldRow : Type 0 where
   pub id : ℕ
@@ -36,21 +36,21 @@ skipped i = row i 0 255 0
 -- the row of an ID, and whether the table has one
 unfoldable pub row_in : List FieldRow → ℕ → FieldRow
 row_in [] i = skipped i
-row_in (r ∷ rows) i = if eqb i r.id then r else row_in rows i
+row_in (r ∷ rows) i = when eqb i r.id then r else row_in rows i
 
 abbrev pub row_of : ℕ → FieldRow
 row_of i = row_in table i
 
 unfoldable pub listed_in : List FieldRow → ℕ → Bool
 listed_in [] i = false
-listed_in (r ∷ rows) i = if eqb i r.id then true else listed_in rows i
+listed_in (r ∷ rows) i = when eqb i r.id then true else listed_in rows i
 
 abbrev pub listed : ℕ → Bool
 listed i = listed_in table i
 
 -- "Content can be at fault only at IDs 5 and 10": the number that it is
 unfoldable pub at_fault : ℕ → ℕ → Bool
-at_fault i n = if eqb i 5 then ltb 1 n else if eqb i 10 then ltb 3 n else false
+at_fault i n = when eqb i 5 then ltb 1 n else when eqb i 10 then ltb 3 n else false
 
 -- L of a field: its content and the spare octets behind it
 abbrev pub length_of : ℕ → List ℕ → ℕ

@@ -5,7 +5,7 @@ use mathlib.Core.List.{List}
 use mathlib.Core.Path.{◌≡◌, ap}
 use lib.ListN.{length}
 use borrow.Author.Tests.{eq-eqb, lt-ltb, le-ltb}
-use Rattle.words.specs.Choice.{if◌then◌else◌}
+use Rattle.words.specs.Choice.{when◌then◌else◌}
 use Rattle.octets.specs.Octets.{be16, over, nth_octet}
 use Rattle.message.specs.Types.{typed}
 use Rattle.message.specs.Answers.{refused, result}
@@ -19,7 +19,7 @@ use Rattle.message_octets.specs.Places.{type_place, ack_place, fields_place, mes
 pub held_is : (s : List ℕ) (t : Typed) → length s ≡ message_size → nth_octet s ack_place ≤ 1 → unlisted_field (be16 s fields_place) ≡ false →
     typed (nth_octet s type_place) ≡ t
     → held_at s ≡ held_of_type t s
-unfolding held_at if◌then◌else◌
+unfolding held_at when◌then◌else◌
 held_is s t l a u e = simp (eq-eqb _ _ l, le-ltb _ _ a, u) (ap (λ (x : Typed). held_of_type x s) e)
 
 module _ (packet room : List ℕ) where
@@ -29,10 +29,10 @@ module _ (packet room : List ℕ) where
 
   pub short_is : (m : Message) → reading packet ≡ result m → length room < message_size
       → (13 ≡ read_held packet (length room)) × (room ≡ kept_in packet room)
-  unfolding read_held kept_in if◌then◌else◌
+  unfolding read_held kept_in when◌then◌else◌
   short_is m e h = (simp (e, lt-ltb _ _ h), simp (e, lt-ltb _ _ h))
 
   pub kept_is : (m : Message) (room' : List ℕ) → reading packet ≡ result m → message_size ≤ length room → room' ≡ over room 0 (held_octets m)
       → (0 ≡ read_held packet (length room)) × (room' ≡ kept_in packet room)
-  unfolding read_held kept_in if◌then◌else◌
+  unfolding read_held kept_in when◌then◌else◌
   kept_is m room' e h q = (simp (e, le-ltb _ _ h), simp (e, le-ltb _ _ h) q)

@@ -5,7 +5,7 @@ use native.Mathlib.Omega.{arith}
 use mathlib.Core.Bool.{Bool, true, false}
 use mathlib.Core.List.{[]}
 use mathlib.Core.Path.{◌≡◌, refl, sym, ap, ◌∙◌}
-use Rattle.words.specs.Choice.{if◌then◌else◌, one}
+use Rattle.words.specs.Choice.{when◌then◌else◌, one}
 use lib.Dec.{eqb}
 use Rattle.message.specs.Message.{fields_of, is_there, of_octet, of_word, of_number, of_queue, of_part, of_cause, has}
 use Rattle.message.specs.declared.Message.{Message}
@@ -44,7 +44,7 @@ pub which_is : (m : Message) →
     + worth_if (is_there (of_word m.source)) 1024 + worth_if (is_there (of_octet m.message_type)) 4096
     + worth_if (is_there (of_word m.indicator)) 8192 + worth_if (is_there (of_number m.ssrc_field)) 16384
     ≡ which m
-unfolding which has if◌then◌else◌
+unfolding which has when◌then◌else◌
 which_is m =
     in_order (is_there (of_octet m.priority)) (is_there (of_word m.duration)) (is_there (of_cause [] m.cause))
     (is_there (of_queue m.queue)) (is_there (of_part [] m.granted)) (is_there (of_word m.permission)) (is_there (of_part [] m.user))

@@ -3,7 +3,7 @@
 -- is written out of them (document 01, "What is answered to packets", 1 to 13). Assumes nothing.
 use Rattle.std.specs.Prelude.{ℕ, zero, suc, ◌+◌, ◌*◌, ◌/◌, ◌%◌, ◌^◌, Bool, true, false, not, ◌||◌, List, [], ◌∷◌, ◌++◌, ltb, eqb, length}
 use Rattle.message.specs.Message.{count_of, fields_of, has}
-use Rattle.words.specs.Choice.{if◌then◌else◌, one}
+use Rattle.words.specs.Choice.{when◌then◌else◌, one}
 use Rattle.octets.specs.Octets.{be16, be32, octets16, octets32, over, nth_octet}
 use Rattle.message.specs.Types.{typed, type_number}
 use Rattle.message.specs.Answers.{Answer, refused, result}
@@ -173,9 +173,9 @@ held_of_type (Listed k) s = Is (message_with k s (be16 s fields_place))
 -- octets that are not 40, an Ack bit above 1, an unlisted field and an unlisted type hold no message
 unfoldable pub held_at : List ℕ → Held
 held_at s =
-    if not (eqb (length s) message_size) then Nothing
-    else if ltb 1 (nth_octet s ack_place) then Nothing
-    else if unlisted_field (be16 s fields_place) then Nothing
+    when not (eqb (length s) message_size) then Nothing
+    else when ltb 1 (nth_octet s ack_place) then Nothing
+    else when unlisted_field (be16 s fields_place) then Nothing
     else held_of_type (typed (nth_octet s type_place)) s
 
 -- WHAT IS ANSWERED
@@ -183,13 +183,13 @@ held_at s =
 -- a packet read into a room: the refusal's number, 1 to 11 or 14; then 13 if the room is shorter than 40 octets; else 0
 abbrev pub read_number : Answer Message → ℕ → ℕ
 read_number (refused n) room = n
-read_number (result m) room = if ltb room message_size then 13 else 0
+read_number (result m) room = when ltb room message_size then 13 else 0
 
 -- "A refusal returns its number only and writes nothing; a result leaves the room past its end untouched" (document 01, "What is answered
 -- to packets")
 abbrev pub keeping : Answer Message → List ℕ → List ℕ
 keeping (refused n) room = room
-keeping (result m) room = if ltb (length room) message_size then room else over room 0 (held_octets m)
+keeping (result m) room = when ltb (length room) message_size then room else over room 0 (held_octets m)
 
 unfoldable pub read_held : List ℕ → ℕ → ℕ
 read_held packet room = read_number (reading packet) room

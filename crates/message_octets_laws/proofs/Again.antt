@@ -8,7 +8,7 @@ use lib.ListN.{length, take, drop}
 use lib.Seq.{take-append_seam}
 use borrow.Author.Tests.{leb-true, le-ltb}
 use Rattle.words.specs.Below.{and_left, and_right}
-use Rattle.words.specs.Choice.{if◌then◌else◌}
+use Rattle.words.specs.Choice.{when◌then◌else◌}
 use Rattle.octets.specs.Octets.{over, octets16, octets32}
 use Rattle.message.specs.Answers.{result}
 use Rattle.message.specs.Message.{said, complete, part_lies, phrase_lies, lies}
@@ -65,7 +65,7 @@ front kept m = take-append_seam (held_octets m) (drop (0 + length (held_octets m
 
 writes : (m : Message) (src room : List ℕ) → readable m src ≡ true → length (wire (said m src)) ≤ length room
     → writing m src (length room) ≡ result (length (wire (said m src)))
-unfolding writing if◌then◌else◌
+unfolding writing when◌then◌else◌
 writes m src room e h = rw (e, le-ltb (length room) (length (wire (said m src))) h)
 
 pub read_then_written : ReadThenWritten

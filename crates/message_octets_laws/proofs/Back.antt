@@ -6,7 +6,7 @@ use mathlib.Core.Bool.{Bool, true, false}
 use mathlib.Core.List.{[]}
 use mathlib.Core.Path.{◌≡◌, refl, ap, ◌∙◌}
 use Rattle.message.specs.Message.{count_of, is_there, of_octet, of_word, of_number, of_queue, of_part, of_cause, has}
-use Rattle.words.specs.Choice.{if◌then◌else◌, one}
+use Rattle.words.specs.Choice.{when◌then◌else◌, one}
 use Rattle.octets.specs.Octets.{be16, be32, octets16, octets32}
 use Rattle.octets.proofs.Numbers.{be16_of, be32_back}
 use Rattle.message.proofs.Types.{type_back}
@@ -63,12 +63,12 @@ cause_back (Cause.Is cause from count) b m n k e o q r = rw (e, o, q, r)
 
 module _ (m : Message) where
   none_unlisted : unlisted_field (which m) ≡ false
-  unfolding unlisted_field has if◌then◌else◌
+  unfolding unlisted_field has when◌then◌else◌
   none_unlisted = rw (is_set_lem m 7 (omega arith), is_set_lem m 9 (omega arith), is_set_lem m 11 (omega arith), is_set_lem m 15 (omega arith))
 
   -- at each place stands what the message has there, and `has` computes the question of a bit to that of one field
   message_back : Near m → message_with m.kind (held_octets m) (which m) ≡ m
-  unfolding message_with held_octets head_octets first_octets next_octets part_octets place_octets octets16 octets32 be16 be32 has if◌then◌else◌
+  unfolding message_with held_octets head_octets first_octets next_octets part_octets place_octets octets16 octets32 be16 be32 has when◌then◌else◌
   message_back near = λ i. record {
     kind = m.kind;
     ack = flag_back m.ack i;

@@ -4,7 +4,7 @@ use Prim.Native.Nat.{ℕ}
 use mathlib.Core.Bool.{true}
 use mathlib.Core.List.{List, [], ◌∷◌}
 use mathlib.Core.Path.{◌≡◌, refl}
-use Rattle.words.specs.Choice.{if◌then◌else◌}
+use Rattle.words.specs.Choice.{when◌then◌else◌}
 use Rattle.octets.specs.Octets.{be16, be32, octets16, octets32}
 use Rattle.message.specs.Message.{has}
 use Rattle.message.specs.declared.MessageType.TheVariants.{Taken}
@@ -46,9 +46,9 @@ octets =
     ∷ 24 ∷ 25 ∷ 26 ∷ 27 ∷ 28 ∷ 29 ∷ 30 ∷ 31 ∷ 32 ∷ 33 ∷ 34 ∷ 35 ∷ 36 ∷ 37 ∷ 38 ∷ 39 ∷ []
 
 pub full_held : held_octets full ≡ octets
-unfolding held_octets head_octets first_octets next_octets part_octets place_octets which has octets16 octets32 if◌then◌else◌
+unfolding held_octets head_octets first_octets next_octets part_octets place_octets which has octets16 octets32 when◌then◌else◌
 full_held = refl
 
 pub full_read : held_at octets ≡ Is full
-unfolding held_at message_with unlisted_field be16 be32 if◌then◌else◌
+unfolding held_at message_with unlisted_field be16 be32 when◌then◌else◌
 full_read = refl

@@ -13,7 +13,7 @@ use lib.Dec.{eqb, ltb}
 use lib.ListN.{length}
 use borrow.Author.Tests.{eqb-true, eqb-false, ltb-true, ltb-false, ne_eqb, eq-eqb, lt-ltb, le-ltb}
 use Rattle.header.specs.Header.{first_octet}
-use Rattle.words.specs.Choice.{if◌then◌else◌, by_test}
+use Rattle.words.specs.Choice.{when◌then◌else◌, by_test}
 use Rattle.words.proofs.Tests.{clash}
 use Rattle.octets.specs.Octets.{be16, be32, nth_octet}
 use Rattle.message.specs.Types.{typed}
@@ -51,7 +51,7 @@ type_small s e =
 pub first_is : (s : List ℕ) (fields : ℕ) → typed (nth_octet s type_place) ≡ Listed (type_of (typed (nth_octet s type_place))) →
     nth_octet s ack_place ≤ 1
     → 128 + 16 * nth_octet s ack_place + nth_octet s type_place ≡ first_octet (message_in s fields).kind (message_in s fields).ack
-unfolding message_in message_with first_octet if◌then◌else◌
+unfolding message_in message_with first_octet when◌then◌else◌
 first_is s fields e h =
     let n = type_named (nth_octet s type_place) (type_of (typed (nth_octet s type_place))) e in
     by_test (eqb (nth_octet s ack_place) 1) (λ t. let q = eqb-true (nth_octet s ack_place) 1 t in rw t (omega arith))
@@ -83,7 +83,7 @@ one_of e = rw e
 
 complete_is : (k : MessageType) (s src : List ℕ) (fields : ℕ) →
     complete (said (message_with k s fields) src) ≡ has_all (is_set fields) (required k)
-unfolding complete said has_all has message_with if◌then◌else◌
+unfolding complete said has_all has message_with when◌then◌else◌
 complete_is Request s src fields = refl
 complete_is Granted s src fields = one_of (word_given (is_set fields 1) (be16 s duration_place))
 complete_is Taken s src fields = one_of (part-given src (is_set fields 4) (be16 s granted_place) (be16 s (granted_place + 2)))
@@ -134,16 +134,16 @@ readable_is s src e l a u =
 
 -- octets that are not in the form hold nothing
 pub nothing_length : (s : List ℕ) → (length s ≡ message_size → ⊥) → held_at s ≡ Nothing
-unfolding held_at if◌then◌else◌
+unfolding held_at when◌then◌else◌
 nothing_length s l = simp (ne_eqb _ _ l)
 
 pub nothing_ack : (s : List ℕ) → length s ≡ message_size → 1 < nth_octet s ack_place → held_at s ≡ Nothing
-unfolding held_at if◌then◌else◌
+unfolding held_at when◌then◌else◌
 nothing_ack s l a = simp (eq-eqb _ _ l, lt-ltb _ _ a)
 
 pub nothing_unlisted : (s : List ℕ) → length s ≡ message_size → nth_octet s ack_place ≤ 1 → unlisted_field (be16 s fields_place) ≡ true →
     held_at s ≡ Nothing
-unfolding held_at if◌then◌else◌
+unfolding held_at when◌then◌else◌
 nothing_unlisted s l a u = simp (eq-eqb _ _ l, le-ltb _ _ a, u)
 
 -- octets that a reader would accept hold the message of their type

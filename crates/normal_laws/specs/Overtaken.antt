@@ -1,7 +1,7 @@
 -- "A handset that asked at priority 1 overtook one that sent no Floor Priority field" (document 02, #101): the evening on which it did, and
 -- how it goes at a normal level of 100. By computing alone. Assumes nothing.
 use Rattle.std.specs.Prelude.{ℕ, ◌+◌, true, false, List, [], ◌∷◌, ◌≡◌, refl}
-use Rattle.words.specs.Choice.{if◌then◌else◌}
+use Rattle.words.specs.Choice.{when◌then◌else◌}
 use Rattle.line.specs.declared.Entry.{Entry}
 use Rattle.line.specs.Line.{waiting, line_of, before, ahead, entry_of, enter, without, priority_of}
 use Rattle.hall.specs.declared.Asked.{Asked}
@@ -37,7 +37,7 @@ line_at normal xs = waiting (after_all (after_all (made (settings_of 1 200 15 2 
 -- all that the desk's steps stand on, opened, so that an evening computes
 opens : Type 0
 unfolding
-    if◌then◌else◌ waiting line_of before ahead enter without empty_hall alone effective seat_of free_seat with_seat octets_of name_of no_names
+    when◌then◌else◌ waiting line_of before ahead enter without empty_hall alone effective seat_of free_seat with_seat octets_of name_of no_names
     with_name same seat_named length_allowed ssrc_taken seated join given given_at_once enters_idle waits priority_in priority_of full presses
     informed pressed rule6 asks_again placed request fresh starts caller_of step does
 opens = ℕ

@@ -8,7 +8,7 @@ use mathlib.Core.List.{List}
 use mathlib.Core.Path.{◌≡◌, refl, subst}
 use lib.ListN.{length}
 use borrow.Author.Tests.{le-leb, le-ltb}
-use Rattle.words.specs.Choice.{if◌then◌else◌}
+use Rattle.words.specs.Choice.{when◌then◌else◌}
 use Rattle.octets.specs.Octets.{be16, octets16, part}
 use Rattle.octets.proofs.Over.{length_part}
 use Rattle.message.specs.Table.{row_in, against, at_fault}
@@ -45,12 +45,12 @@ causing k ssrc why = carrying k ssrc Octet.Absent Word.Absent (Cause.Is why 0 0)
 
 caused : (ssrc why : ℕ) (identity : List ℕ) →
     (readable (causing type.Deny ssrc why) identity ≡ true) × (readable (causing type.Revoke ssrc why) identity ≡ true)
-unfolding readable lies all_fit complete said has has_all row_in against at_fault be16 octets16 part if◌then◌else◌
+unfolding readable lies all_fit complete said has has_all row_in against at_fault be16 octets16 part when◌then◌else◌
 caused ssrc why identity = (rw (le-leb 0 (length identity) zero-le), rw (le-leb 0 (length identity) zero-le))
 
 accepts : (s : Settings) (k : Kind) (identity : List ℕ) → 1 ≤ length identity → length identity ≤ 62 →
     Accepted identity (outgoing s k (length identity))
-unfolding outgoing readable lies all_fit complete said has has_all row_in against at_fault be16 octets16 if◌then◌else◌
+unfolding outgoing readable lies all_fit complete said has has_all row_in against at_fault be16 octets16 when◌then◌else◌
 accepts s say.Nothing identity h k = tt
 accepts s (say.Granted p) identity h k = refl
 accepts s (say.Taken seat n) identity h k =

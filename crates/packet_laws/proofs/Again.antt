@@ -7,7 +7,7 @@ use mathlib.Core.List.{List, []}
 use lib.Dec.{lit≤}
 use lib.ListN.{length}
 use Rattle.words.specs.Below.{and_left, and_right}
-use Rattle.words.specs.Choice.{if◌then◌else◌}
+use Rattle.words.specs.Choice.{when◌then◌else◌}
 use Rattle.octets.specs.Octets.{octets16, octets32}
 use Rattle.message.specs.Table.{row_in, at_fault}
 use Rattle.message.specs.Message.{said, fields_of, complete, lies}
@@ -40,8 +40,8 @@ record Accepted (s : List ℕ) (m : Message) : Type 0 where
   is : message_at kind s (start_of found) ≡ m
   full : complete (said m s) ≡ true
 
-chosen : (t : Bool) (a m : Message) → (if t then result a else refused 11) ≡ result m → (t ≡ true) × (a ≡ m)
-unfolding if◌then◌else◌
+chosen : (t : Bool) (a m : Message) → (when t then result a else refused 11) ≡ result m → (t ≡ true) × (a ≡ m)
+unfolding when◌then◌else◌
 chosen true a m e = (refl, cc)
 chosen false a m e = (cc, cc)
 
@@ -69,7 +69,7 @@ module _ (s : List ℕ) (k : MessageType) (found : List FieldFound) (w : AllJudg
   m = message_at k s (start_of found)
 
   kept : Kept (size_of found) (fields_of m s)
-  unfolding message_at row_in at_fault if◌then◌else◌
+  unfolding message_at row_in at_fault when◌then◌else◌
   kept =
       octet_kept s 0 _ _ (refl, refl) (λ n. refl) (w.each 0)
       also word_kept s 1 _ _ (refl, refl) (w.each 1)
@@ -86,7 +86,7 @@ module _ (s : List ℕ) (k : MessageType) (found : List FieldFound) (w : AllJudg
       also done
 
   it_lies : lies m s ≡ true
-  unfolding lies message_at row_in if◌then◌else◌
+  unfolding lies message_at row_in when◌then◌else◌
   it_lies = rw (part_lies_lem s 4 _ _ (w.each 4), part_lies_lem s 6 _ _ (w.each 6), phrase_lies_lem s 2 _ _ (lit≤ tt) (w.each 2))
 
   can_be_written : complete (said m s) ≡ true → readable m s ≡ true

@@ -9,7 +9,7 @@ use lib.Dec.{eqb}
 use lib.ListN.{length, length-append}
 use borrow.Author.Tests.{not-true}
 use Rattle.words.specs.Below.{and_left, and_right}
-use Rattle.words.specs.Choice.{if◌then◌else◌, if_yes}
+use Rattle.words.specs.Choice.{when◌then◌else◌, if_yes}
 use Rattle.octets.specs.Octets.{be16, be32, octets16, octets32}
 use Rattle.message.specs.Types.{type_number}
 use Rattle.message.specs.Table.{row_of, row_in, listed_in, length_of}
@@ -41,8 +41,8 @@ record FirstBack (octet : ℕ) (asks : Bool) (n : ℕ) : Type 0 where
   ack : eqb (octet / 16 % 2) 1 ≡ asks
   type : octet % 16 ≡ n
 
-first_back : (ack : Bool) (n : ℕ) → n < 16 → FirstBack (128 + (if ack then 16 else 0) + n) ack n
-unfolding if◌then◌else◌
+first_back : (ack : Bool) (n : ℕ) → n < 16 → FirstBack (128 + (when ack then 16 else 0) + n) ack n
+unfolding when◌then◌else◌
 first_back true n h =
     let a : (128 + 16 + n) / 16 % 2 ≡ 1 = omega arith in
     record { version = omega arith; pad = omega arith; ack = rw a; type = omega arith }
@@ -87,7 +87,7 @@ body-within (f ∷ fs) e =
 fields_back : (m : Message) (src s : List ℕ) (k : MessageType) (start : ℕ → ℕ) →
     ((i : ℕ) → Stands s i (first_of (fields_of m src) i) (start i))
     → fields_of (message_at k s start) s ≡ fields_of m src
-unfolding message_at first_of if◌then◌else◌ row_in
+unfolding message_at first_of when◌then◌else◌ row_in
 fields_back m src s k start h =
     λ j.
     field 0 (octet_back s 0 (start 0) m.priority (h 0) j)
@@ -124,7 +124,7 @@ module _ (m : Message) (src : List ℕ) (e : readable m src ≡ true) where
   unfolding readable
   whole_message = and_right (lies m src && all_fit (said m src).fields) (complete (said m src)) e
 
-  first : FirstBack (128 + (if m.ack then 16 else 0) + type_number m.kind) m.ack (type_number m.kind)
+  first : FirstBack (128 + (when m.ack then 16 else 0) + type_number m.kind) m.ack (type_number m.kind)
   first = first_back m.ack (type_number m.kind) (omega (arith, type_small m.kind))
 
   words_told : be16 s length_place ≡ (header_size + length (body (fields_of m src))) / 4 - 1
@@ -136,7 +136,7 @@ module _ (m : Message) (src : List ℕ) (e : readable m src ≡ true) where
   ssrc_told = be32_first s _ 4 refl ∙ be32_back m.ssrc _
 
   its_head : Opened s m.kind
-  unfolding wire header headed first_octet said octets16 octets32 ends most row_in if◌then◌else◌
+  unfolding wire header headed first_octet said octets16 octets32 ends most row_in when◌then◌else◌
   its_head =
       let b : length (body (fields_of m src)) ≤ 461 = body-within (fields_of m src) fit in
       let w : length (body (fields_of m src)) % 4 ≡ 0 = body_words (fields_of m src) in
@@ -152,7 +152,7 @@ module _ (m : Message) (src : List ℕ) (e : readable m src ≡ true) where
       }
 
   walked : Walked s (fields_of m src) (fields_in s)
-  unfolding fields_in among wire header headed first_octet said octets16 octets32 all_listed listed_in if◌then◌else◌ ascends
+  unfolding fields_in among wire header headed first_octet said octets16 octets32 all_listed listed_in when◌then◌else◌ ascends
   walked = walk s (fields_of m src) [] 0 (length s) header_size refl refl fit (λ i h. refl) refl (omega arith)
 
   same_told : (start : ℕ → ℕ) → ((i : ℕ) → Stands s i (first_of (fields_of m src) i) (start i))

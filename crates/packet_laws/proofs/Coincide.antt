@@ -4,7 +4,7 @@ use mathlib.Core.List.{List}
 use Prim.Native.Nat.{ℕ}
 use lib.Dec.{eqb}
 use lib.Seq.{ext_get_or}
-use Rattle.words.specs.Choice.{if◌then◌else◌}
+use Rattle.words.specs.Choice.{when◌then◌else◌}
 use Rattle.message.specs.declared.Message.{Message}
 use Rattle.header.specs.declared.Opening.{Opening}
 use Rattle.header.specs.declared.Opening.TheVariants.{Of}
@@ -65,10 +65,10 @@ openings_coincide s r r' p p' = opening-one r r' (p ∙ sym p')
 
 -- the end of a walk is known by its number
 end_of : ℕ → Walk
-end_of n = if eqb n 9 then PastTheEnd else if eqb n 10 then AgainstTheTable else if eqb n 14 then Repeated else Whole
+end_of n = when eqb n 9 then PastTheEnd else when eqb n 10 then AgainstTheTable else when eqb n 14 then Repeated else Whole
 
 end_named : (w : Walk) → end_of (fault_number w) ≡ w
-unfolding end_of if◌then◌else◌
+unfolding end_of when◌then◌else◌
 end_named Whole = refl
 end_named PastTheEnd = refl
 end_named AgainstTheTable = refl

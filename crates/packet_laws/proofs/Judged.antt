@@ -8,7 +8,7 @@ use mathlib.Core.List.{List, [], ◌∷◌}
 use lib.Dec.{eqb}
 use lib.ListN.{length, get_or}
 use borrow.Author.Tests.{eqb-true}
-use Rattle.words.specs.Choice.{if◌then◌else◌, by_test}
+use Rattle.words.specs.Choice.{when◌then◌else◌, by_test}
 use Rattle.octets.specs.Octets.{be16}
 use Rattle.message.specs.Table.{padded}
 use Rattle.field.specs.declared.FieldFound.{FieldFound}
@@ -23,7 +23,7 @@ use Rattle.packet_laws.proofs.Fits.{Agrees, agrees}
 -- how many octets the field with this ID takes, and all fields together
 unfoldable pub size_of : List FieldFound → ℕ → ℕ
 size_of [] i = 0
-size_of (f ∷ fs) i = if eqb i f.id then padded f.len else size_of fs i
+size_of (f ∷ fs) i = when eqb i f.id then padded f.len else size_of fs i
 
 unfoldable pub total : List FieldFound → ℕ
 total [] = 0
@@ -56,7 +56,7 @@ good s p f h =
     }
 
 front : (s : List ℕ) (p : ℕ) (f : FieldFound) (fs : List FieldFound) → Sound s p f → AllJudged s f.next fs → AllJudged s p (f ∷ fs)
-unfolding start_of size_of total if◌then◌else◌
+unfolding start_of size_of total when◌then◌else◌
 front s p f fs h w =
     let n : f.next ≡ p + padded (length_at s p) = next_there s p f h.lies in
     rw h.lies.is

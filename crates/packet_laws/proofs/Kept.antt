@@ -10,7 +10,7 @@ use mathlib.Core.List.{List, [], ◌∷◌, ◌++◌}
 use mathlib.Core.Option.{Option, none, some}
 use lib.ListN.{length, get_or, length-append}
 use borrow.Author.Tests.{le-leb}
-use Rattle.words.specs.Choice.{if◌then◌else◌}
+use Rattle.words.specs.Choice.{when◌then◌else◌}
 use Rattle.octets.specs.Octets.{be16, be32, octets16, octets32, part}
 use Rattle.octets.proofs.Over.{length_part}
 use Rattle.message.specs.Table.{row_of, at_fault, length_of}
@@ -60,14 +60,14 @@ fixed : (s : List ℕ) (i at size n : ℕ) → Fixed i n → Good s i at size �
 fixed s i at size n f g = omega (arith, f.0, f.1, g.fit.least, g.fit.greatest)
 
 pub octet_kept : (s : List ℕ) (i at size : ℕ) → Fixed i 1 → Sound i → Judged s i at size → Keeps i size (of_octet (octet_at s at))
-unfolding octet_at if◌then◌else◌
+unfolding octet_at when◌then◌else◌
 octet_kept s i at size f sound (inl z) = rw z (nothing i size)
 octet_kept s i at size f sound (inr g) =
     rw (given at Octet.Absent (Octet.Is (get_or s at 0)) g.starts)
     (content s i at size (get_or s at 0 ∷ []) g (fixed s i at size 1 f g) (sound (be16 (get_or s at 0 ∷ []) 0)))
 
 pub word_kept : (s : List ℕ) (i at size : ℕ) → Fixed i 2 → Judged s i at size → Keeps i size (of_word (word_at s at))
-unfolding word_at if◌then◌else◌
+unfolding word_at when◌then◌else◌
 word_kept s i at size f (inl z) = rw z (nothing i size)
 word_kept s i at size f (inr g) =
     rw (given at Word.Absent (Word.Is (be16 s at)) g.starts)
@@ -75,14 +75,14 @@ word_kept s i at size f (inr g) =
     (rw (be16_of (be16 s at)) g.fit.content))
 
 pub number_kept : (s : List ℕ) (i at size : ℕ) → Fixed i 4 → Sound i → Judged s i at size → Keeps i size (of_number (number_at s at))
-unfolding number_at if◌then◌else◌
+unfolding number_at when◌then◌else◌
 number_kept s i at size f sound (inl z) = rw z (nothing i size)
 number_kept s i at size f sound (inr g) =
     rw (given at Number.Absent (Number.Is (be32 s at)) g.starts)
     (content s i at size (octets32 (be32 s at)) g (rw length32 (fixed s i at size 4 f g)) (sound (be16 (octets32 (be32 s at)) 0)))
 
 pub queue_kept : (s : List ℕ) (i at size : ℕ) → Fixed i 2 → Sound i → Judged s i at size → Keeps i size (of_queue (queue_at s at))
-unfolding queue_at if◌then◌else◌
+unfolding queue_at when◌then◌else◌
 queue_kept s i at size f sound (inl z) = rw z (nothing i size)
 queue_kept s i at size f sound (inr g) =
     let c : List ℕ = get_or s at 0 ∷ get_or s (at + 1) 0 ∷ [] in
@@ -90,7 +90,7 @@ queue_kept s i at size f sound (inr g) =
     (content s i at size c g (fixed s i at size 2 f g) (sound (be16 c 0)))
 
 pub part_kept : (s : List ℕ) (i at size : ℕ) → (row_of i).spare ≡ 0 → Sound i → Judged s i at size → Keeps i size (of_part s (part_at s at))
-unfolding part_at if◌then◌else◌
+unfolding part_at when◌then◌else◌
 part_kept s i at size f sound (inl z) = rw z (nothing i size)
 part_kept s i at size f sound (inr g) =
     let c : List ℕ = part s at (get_or s (at - 1) 0) in
@@ -98,7 +98,7 @@ part_kept s i at size f sound (inr g) =
     (content s i at size c g (rw (length_part s at (get_or s (at - 1) 0) g.inside, f) (add-zero (get_or s (at - 1) 0))) (sound (be16 c 0)))
 
 pub part_lies_lem : (s : List ℕ) (i at size : ℕ) → Judged s i at size → part_lies s (part_at s at) ≡ true
-unfolding part_at if◌then◌else◌
+unfolding part_at when◌then◌else◌
 part_lies_lem s i at size (inl z) = rw z
 part_lies_lem s i at size (inr g) =
     rw (given at Part.Absent (Part.At at (get_or s (at - 1) 0)) g.starts) (le-leb (at + get_or s (at - 1) 0) (length s) g.inside)
@@ -109,7 +109,7 @@ phrase_inside s i at size t g = omega (arith, g.fit.least, g.inside)
 
 pub cause_kept : (s : List ℕ) (i at size : ℕ) → (row_of i).spare ≡ 0 → 2 ≤ (row_of i).least → Sound i → Judged s i at size
     → Keeps i size (of_cause s (cause_at s at))
-unfolding cause_at if◌then◌else◌
+unfolding cause_at when◌then◌else◌
 cause_kept s i at size f t sound (inl z) = rw z (nothing i size)
 cause_kept s i at size f t sound (inr g) =
     let l : ℕ = get_or s (at - 1) 0 in
@@ -120,7 +120,7 @@ cause_kept s i at size f t sound (inr g) =
     (sound (be16 c 0)))
 
 pub phrase_lies_lem : (s : List ℕ) (i at size : ℕ) → 2 ≤ (row_of i).least → Judged s i at size → phrase_lies s (cause_at s at) ≡ true
-unfolding cause_at if◌then◌else◌
+unfolding cause_at when◌then◌else◌
 phrase_lies_lem s i at size t (inl z) = rw z
 phrase_lies_lem s i at size t (inr g) =
     let l : ℕ = get_or s (at - 1) 0 in

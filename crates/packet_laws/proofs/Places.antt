@@ -10,7 +10,7 @@ use lib.Dec.{eqb}
 use lib.ListN.{length, get_or, drop}
 use lib.Seq.{take-append_seam}
 use borrow.Author.Tests.{ne_eqb}
-use Rattle.words.specs.Choice.{if◌then◌else◌, if_no}
+use Rattle.words.specs.Choice.{when◌then◌else◌, if_no}
 use Rattle.octets.specs.Octets.{be16, be32, octets16, part}
 use Rattle.message.specs.Table.{row_of, length_of}
 use Rattle.message.specs.Message.{of_octet, of_word, of_number, of_queue, of_part, of_cause}
@@ -40,29 +40,29 @@ abbrev pub or_else : Option (List ℕ) → Option (List ℕ) → Option (List �
 or_else none o = o
 or_else (some c) o = some c
 
-pub given : {A : Type 0} (at : ℕ) (a b : A) → 0 < at → (if eqb at 0 then a else b) ≡ b
+pub given : {A : Type 0} (at : ℕ) (a b : A) → 0 < at → (when eqb at 0 then a else b) ≡ b
 given at a b h = if_no (eqb at 0) a b (ne_eqb at 0 (λ q. omega arith))
 
 pub octet_back : (s : List ℕ) (i at : ℕ) (o : Octet) → Stands s i (or_else (of_octet o) none) at → of_octet (octet_at s at) ≡ of_octet o
-unfolding octet_at if◌then◌else◌
+unfolding octet_at when◌then◌else◌
 octet_back s i at Octet.Absent h = rw h
 octet_back s i at (Octet.Is n) h =
     rw (given at Octet.Absent (Octet.Is (get_or s at 0)) h.starts, first_seen s _ at h.octets)
 
 pub word_back : (s : List ℕ) (i at : ℕ) (o : Word) → Stands s i (or_else (of_word o) none) at → of_word (word_at s at) ≡ of_word o
-unfolding word_at if◌then◌else◌
+unfolding word_at when◌then◌else◌
 word_back s i at Word.Absent h = rw h
 word_back s i at (Word.Is n) h =
     rw (given at Word.Absent (Word.Is (be16 s at)) h.starts, be16_first s _ at h.octets, be16_back n h.behind)
 
 pub number_back : (s : List ℕ) (i at : ℕ) (o : Number) → Stands s i (or_else (of_number o) none) at → of_number (number_at s at) ≡ of_number o
-unfolding number_at if◌then◌else◌
+unfolding number_at when◌then◌else◌
 number_back s i at Number.Absent h = rw h
 number_back s i at (Number.Is n) h =
     rw (given at Number.Absent (Number.Is (be32 s at)) h.starts, be32_first s _ at h.octets, be32_back n h.behind)
 
 pub queue_back : (s : List ℕ) (i at : ℕ) (o : Queue) → Stands s i (or_else (of_queue o) none) at → of_queue (queue_at s at) ≡ of_queue o
-unfolding queue_at if◌then◌else◌
+unfolding queue_at when◌then◌else◌
 queue_back s i at Queue.Absent h = rw h
 queue_back s i at (Queue.Is position priority) h =
     rw (
@@ -74,7 +74,7 @@ queue_back s i at (Queue.Is position priority) h =
 -- of a field with no spare octets, L is all that its content has
 pub part_back : (s src : List ℕ) (i at : ℕ) (o : Part) → (row_of i).spare ≡ 0 → Stands s i (or_else (of_part src o) none) at
     → of_part s (part_at s at) ≡ of_part src o
-unfolding part_at if◌then◌else◌ part
+unfolding part_at when◌then◌else◌ part
 part_back s src i at Part.Absent e h = rw h
 part_back s src i at (Part.At from count) e h =
     rw (given at Part.Absent (Part.At at (get_or s (at - 1) 0)) h.starts, h.before, e, add-zero, h.octets)
@@ -90,7 +90,7 @@ length_cause n c = omega arith
 
 pub cause_back : (s src : List ℕ) (i at : ℕ) (o : Cause) → (row_of i).spare ≡ 0 → Stands s i (or_else (of_cause src o) none) at
     → of_cause s (cause_at s at) ≡ of_cause src o
-unfolding cause_at if◌then◌else◌
+unfolding cause_at when◌then◌else◌
 cause_back s src i at Cause.Absent e h = rw h
 cause_back s src i at (Cause.Is cause from count) e h =
     let c : List ℕ = part src from count in

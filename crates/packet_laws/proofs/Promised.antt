@@ -9,7 +9,7 @@ use lib.Dec.{ltb}
 use lib.ListN.{length, take, drop}
 use lib.Seq.{take-append_seam, drop-append_seam}
 use borrow.Author.Tests.{le-ltb, not-false}
-use Rattle.words.specs.Choice.{if◌then◌else◌}
+use Rattle.words.specs.Choice.{when◌then◌else◌}
 use Rattle.octets.specs.Octets.{over}
 use Rattle.message.specs.Answers.{refused, result, refusal_number}
 use Rattle.message.specs.Message.{Said, said}
@@ -75,7 +75,7 @@ rest_untouched m src room room' r n p e =
 -- a writer of a readable message that has room for it
 writes : (m : Message) (src : List ℕ) (room : ℕ) → readable m src ≡ true → length (wire (said m src)) ≤ room
     → writing m src room ≡ result (length (wire (said m src)))
-unfolding writing if◌then◌else◌
+unfolding writing when◌then◌else◌
 writes m src room e h = rw (e, le-ltb room (length (wire (said m src))) h)
 
 pub read_then_write : ReadThenWrite

@@ -8,7 +8,7 @@ use mathlib.Core.Path.{◌≡◌, refl, sym, ap, ◌∙◌}
 use lib.Dec.{eqb}
 use lib.ListN.{length}
 use borrow.Author.Tests.{eqb-true}
-use Rattle.words.specs.Choice.{if◌then◌else◌, by_test, if_yes, if_no}
+use Rattle.words.specs.Choice.{when◌then◌else◌, by_test, if_yes, if_no}
 use Rattle.words.proofs.Tests.{clash, or_right}
 use Rattle.message.specs.declared.MessageType.{MessageType}
 use Rattle.message.specs.Answers.{Answer, refused, result}
@@ -27,23 +27,23 @@ use Rattle.packet_laws.proofs.Judged.{rest_of}
 
 -- a field in front of either
 infront_either : (t : Bool) (f : FieldFound) (n : ℕ) (rest : Fields)
-    → infront f (if t then fault n else rest) ≡ (if t then fault n else infront f rest)
-unfolding if◌then◌else◌
+    → infront f (when t then fault n else rest) ≡ (when t then fault n else infront f rest)
+unfolding when◌then◌else◌
 infront_either true f n rest = refl
 infront_either false f n rest = refl
 
 -- 14 where an ID of the table is met twice, and else what document 01's walk finds
 by_walk : (s : List ℕ) (steps : ℕ) (before : List ℕ) (at : ℕ)
-    → fields_from steps before s at ≡ (if twice_behind before (met_from steps s at) then fault 14 else fields_from01 steps s at)
-unfolding fields_from fields_from01 met_from twice_behind among if◌then◌else◌
+    → fields_from steps before s at ≡ (when twice_behind before (met_from steps s at) then fault 14 else fields_from01 steps s at)
+unfolding fields_from fields_from01 met_from twice_behind among when◌then◌else◌
 by_walk s zero before at = refl
 by_walk s (suc steps) before at = go (step_at s at) (λ past next. by_walk s steps past next)
   where
     go : (t : FieldStep)
         → ((past : List ℕ) (next : ℕ) → fields_from steps past s next
-        ≡ (if twice_behind past (met_from steps s next) then fault 14 else fields_from01 steps s next))
+        ≡ (when twice_behind past (met_from steps s next) then fault 14 else fields_from01 steps s next))
         → step_then before t (λ past next. fields_from steps past s next)
-        ≡ (if twice_behind before (met_then t (λ next. met_from steps s next)) then fault 14
+        ≡ (when twice_behind before (met_then t (λ next. met_from steps s next)) then fault 14
         else step_then [] t (λ past next. fields_from01 steps s next))
     go End more = refl
     go PastTheEnd more = refl
@@ -54,7 +54,7 @@ by_walk s (suc steps) before at = go (step_at s at) (λ past next. by_walk s ste
         (λ e. rw (e, more (f.id ∷ before) f.next)
         (infront_either (twice_behind (f.id ∷ before) (met_from steps s f.next)) f 14 (fields_from01 steps s f.next)))
 
-by_repeats : (s : List ℕ) → fields_in s ≡ (if repeats s then fault 14 else fields_in01 s)
+by_repeats : (s : List ℕ) → fields_in s ≡ (when repeats s then fault 14 else fields_in01 s)
 unfolding fields_in fields_in01 repeats
 by_repeats s = by_walk s (length s) [] header_size
 

@@ -7,7 +7,7 @@ use mathlib.Core.List.{List, [], ◌∷◌}
 use lib.Dec.{eqb, leb}
 use borrow.Author.Tests.{leb-true, eqb-true, ne_eqb}
 use Rattle.words.specs.Below.{and_left, and_right}
-use Rattle.words.specs.Choice.{if◌then◌else◌, if_no, by_test}
+use Rattle.words.specs.Choice.{when◌then◌else◌, if_no, by_test}
 use Rattle.message.specs.Message.{Field}
 use Rattle.message.specs.Table.{padded}
 use Rattle.field.specs.declared.FieldFound.{FieldFound}
@@ -17,7 +17,7 @@ use Rattle.packet_laws.proofs.Kept.{sum}
 
 -- one ID's size is another now
 abbrev but : ℕ → ℕ → (ℕ → ℕ) → ℕ → ℕ
-but j n size i = if eqb i j then n else size i
+but j n size i = when eqb i j then n else size i
 
 -- for IDs above it the sum stays; for any it grows by that size at most
 sum-above : (j n : ℕ) (size : ℕ → ℕ) (least : ℕ) (fs : List Field) → ascends least fs ≡ true → j < least
@@ -31,7 +31,7 @@ sum-above j n size least (f ∷ fs) a l =
     rw (if_no (eqb f.id j) n (size f.id) (ne_eqb f.id j (λ q. omega arith)), r)
 
 sum_once : (j n : ℕ) (size : ℕ → ℕ) (least : ℕ) (fs : List Field) → ascends least fs ≡ true → sum (but j n size) fs ≤ n + sum size fs
-unfolding ascends sum if◌then◌else◌
+unfolding ascends sum when◌then◌else◌
 sum_once j n size least [] a = omega arith
 sum_once j n size least (f ∷ fs) a =
     let up : ascends (suc f.id) fs ≡ true = and_right (leb least f.id) _ a in

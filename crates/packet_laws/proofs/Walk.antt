@@ -13,7 +13,7 @@ use lib.ListN.{length, get_or, drop, replicate, length-append, length-drop, leng
 use lib.Seq.{drop_at}
 use borrow.Author.Tests.{eqb-true, ne_eqb, leb-true, not-true}
 use Rattle.words.specs.Below.{and_left, and_right}
-use Rattle.words.specs.Choice.{if◌then◌else◌, by_test}
+use Rattle.words.specs.Choice.{when◌then◌else◌, by_test}
 use Rattle.octets.specs.Octets.{be16}
 use Rattle.words.proofs.Tests.{neither}
 use Rattle.message.specs.Table.{row_of, listed, padded, padding, length_of}
@@ -47,7 +47,7 @@ below_next before least i b h j l = neither (eqb j i) (among before j) (ne_eqb j
 -- what a message has at an ID: the first content there is
 unfoldable pub first_of : List Field → ℕ → Option (List ℕ)
 first_of [] i = none
-first_of (f ∷ fs) i = if eqb i f.id then or_else f.content (first_of fs i) else first_of fs i
+first_of (f ∷ fs) i = when eqb i f.id then or_else f.content (first_of fs i) else first_of fs i
 
 -- the walk's answer, for fields that stand in s: it is whole, and each first field starts where it stands
 pub record Walked (s : List ℕ) (fs : List Field) (answer : Fields) : Type 0 where
@@ -67,7 +67,7 @@ length_laid i c = simp (length-append, length-replicate) (omega arith)
 
 -- a field that is not there changes nothing
 skip : (s : List ℕ) (i : ℕ) (fs : List Field) (answer : Fields) → Walked s fs answer → Walked s (field i none ∷ fs) answer
-unfolding first_of if◌then◌else◌
+unfolding first_of when◌then◌else◌
 skip s i fs answer w =
     record {
       found = w.found;
@@ -122,7 +122,7 @@ module _ (s : List ℕ) (i : ℕ) (c rest : List ℕ) (p : ℕ)
   next : (fs : List Field) (before : List ℕ) (steps : ℕ) → among before i ≡ false
       → Walked s fs (fields_from steps (i ∷ before) s (p + padded (length_of i c)))
       → Walked s (field i (some c) ∷ fs) (fields_from (suc steps) before s p)
-  unfolding fields_from first_of start_of if◌then◌else◌
+  unfolding fields_from first_of start_of when◌then◌else◌
   next fs before steps new w =
       record {
         found = field_at s p ∷ w.found;

@@ -3,7 +3,7 @@
 -- nothing.
 use Rattle.std.specs.Prelude.{ℕ, ◌≡◌, refl, Bool, true, false, List, [], ◌∷◌, eqb}
 use Rattle.std.proofs.Math.Option.{none, some}
-use Rattle.words.specs.Choice.{if◌then◌else◌}
+use Rattle.words.specs.Choice.{when◌then◌else◌}
 use Rattle.octets.specs.Octets.{be16, be32, octets16, octets32, part}
 use Rattle.message.specs.declared.MessageType.{MessageType}
 use Rattle.message.specs.declared.MessageType.TheVariants.{Request, Granted, Taken, Deny, Idle, Ack}
@@ -23,7 +23,7 @@ use Rattle.packet_laws.specs.Again.{ReadsAs}
 -- a message with these fields and no others: type, Ack bit, SSRC, and the content of each field that it has
 abbrev at : List Field → ℕ → Field
 at [] i = field i none
-at (f ∷ fs) i = if eqb i f.id then f else at fs i
+at (f ∷ fs) i = when eqb i f.id then f else at fs i
 
 abbrev with : MessageType → Bool → ℕ → List Field → Said
 with k asks_ack ssrc fs =
@@ -41,7 +41,7 @@ opened : Type 0
 unfolding
     reading opening ends message_at octet_at word_at number_at queue_at part_at cause_at fields_in fields_from step_at among listed_in start_of
     wire header headed first_octet body optional field_octets said complete has_all has against at_fault row_in padded padding
-    be16 be32 octets16 octets32 part if◌then◌else◌
+    be16 be32 octets16 octets32 part when◌then◌else◌
 opened = ℕ
 
 -- "Deny #7 from desk SSRC 1": cause 7, no phrase, nothing else

@@ -8,7 +8,7 @@ use lib.Dec.{eqb, leb}
 use lib.ListN.{length, get_or, set, length-set}
 use lib.Seq.{get_or-set_same, get_or-set_other}
 use borrow.Author.Tests.{eqb-true, eqb-false, leb-true}
-use Rattle.words.specs.Choice.{if◌then◌else◌, by_test}
+use Rattle.words.specs.Choice.{when◌then◌else◌, by_test}
 use Rattle.words.proofs.Tests.{and_five}
 use Rattle.hall.specs.declared.Hall.{Hall}
 use Rattle.hall.specs.declared.Settings.{Settings}
@@ -20,8 +20,8 @@ use Rattle.identities.specs.Identity.{octets_of, name_of, no_name, name_at, with
 use Rattle.reach.specs.Sound.{HallOk, SeatsOk}
 
 -- a seat's value in a column, after a store
-pub stored {ℓ} : {A : Type ℓ} (l : List A) (t s : ℕ) (a d : A) → t < length l → get_or (set l t a) s d ≡ (if eqb t s then a else get_or l s d)
-unfolding if◌then◌else◌
+pub stored {ℓ} : {A : Type ℓ} (l : List A) (t s : ℕ) (a d : A) → t < length l → get_or (set l t a) s d ≡ (when eqb t s then a else get_or l s d)
+unfolding when◌then◌else◌
 stored l t s a d h =
     by_test (eqb t s)
     (λ q. rw q (ap (λ (n : ℕ). get_or (set l t a) n d) (sym (eqb-true t s q)) ∙ get_or-set_same l t a d h))

@@ -11,7 +11,7 @@ use mathlib.Core.Option.{some}
 use mathlib.Core.Path.{◌≡◌, refl, ◌∙◌}
 use lib.Dec.{ltb, leb}
 use borrow.Author.Tests.{ltb-true, ltb-false, leb-true, leb-false, lt-leb, le-leb}
-use Rattle.words.specs.Choice.{if◌then◌else◌, by_test}
+use Rattle.words.specs.Choice.{when◌then◌else◌, by_test}
 use Rattle.words.specs.Below.{and_left, and_right}
 use Rattle.octets.specs.Octets.{be16, octets16, octets32, part}
 use Rattle.octets.proofs.Over.{length_part}
@@ -41,12 +41,12 @@ word_free i s f Word.Absent = refl
 word_free i s f (Word.Is n) = rw (s, f (be16 (octets16 n) 0))
 
 queue_free : (q : Queue) → fits 3 (of_queue q) ≡ true
-unfolding against at_fault row_in if◌then◌else◌
+unfolding against at_fault row_in when◌then◌else◌
 queue_free Queue.Absent = refl
 queue_free (Queue.Is position priority) = refl
 
 number_free : (x : Number) → fits 14 (of_number x) ≡ true
-unfolding against at_fault row_in if◌then◌else◌ octets16 octets32
+unfolding against at_fault row_in when◌then◌else◌ octets16 octets32
 number_free Number.Absent = refl
 number_free (Number.Is n) = refl
 
@@ -74,7 +74,7 @@ fits_by : (i l : ℕ) (content : List ℕ) → length_of i content ≡ l → fit
 fits_by i l content e = rw e
 
 phrase_limited : (src : List ℕ) (x : Cause) → phrase_lies src x ≡ true → fits 2 (of_cause src x) ≡ phrase_fits x
-unfolding against at_fault row_in if◌then◌else◌ octets16
+unfolding against at_fault row_in when◌then◌else◌ octets16
 phrase_limited src Cause.Absent h = refl
 phrase_limited src (Cause.Is n from count) h =
     let e = length_part src from count (phrase_lies_lem src {n = n} refl h) in
@@ -105,7 +105,7 @@ lying m src h =
     record { granted = and_left g u (and_left (g && u) p h); user = and_right g u (and_left (g && u) p h); phrase = and_right (g && u) p h }
 
 pub all_fitting : (m : Message) (src : List ℕ) → lies m src ≡ true → all_fit (fields_of m src) ≡ fitting m
-unfolding all_fit fitting against at_fault row_in if◌then◌else◌
+unfolding all_fit fitting against at_fault row_in when◌then◌else◌
 all_fitting m src h =
     let l = lying m src h in
     twelve

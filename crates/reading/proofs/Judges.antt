@@ -6,7 +6,7 @@ use mathlib.Core.List.{List}
 use mathlib.Core.Path.{◌≡◌, refl, sym, ap, ◌∙◌}
 use lib.Dec.{eqb, lit<}
 use lib.ListN.{get_or}
-use Rattle.words.specs.Choice.{if◌then◌else◌, by_test, if_yes, if_no}
+use Rattle.words.specs.Choice.{when◌then◌else◌, by_test, if_yes, if_no}
 use Rattle.message.specs.Answers.{Answer, refused, result, refusal_number}
 use Rattle.message.specs.Message.{said, complete}
 use Rattle.message.specs.declared.Message.{Message}
@@ -82,7 +82,7 @@ module _ (k : MessageType) (s starts : List ℕ) (w : Walk) where
       by_fields (fault n) q v = absurd (v.1 e)
 
   pub judged_whole : (m : Message) → m ≡ message_at k s (λ i. get_or starts i 0) → w ≡ Whole → Walked (fields_in s) w starts
-      → judged k s (fields_in s) ≡ (if complete (said m s) then result m else refused 11)
+      → judged k s (fields_in s) ≡ (when complete (said m s) then result m else refused 11)
   judged_whole m e q walked =
       let f = found_all q walked in
       rw (f.is, e, message_notes starts f.fs f.notes k s)
@@ -99,7 +99,7 @@ module _ (k : MessageType) (s starts : List ℕ) (w : Walk) where
 
     module _ (e : w ≡ Whole) where
       by_completeness : reading s
-          ≡ (if complete (said (message_at k s (λ i. get_or starts i 0)) s) then result (message_at k s (λ i. get_or starts i 0)) else refused 11)
+          ≡ (when complete (said (message_at k s (λ i. get_or starts i 0)) s) then result (message_at k s (λ i. get_or starts i 0)) else refused 11)
       by_completeness = by_fields ∙ judged_whole (message_at k s (λ i. get_or starts i 0)) refl e walked
 
       pub judges_missing : complete (said (message_at k s (λ i. get_or starts i 0)) s) ≡ false → reading s ≡ refused 11
@@ -115,6 +115,6 @@ module _ (k : MessageType) (s starts : List ℕ) (w : Walk) where
 
 -- a field is given where its start is not 0
 pub given-at : {A : Type 0} (given : A → Bool) (lacks has : A) (at : ℕ) → given lacks ≡ false → given has ≡ true
-    → not (eqb at 0) ≡ given (if eqb at 0 then lacks else has)
-unfolding if◌then◌else◌
+    → not (eqb at 0) ≡ given (when eqb at 0 then lacks else has)
+unfolding when◌then◌else◌
 given-at given lacks has at n s = by_test (eqb at 0) (λ e. rw (e, n)) (λ e. rw (e, s))

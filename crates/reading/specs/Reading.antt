@@ -1,7 +1,7 @@
 -- What the reader answers (document 01, "What is answered to packets", 1 to 11, in that order, with 14 of document 02, #107, among the
 -- checks of a field), and the message that a packet is (document 01, "The packet"). Assumes nothing.
 use Rattle.std.specs.Prelude.{ℕ, ◌+◌, ◌-◌, List, ◌≡◌, eqb, get_or}
-use Rattle.words.specs.Choice.{if◌then◌else◌}
+use Rattle.words.specs.Choice.{when◌then◌else◌}
 use Rattle.octets.specs.Octets.{be16, be32}
 use Rattle.message.specs.Message.{said, complete}
 use Rattle.message.specs.Answers.{Answer, refused, result, refusal_number}
@@ -22,22 +22,22 @@ use Rattle.reading.specs.declared.Reading.TheVariants.{Read, Refused}
 
 -- what a message has of a field whose content starts at a place; nothing where that is 0. L stands before the content.
 unfoldable pub octet_at : List ℕ → ℕ → Octet
-octet_at s at = if eqb at 0 then Octet.Absent else Octet.Is (get_or s at 0)
+octet_at s at = when eqb at 0 then Octet.Absent else Octet.Is (get_or s at 0)
 
 unfoldable pub word_at : List ℕ → ℕ → Word
-word_at s at = if eqb at 0 then Word.Absent else Word.Is (be16 s at)
+word_at s at = when eqb at 0 then Word.Absent else Word.Is (be16 s at)
 
 unfoldable pub number_at : List ℕ → ℕ → Number
-number_at s at = if eqb at 0 then Number.Absent else Number.Is (be32 s at)
+number_at s at = when eqb at 0 then Number.Absent else Number.Is (be32 s at)
 
 unfoldable pub queue_at : List ℕ → ℕ → Queue
-queue_at s at = if eqb at 0 then Queue.Absent else Queue.Is (get_or s at 0) (get_or s (at + 1) 0)
+queue_at s at = when eqb at 0 then Queue.Absent else Queue.Is (get_or s at 0) (get_or s (at + 1) 0)
 
 unfoldable pub part_at : List ℕ → ℕ → Part
-part_at s at = if eqb at 0 then Part.Absent else Part.At at (get_or s (at - 1) 0)
+part_at s at = when eqb at 0 then Part.Absent else Part.At at (get_or s (at - 1) 0)
 
 unfoldable pub cause_at : List ℕ → ℕ → Cause
-cause_at s at = if eqb at 0 then Cause.Absent else Cause.Is (be16 s at) (at + 2) (get_or s (at - 1) 0 - 2)
+cause_at s at = when eqb at 0 then Cause.Absent else Cause.Is (be16 s at) (at + 2) (get_or s (at - 1) 0 - 2)
 
 -- the message of a packet of this type, by the starts of its fields' contents
 unfoldable pub message_at : MessageType → List ℕ → (ℕ → ℕ) → Message
@@ -64,7 +64,7 @@ message_at k s start =
 abbrev pub judged : MessageType → List ℕ → Fields → Answer Message
 judged k s (fault n) = refused n
 judged k s (whole fs) =
-    if complete (said (message_at k s (start_of fs)) s) then result (message_at k s (start_of fs)) else refused 11
+    when complete (said (message_at k s (start_of fs)) s) then result (message_at k s (start_of fs)) else refused 11
 
 -- 1 to 8 by the first twelve octets, then the fields
 abbrev pub opened : Answer MessageType → List ℕ → Answer Message

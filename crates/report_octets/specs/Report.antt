@@ -2,7 +2,7 @@
 -- to, and four marks"), and the messages that the code reads out of them. What the octets say as a whole: crate report_octets_laws. Assumes
 -- nothing.
 use Rattle.std.specs.Prelude.{ℕ, ◌+◌, ◌*◌, ◌%◌, Bool, not, ◌&&◌, List, [], ◌∷◌, ◌++◌, eqb, length, get_or}
-use Rattle.words.specs.Choice.{if◌then◌else◌, one}
+use Rattle.words.specs.Choice.{when◌then◌else◌, one}
 use Rattle.octets.specs.Octets.{be16, octets16}
 use Rattle.steps.specs.declared.Kind.{Kind}
 use Rattle.steps.specs.declared.Kind.TheVariants as say
@@ -72,9 +72,9 @@ particulars_at r at = with (get_or r at 0) (get_or r (at + seat_within) 0) (be16
 -- the message that has these particulars, if one has
 unfoldable pub kind_of : Particulars → Kind
 kind_of q =
-    if eqb q.kind 1 then say.Granted q.priority else if eqb q.kind 2 then say.Taken q.seat q.number
-    else if eqb q.kind 3 then say.Deny q.number else if eqb q.kind 5 then say.Idle q.number
-    else if eqb q.kind 6 then say.Revoke q.number else if eqb q.kind 9 then say.Info (q.number % 256) q.priority
+    when eqb q.kind 1 then say.Granted q.priority else when eqb q.kind 2 then say.Taken q.seat q.number
+    else when eqb q.kind 3 then say.Deny q.number else when eqb q.kind 5 then say.Idle q.number
+    else when eqb q.kind 6 then say.Revoke q.number else when eqb q.kind 9 then say.Info (q.number % 256) q.priority
     else say.Nothing
 
 unfoldable pub alike : Particulars → Particulars → Bool
@@ -82,7 +82,7 @@ alike q p = eqb q.kind p.kind && eqb q.seat p.seat && eqb q.number p.number && e
 
 -- it has them: what its kind has not is zero, and so is the octet behind its priority
 unfoldable pub said_by : Particulars → ℕ → Told
-said_by q behind = if alike q (particulars (kind_of q)) && eqb behind 0 then Says (kind_of q) else NoMessage
+said_by q behind = when alike q (particulars (kind_of q)) && eqb behind 0 then Says (kind_of q) else NoMessage
 
 abbrev pub said_at : List ℕ → ℕ → Told
 said_at r at = said_by (particulars_at r at) (get_or r (at + zero_within) 0)
@@ -90,5 +90,5 @@ said_at r at = said_by (particulars_at r at) (get_or r (at + zero_within) 0)
 -- message 0 or 1 of a report; there is no third
 unfoldable pub told_in : List ℕ → ℕ → Told
 told_in r which =
-    if not (eqb (length r) report_size) then NoMessage else if eqb which 0 then said_at r first_place
-    else if eqb which 1 then said_at r second_place else Says say.Nothing
+    when not (eqb (length r) report_size) then NoMessage else when eqb which 0 then said_at r first_place
+    else when eqb which 1 then said_at r second_place else Says say.Nothing

@@ -9,7 +9,7 @@ use lib.Dec.{eqb, leb, ltb}
 use lib.ListN.{length, get_or, drop, drop_of_length-le}
 use lib.Seq.{drop-cons}
 use borrow.Author.Tests.{eqb-true, eqb-false, eq-eqb, ne_eqb, ltb-true, lt-ltb, leb-true}
-use Rattle.words.specs.Choice.{if◌then◌else◌, if_yes, if_no, by_test, by_if, one}
+use Rattle.words.specs.Choice.{when◌then◌else◌, if_yes, if_no, by_test, by_if, one}
 use Rattle.words.proofs.Tests.{clash, and_both, and_three, and_four, and_five, four, or_else}
 use Rattle.octets.specs.Octets.{Octets, be16, octets16}
 use Rattle.steps.specs.declared.Kind.{Kind}
@@ -81,7 +81,7 @@ mask_small set h = mask_fits set 16 (omega arith)
 -- FROM A REPORT TO ITS OCTETS AND BACK
 
 kind_back : (k : Kind) → KindFits k → kind_of (particulars k) ≡ k
-unfolding kind_of particulars if◌then◌else◌
+unfolding kind_of particulars when◌then◌else◌
 kind_back say.Nothing h = refl
 kind_back (say.Granted p) h = refl
 kind_back (say.Taken s n) h = refl
@@ -91,12 +91,12 @@ kind_back (say.Revoke n) h = refl
 kind_back (say.Info k p) h = let l : k < 256 = h.0 in rw (mod-eq_of_lt l)
 
 mark_back : (m : Mark) → MarkFits m → mark_of (seat_octet m) ≡ m
-unfolding mark_of if◌then◌else◌
+unfolding mark_of when◌then◌else◌
 mark_back NoSeat h = refl
 mark_back (Seat s) h = rw (ne_eqb s 255 (λ q. omega (arith, q)))
 
 given_back : (g : Given) → given_of (given_octet g) (how_octet g) ≡ g
-unfolding given_of if◌then◌else◌
+unfolding given_of when◌then◌else◌
 given_back NotGiven = refl
 given_back (AtOnce s) = refl
 given_back (OutOfLine s) = refl
@@ -323,7 +323,7 @@ mark_told NoSeat h = refl
 mark_told (Seat s) h = rw (lt-ltb s 16 h)
 
 given_told : (g : Given) → GivenFits g → is_how (given_octet g) (how_octet g) ≡ true
-unfolding is_how if◌then◌else◌
+unfolding is_how when◌then◌else◌
 given_told NotGiven h = refl
 given_told (AtOnce s) h = rw (lt-ltb s 16 h)
 given_told (OutOfLine s) h = rw (lt-ltb s 16 h)
@@ -446,13 +446,13 @@ says_a_report r o e =
 
 said_so : (r : List ℕ) (at : ℕ) → is_message_at r at ≡ true →
     said_by (particulars_at r at) (get_or r (at + zero_within) 0) ≡ Says (sending_at r at).kind
-unfolding said_by sending_at if◌then◌else◌
+unfolding said_by sending_at when◌then◌else◌
 said_so r at e =
     let m = is_message_lem (particulars_at r at) (get_or r (at + zero_within) 0) e in
     rw (m.alike, m.zero-behind)
 
 pub same_messages : SameMessages
-unfolding told_in report_in if◌then◌else◌
+unfolding told_in report_in when◌then◌else◌
 same_messages r e =
     let a = is_report_lem r e in
     let l : eqb (length r) report_size ≡ true = eq-eqb (length r) report_size a.whole in

@@ -1,7 +1,7 @@
 -- A report and its 24 octets (docs/FORMS.md, "A report: 24 octets"): what octets say, whole; which octets are a report's; and which reports
 -- have octets, the rules' or not: all of the desk's shape. Then the laws, both ways, each proved in proofs/Reported. Assumes nothing.
 use Rattle.std.specs.Prelude.{ℕ, zero, suc, ◌+◌, ◌/◌, ◌%◌, ◌<◌, Bool, true, ◌&&◌, ◌||◌, List, [], ◌∷◌, ◌≡◌, eqb, leb, ltb, length, get_or}
-use Rattle.words.specs.Choice.{if◌then◌else◌}
+use Rattle.words.specs.Choice.{when◌then◌else◌}
 use Rattle.octets.specs.Octets.{Octets, be16}
 use Rattle.steps.specs.declared.Kind.{Kind}
 use Rattle.steps.specs.declared.Kind.TheVariants as say
@@ -29,10 +29,10 @@ unfoldable pub set_of : ℕ → List Bool
 set_of mask = seats_in 16 mask
 
 unfoldable pub mark_of : ℕ → Mark
-mark_of n = if eqb n 255 then NoSeat else Seat n
+mark_of n = when eqb n 255 then NoSeat else Seat n
 
 unfoldable pub given_of : ℕ → ℕ → Given
-given_of seat how = if eqb how 1 then AtOnce seat else if eqb how 2 then OutOfLine seat else NotGiven
+given_of seat how = when eqb how 1 then AtOnce seat else when eqb how 2 then OutOfLine seat else NotGiven
 
 unfoldable pub marks_in : List ℕ → Marks
 marks_in r =
@@ -55,7 +55,7 @@ unfoldable pub is_mark : ℕ → Bool
 is_mark n = ltb n 16 || eqb n 255
 
 unfoldable pub is_how : ℕ → ℕ → Bool
-is_how seat how = if eqb how 0 then eqb seat 255 else (ltb seat 16 && leb how 2)
+is_how seat how = when eqb how 0 then eqb seat 255 else (ltb seat 16 && leb how 2)
 
 unfoldable pub are_marks : List ℕ → Bool
 are_marks r =

@@ -3,7 +3,7 @@ use Prim.Native.Nat.{ℕ}
 use mathlib.Core.Path.{◌≡◌, refl, ap, sym, ◌∙◌}
 use native.Mathlib.Omega.{arith}
 use mathlib.Core.Bool.{Bool, true, false, not, ◌&&◌}
-use Rattle.words.specs.Choice.{if◌then◌else◌, by_test}
+use Rattle.words.specs.Choice.{when◌then◌else◌, by_test}
 use Rattle.line.specs.declared.Entry.{Entry}
 use Rattle.hall.specs.declared.Hall.{Hall}
 use Rattle.hall.specs.declared.Answer.{Answer}
@@ -38,7 +38,7 @@ module _ (r : Step) (x : Mark) where
   revoked_placing e n = sym (placed-more r.answer _ x (is_nothing r.report.first.kind) r.report _)
 
   pub pressed_placing : (p : Phase) (press : Bool) → pressed (r placing x) p press ≡ (pressed r p press placing x)
-  unfolding pressed if◌then◌else◌
+  unfolding pressed when◌then◌else◌
   pressed_placing Stopped press = refl
   pressed_placing (Idle t7) press = refl
   pressed_placing (Taken e b) true = revoked_placing e media_burst_preempted
@@ -49,11 +49,11 @@ module _ (c : Core) (h : Hall) (s : ℕ) where
   pub informed_placing : (x : Mark) →
       (informed c h s placing x)
       ≡ record { answer = Done; core = c; report = report_of (info_for c.line s (queues h s)) silence x NotGiven }
-  unfolding informed if◌then◌else◌
+  unfolding informed when◌then◌else◌
   informed_placing x = by_test (queues h s) (λ q. rw q) (λ q. rw q)
 
   unplaced : (informed c h s placing NoSeat) ≡ informed c h s
-  unfolding informed if◌then◌else◌
+  unfolding informed when◌then◌else◌
   unplaced = by_test (queues h s) (λ q. rw q) (λ q. rw q)
 
   rule6-alone : (press : Bool) → (rule6 c h s press placing NoSeat) ≡ rule6 c h s press
@@ -64,23 +64,23 @@ module _ (c : Core) (h : Hall) (s : ℕ) where
 -- who waits and who comes, by rule 6 in one way
 pub stands_alike : (c : Core) (h : Hall) (s p : ℕ) (press w : Bool) →
     (rule6 (c with_line line_after c.line w s p) h s press placing mark_after w s) ≡ stands c h s p press w
-unfolding asks_again placed if◌then◌else◌
+unfolding asks_again placed when◌then◌else◌
 stands_alike c h s p press false = refl
 stands_alike c h s p press true = rule6-alone (c with_line line_after c.line true s p) h s press
 
 -- a cause found first, and then the answer
 module _ (d : ℕ → Step) (a b : Step) (n : ℕ) where
-  found : (w q f : Bool) → n ≡ (if w then 0 else if q then another_has_permission else if f then queue_full else 0) → (n ≡ 0 → ⊥) →
-      d n ≡ (if w then a else if q then d another_has_permission else if f then d queue_full else b)
-  unfolding if◌then◌else◌
+  found : (w q f : Bool) → n ≡ (when w then 0 else when q then another_has_permission else when f then queue_full else 0) → (n ≡ 0 → ⊥) →
+      d n ≡ (when w then a else when q then d another_has_permission else when f then d queue_full else b)
+  unfolding when◌then◌else◌
   found true q f e z = absurd (z e)
   found false true f e z = ap d e
   found false false true e z = ap d e
   found false false false e z = absurd (z e)
 
-  none : (w q f : Bool) → n ≡ (if w then 0 else if q then another_has_permission else if f then queue_full else 0) → n ≡ 0 →
-      (if w then a else b) ≡ (if w then a else if q then d another_has_permission else if f then d queue_full else b)
-  unfolding if◌then◌else◌
+  none : (w q f : Bool) → n ≡ (when w then 0 else when q then another_has_permission else when f then queue_full else 0) → n ≡ 0 →
+      (when w then a else b) ≡ (when w then a else when q then d another_has_permission else when f then d queue_full else b)
+  unfolding when◌then◌else◌
   none true q f e z = refl
   none false true f e z = absurd (omega arith)
   none false false true e z = absurd (omega arith)

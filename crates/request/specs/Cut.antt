@@ -1,7 +1,7 @@
 -- Definitions that are here only because the code is cut into functions: what each of these answers, where no sentence of document 01 says
 -- it by itself. The rules are Request's, and the promise of `request_floor` cites that page alone. Assumes nothing.
 use Rattle.std.specs.Prelude.{ℕ, Bool, not, ◌&&◌}
-use Rattle.words.specs.Choice.{if◌then◌else◌}
+use Rattle.words.specs.Choice.{when◌then◌else◌}
 use Rattle.line.specs.declared.Line.{Line}
 use Rattle.line.specs.Line.{entry_of}
 use Rattle.hall.specs.declared.Hall.{Hall}
@@ -17,27 +17,27 @@ use Rattle.request.specs.Request.{waits, full, info_of, stays_or_moves, comes_in
 
 -- what Info is to an asker, with or without queueing
 abbrev pub info_for : Line → ℕ → Bool → Sending
-info_for l s queueing = if queueing then info_of l s ⇒ only s else silence
+info_for l s queueing = when queueing then info_of l s ⇒ only s else silence
 
 -- the line after a request of one who waits, and of a newcomer that may go in; and the mark
 abbrev pub line_after : Line → Bool → ℕ → ℕ → Line
-line_after l waiting-already s p = if waiting-already then stays_or_moves l s p else comes_in l (entry_of s p)
+line_after l waiting-already s p = when waiting-already then stays_or_moves l s p else comes_in l (entry_of s p)
 
 abbrev pub mark_after : Bool → ℕ → Mark
-mark_after waiting-already s = if waiting-already then NoSeat else Seat s
+mark_after waiting-already s = when waiting-already then NoSeat else Seat s
 
 -- rules 4 and 5 go on alike
 abbrev pub stands : Core → Hall → ℕ → ℕ → Bool → Bool → Step
-stands c h s p press waiting-already = if waiting-already then asks_again c h s p press else placed c h s p press
+stands c h s p press waiting-already = when waiting-already then asks_again c h s p press else placed c h s p press
 
 -- the cause by which a newcomer is denied; 0 for none
 abbrev pub refusal_of : Core → Hall → ℕ → Bool → Bool → ℕ
 refusal_of c h s press waiting-already =
-    if waiting-already then 0
-    else if not press && not (queues h s) then another_has_permission
-    else if full c h then queue_full
+    when waiting-already then 0
+    else when not press && not (queues h s) then another_has_permission
+    else when full c h then queue_full
     else 0
 
 -- rules 4 to 6
 abbrev pub asks : Core → Hall → ℕ → ℕ → Bool → Step
-asks c h s p press = if waits c s then asks_again c h s p press else rule5 c h s p press
+asks c h s p press = when waits c s then asks_again c h s p press else rule5 c h s p press

@@ -1,7 +1,7 @@
 -- Request, rules 1 to 6 of document 01, "The desk", in its order. The call is running and the seat is known; `p` is the effective priority.
 -- Assumes nothing.
 use Rattle.std.specs.Prelude.{ℕ, ◌+◌, Bool, true, false, not, ◌&&◌, leb, eqb, length}
-use Rattle.words.specs.Choice.{if◌then◌else◌}
+use Rattle.words.specs.Choice.{when◌then◌else◌}
 use Rattle.line.specs.declared.Entry.{Entry}
 use Rattle.line.specs.declared.Line.{Line}
 use Rattle.line.specs.Line.{waiting, line_of, before, is_in, entry_of, enter, another_at_least, without, priority_of}
@@ -40,7 +40,7 @@ is_idle (Taken e b) = false
 is_idle (Revoking e n) = false
 
 abbrev pub idle_request : Core → Hall → ℕ → ℕ → Step
-idle_request c h s p = if alone h s then denied c s only_one_participant else given_at_once c h (entry_of s p)
+idle_request c h s p = when alone h s then denied c s only_one_participant else given_at_once c h (entry_of s p)
 
 -- 4. Who waits and asks at another priority is taken out and goes in again, behind its new equals; at the same priority it stays where it
 -- is.
@@ -54,7 +54,7 @@ abbrev pub moved : Line → Entry → Line
 moved l e = line_of (enter e (without (only e.seat) (waiting l)))
 
 abbrev pub stays_or_moves : Line → ℕ → ℕ → Line
-stays_or_moves l s p = if eqb (priority_in l s) p then l else moved l (entry_of s p)
+stays_or_moves l s p = when eqb (priority_in l s) p then l else moved l (entry_of s p)
 
 -- 5. A request presses if it reaches the pre-emptive level, and no one else does: not the holder, and no other seat in line.
 abbrev pub holder_at_least : ℕ → Phase → Bool
@@ -79,13 +79,13 @@ comes_in l e = line_of (enter e (waiting l))
 -- 6. Info tells the asker its place, if it negotiated queueing: 1 is the head, with its priority; 255 and 0 for a seat not in line. A press
 -- then takes the floor from a holder in Taken, by Revoke #4.
 unfoldable pub info_of : Line → ℕ → Kind
-info_of l s = if is_in s (waiting l) then say.Info (before s (waiting l) + 1) (priority_in l s) else say.Info 255 0
+info_of l s = when is_in s (waiting l) then say.Info (before s (waiting l) + 1) (priority_in l s) else say.Info 255 0
 
 unfoldable pub informed : Core → Hall → ℕ → Step
-informed c h s = if queues h s then done c sends info_of c.line s ⇒ only s else done c
+informed c h s = when queues h s then done c sends info_of c.line s ⇒ only s else done c
 
 unfoldable pub pressed : Step → Phase → Bool → Step
-pressed r (Taken e b) press = if press then revokes r e media_burst_preempted else r
+pressed r (Taken e b) press = when press then revokes r e media_burst_preempted else r
 pressed r (Revoking e n) press = r
 pressed r (Idle t7) press = r
 pressed r Stopped press = r
@@ -102,14 +102,14 @@ placed c h s p press = rule6 (c with_line comes_in c.line (entry_of s p)) h s pr
 
 abbrev pub rule5 : Core → Hall → ℕ → ℕ → Bool → Step
 rule5 c h s p press =
-    if not press && not (queues h s) then denied c s another_has_permission
-    else if full c h then denied c s queue_full
+    when not press && not (queues h s) then denied c s another_has_permission
+    else when full c h then denied c s queue_full
     else placed c h s p press
 
 unfoldable pub request : Core → Hall → ℕ → ℕ → Step
 request c h s p =
-    if holds c.phase s then holder_asks c c.phase  -- 1
-    else if receives_only h s then denied c s receive_only  -- 2
-    else if is_idle c.phase then idle_request c h s p  -- 3
-    else if waits c s then asks_again c h s p (presses c h s p)  -- 4, 6
+    when holds c.phase s then holder_asks c c.phase  -- 1
+    else when receives_only h s then denied c s receive_only  -- 2
+    else when is_idle c.phase then idle_request c h s p  -- 3
+    else when waits c s then asks_again c h s p (presses c h s p)  -- 4, 6
     else rule5 c h s p (presses c h s p)  -- 5, 6

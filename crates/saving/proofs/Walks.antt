@@ -6,7 +6,7 @@ use native.Mathlib.Numerals.{add-one}
 use mathlib.Core.List.{List, [], ◌++◌, append_assoc, append-nil}
 use mathlib.Core.Path.{◌≡◌, refl, sym, ap, ◌∙◌}
 use lib.ListN.{length, length-append}
-use Rattle.words.specs.Choice.{if◌then◌else◌, by_test}
+use Rattle.words.specs.Choice.{when◌then◌else◌, by_test}
 use Rattle.octets.specs.Octets.{over}
 use Rattle.octets.proofs.Over.{over_none, over-two}
 use Rattle.hall.specs.declared.Hall.{Hall}
@@ -25,11 +25,11 @@ over_front room xs ys =
 module _ (h : Hall) (ns : Names) where
   module _ (n s : ℕ) where
     one-octets : seats_octets (seats_from h ns (suc n) s) ≡ octets_at_seat h ns s ++ seats_octets (seats_from h ns n (suc s))
-    unfolding octets_at_seat seats_octets if◌then◌else◌
+    unfolding octets_at_seat seats_octets when◌then◌else◌
     one-octets = by_test (is_present h s) (λ e. rw e) (λ e. rw e)
 
     one_count : length (seats_from h ns (suc n) s) ≡ count_at h s + length (seats_from h ns n (suc s))
-    unfolding if◌then◌else◌
+    unfolding when◌then◌else◌
     one_count = by_test (is_present h s) (λ e. rw e (omega arith)) (λ e. rw e (omega arith))
 
   left_one : (s : ℕ) → s < 16 → 16 - s ≡ suc (16 - (s + 1))
@@ -56,7 +56,7 @@ module _ (h : Hall) (ns : Names) where
   no_octets s l = rw (rest_none s l)
 
   pub count_few : (s : ℕ) → count_at h s ≤ 1
-  unfolding if◌then◌else◌
+  unfolding when◌then◌else◌
   count_few s = by_test (is_present h s) (λ e. rw e (omega arith)) (λ e. rw e (omega arith))
 
   -- the seats below s are written

@@ -1,7 +1,7 @@
 -- Saving (document 01, "The sheet", and 13; document 02, #101, 48): its answer, and the room once it has answered. No phase is asked.
 -- Assumes nothing.
 use Rattle.std.specs.Prelude.{ℕ, ◌≡◌, Bool, not, List, ltb, eqb, length, take}
-use Rattle.words.specs.Choice.{if◌then◌else◌}
+use Rattle.words.specs.Choice.{when◌then◌else◌}
 use Rattle.octets.specs.Octets.{over}
 use Rattle.hall.specs.declared.Hall.{Hall}
 use Rattle.identities.specs.declared.Names.{Names}
@@ -30,13 +30,13 @@ too_short h ns room = ltb (length room) (length (sheet_of h ns))
 
 unfoldable pub saving : Hall → Names → List ℕ → Save
 saving h ns room =
-    if cannot_hold h then not_saved 48
-    else if too_short h ns room then not_saved 13
+    when cannot_hold h then not_saved 48
+    else when too_short h ns room then not_saved 13
     else saved (length (sheet_of h ns))
 
 -- "A refusal .. writes nothing; a result leaves the room past its end untouched."
 unfoldable pub room_after : Hall → Names → List ℕ → List ℕ
-room_after h ns room = if eqb (saving h ns room).number 0 then over room 0 (sheet_of h ns) else room
+room_after h ns room = when eqb (saving h ns room).number 0 then over room 0 (sheet_of h ns) else room
 
 -- what was written: the first octets of the room, as many as the answer says
 unfoldable pub written_by : Hall → Names → List ℕ → List ℕ

@@ -8,7 +8,7 @@ use lib.Dec.{ltb, leb}
 use lib.ListN.{length, take, drop, get_or, set, replicate, length-take, get_or-append, get_or-eq_default}
 use lib.Seq.{take-suc, take_all, drop-cons, set_at, get_or-append-add}
 use borrow.Author.Tests.{le-leb, lt-leb, leb-true, leb-false, ltb-true, ltb-false}
-use Rattle.words.specs.Choice.{if◌then◌else◌, by_test, if_yes, if_no}
+use Rattle.words.specs.Choice.{when◌then◌else◌, by_test, if_yes, if_no}
 use Rattle.message.specs.Answers.{refused, result}
 use Rattle.line.specs.declared.Entry.{Entry}
 use Rattle.line.specs.declared.Line.{Line}
@@ -34,19 +34,19 @@ module _ (es room : List Entry) (i : ℕ) (in-line : i < length es) (in-room : i
 
 -- all who wait, or none
 pub shown_all : (es : List Entry) (places : ℕ) → length es ≤ places → shown_in es places ≡ length es
-unfolding shown_in if◌then◌else◌
+unfolding shown_in when◌then◌else◌
 shown_all es places h = rw (le-leb (length es) places h)
 
 pub shown_none : (es : List Entry) (places : ℕ) → places < length es → shown_in es places ≡ 0
-unfolding shown_in if◌then◌else◌
+unfolding shown_in when◌then◌else◌
 shown_none es places h = rw (lt-leb (length es) places h)
 
 pub answered_all : (es : List Entry) (places : ℕ) → length es ≤ places → list_answer es places ≡ result (length es)
-unfolding list_answer if◌then◌else◌
+unfolding list_answer when◌then◌else◌
 answered_all es places h = rw (le-leb (length es) places h)
 
 pub answered_none : (es : List Entry) (places : ℕ) → places < length es → list_answer es places ≡ refused 13
-unfolding list_answer if◌then◌else◌
+unfolding list_answer when◌then◌else◌
 answered_none es places h = rw (lt-leb (length es) places h)
 
 -- the answer in the paper's numbers determines the answer, so any two answers that a promise here allows coincide

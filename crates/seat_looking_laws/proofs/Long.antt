@@ -6,7 +6,7 @@ use mathlib.Core.Path.{◌≡◌, sym, ◌∙◌}
 use lib.Dec.{eqb, leb}
 use lib.ListN.{length}
 use borrow.Author.Tests.{leb-true}
-use Rattle.words.specs.Choice.{if◌then◌else◌, if_yes}
+use Rattle.words.specs.Choice.{when◌then◌else◌, if_yes}
 use Rattle.words.specs.Below.{all_below, and_left, and_right, below}
 use Rattle.hall.specs.declared.Hall.{Hall}
 use Rattle.hall.specs.Seats.{is_present, seat_of, in_range, finds}
@@ -29,7 +29,7 @@ module _ (h : Hall) (ns : Names) (q : seats_sound h ns ≡ true) (s : ℕ) (w : 
   unfolding seat_sound
   taken =
       sym (if_yes (is_present h s) (taken_sound h ns s) (free_sound h ns s) e)
-      ∙ and_right (name_sound (name_at ns s)) (if is_present h s then taken_sound h ns s else free_sound h ns s) sound
+      ∙ and_right (name_sound (name_at ns s)) (when is_present h s then taken_sound h ns s else free_sound h ns s) sound
 
   allowed : length_allowed (octets_of (name_at ns s)) ≡ true
   unfolding taken_sound

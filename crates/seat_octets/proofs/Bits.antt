@@ -3,26 +3,26 @@ use Prim.Native.Nat.{◌/◌, ◌%◌}
 use native.Mathlib.Omega.{arith}
 use lib.Dec.{eqb}
 use borrow.Author.Tests.{eqb-true, eqb-false}
-use Rattle.words.specs.Choice.{if◌then◌else◌, by_test}
+use Rattle.words.specs.Choice.{when◌then◌else◌, by_test}
 use Rattle.seat_octets.specs.Layout.{flags_octet, flags_of}
 use Rattle.seat_octets.specs.Laws.{FlagsBack, FlagsFew, FlagsForth}
 
 pub flags_few : FlagsFew
-unfolding flags_octet if◌then◌else◌
+unfolding flags_octet when◌then◌else◌
 flags_few f =
     by_test f.queueing
     (λ q. by_test f.receive_only (λ l. rw (q, l) (omega arith)) (λ l. rw (q, l) (omega arith)))
     (λ q. by_test f.receive_only (λ l. rw (q, l) (omega arith)) (λ l. rw (q, l) (omega arith)))
 
 pub flags_back : FlagsBack
-unfolding flags_octet flags_of if◌then◌else◌
+unfolding flags_octet flags_of when◌then◌else◌
 flags_back f =
     by_test f.queueing
     (λ q. by_test f.receive_only (λ l. rw (q, l)) (λ l. rw (q, l)))
     (λ q. by_test f.receive_only (λ l. rw (q, l)) (λ l. rw (q, l)))
 
 pub flags_forth : FlagsForth
-unfolding flags_octet flags_of if◌then◌else◌
+unfolding flags_octet flags_of when◌then◌else◌
 flags_forth n h =
     by_test (eqb (n % 2) 1)
     (λ q.

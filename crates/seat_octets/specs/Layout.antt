@@ -13,14 +13,14 @@
 --
 -- Assumes nothing.
 use Rattle.std.specs.Prelude.{ℕ, ◌+◌, ◌/◌, ◌%◌, ◌<◌, Bool, List, [], ◌∷◌, ◌++◌, eqb, get_or}
-use Rattle.words.specs.Choice.{if◌then◌else◌}
+use Rattle.words.specs.Choice.{when◌then◌else◌}
 use Rattle.octets.specs.Octets.{be16, be32, octets16, octets32}
 use Rattle.hall.specs.declared.Flags.{Flags}
 use Rattle.hall.specs.declared.Settings.{Settings}
 use Rattle.hall.specs.Seats.{settings_of}
 
 unfoldable pub flags_octet : Flags → ℕ
-flags_octet f = (if f.queueing then 1 else 0) + (if f.receive_only then 2 else 0)
+flags_octet f = (when f.queueing then 1 else 0) + (when f.receive_only then 2 else 0)
 
 unfoldable pub flags_of : ℕ → Flags
 flags_of n = record { queueing = eqb (n % 2) 1; receive_only = eqb (n / 2 % 2) 1 }

@@ -3,7 +3,7 @@
 #![tactic(auto)]
 
 ghost use Rattle.std.specs.Prelude.{◌≡◌, ◌+◌, ◌≤◌, length};
-ghost use Rattle.words.specs.Choice.{if◌then◌else◌};
+ghost use Rattle.words.specs.Choice.{when◌then◌else◌};
 ghost use Rattle.octets.specs.Octets.{over};
 ghost use Rattle.seat_octets.specs.Layout.{flags_octet, flags_of, settings_size, settings_octets, settings_in, unused_zero, zeros_fit};
 
@@ -31,7 +31,7 @@ pub const UNUSED_WITHIN: usize = 11;
 
 // A bit of an octet, where its flag is set.
 fn bit(flag: bool, value: u8) -> u8
-    ensures { (result ≡ (if flag then value else 0)) × (result ≤ value) }
+    ensures { (result ≡ (when flag then value else 0)) × (result ≤ value) }
 {
     if flag { value } else { 0 }
 }

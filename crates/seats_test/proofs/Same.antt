@@ -5,7 +5,7 @@ use mathlib.Core.Bool.{true}
 use mathlib.Core.List.{List, [], ◌∷◌}
 use lib.Dec.{eqb}
 use borrow.Author.Tests.{eqb-true}
-use Rattle.words.specs.Choice.{if◌then◌else◌, by_test}
+use Rattle.words.specs.Choice.{when◌then◌else◌, by_test}
 use Rattle.words.proofs.Tests.{clash}
 use Rattle.hall.specs.declared.Found.{Found}
 use Rattle.hall.specs.declared.Found.TheVariants.{At, Nowhere}
@@ -14,7 +14,7 @@ use Rattle.identities.specs.Identity.{same}
 
 -- octet for octet is the same list
 pub same_is : (a b : List ℕ) → same a b ≡ true → a ≡ b
-unfolding same if◌then◌else◌
+unfolding same when◌then◌else◌
 same_is [] [] q = refl
 same_is [] (y ∷ b) q = clash q refl
 same_is (x ∷ a) [] q = clash q refl

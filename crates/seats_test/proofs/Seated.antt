@@ -7,7 +7,7 @@ use mathlib.Core.List.{List}
 use native.Mathlib.Omega.{arith}
 use lib.Dec.{eqb}
 use borrow.Author.Tests.{eq-eqb}
-use Rattle.words.specs.Choice.{if◌then◌else◌, if_yes, if_no, by_test}
+use Rattle.words.specs.Choice.{when◌then◌else◌, if_yes, if_no, by_test}
 use Rattle.words.specs.Below.{all_below, below, and_left}
 use Rattle.words.proofs.Tests.{both}
 use Rattle.octets.specs.Octets.{be32}
@@ -89,7 +89,7 @@ module _ (s : List ℕ) (hall : hall_fits s ≡ true) (fits : names_fit s ≡ tr
     seat_same : (seat : ℕ) → seat < 16 → seat_fits s seat ≡ seat_sound (hall_at s) (names_at s) seat
     unfolding seat_fits seat_sound
     seat_same seat b =
-        ap (λ (x : Bool). x && (if taken_at s seat then taken_fits s seat else free_fits s seat)) (name_sound_lem s seat b (len seat b))
+        ap (λ (x : Bool). x && (when taken_at s seat then taken_fits s seat else free_fits s seat)) (name_sound_lem s seat b (len seat b))
         ∙ ap (λ (x : Bool). name_sound (name_at (names_at s) seat) && x)
         (by_test (taken_at s seat)
         (λ t. if_yes _ _ _ t ∙ taken-same seat b t ∙ sym (if_yes _ _ _ (sym (present_is s seat b) ∙ t)))
@@ -98,14 +98,14 @@ module _ (s : List ℕ) (hall : hall_fits s ≡ true) (fits : names_fit s ≡ tr
   all_fit_lem : all_below (seat_fits s) 16 ≡ true → (seat : ℕ) → seat < 16 → zeros_behind s seat ≡ true
   unfolding seat_fits
   all_fit_lem q seat b =
-      and_left (zeros_behind s seat) (if taken_at s seat then taken_fits s seat else free_fits s seat) (below (seat_fits s) 16 q seat b)
+      and_left (zeros_behind s seat) (when taken_at s seat then taken_fits s seat else free_fits s seat) (below (seat_fits s) 16 q seat b)
 
   all_sound : all_below (seat_sound (hall_at s) (names_at s)) 16 ≡ true → (seat : ℕ) → seat < 16 → zeros_behind s seat ≡ true
   unfolding seat_sound
   all_sound q seat b =
       name_sound_lem s seat b (len seat b)
       ∙ and_left (name_sound (name_at (names_at s) seat))
-      (if is_present (hall_at s) seat then taken_sound (hall_at s) (names_at s) seat else free_sound (hall_at s) (names_at s) seat)
+      (when is_present (hall_at s) seat then taken_sound (hall_at s) (names_at s) seat else free_sound (hall_at s) (names_at s) seat)
       (below (seat_sound (hall_at s) (names_at s)) 16 q seat b)
 
   each_same : all_below (seat_fits s) 16 ≡ all_below (seat_sound (hall_at s) (names_at s)) 16

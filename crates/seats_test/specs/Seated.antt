@@ -3,7 +3,7 @@
 -- Assumes nothing.
 use Rattle.desk_octets.specs.Places.{taken_column, ssrcs_column, highest_column, flags_column, settings_start, lengths_column, identities_column}
 use Rattle.std.specs.Prelude.{ℕ, ◌+◌, ◌*◌, ◌-◌, Bool, not, ◌&&◌, List, leb, eqb}
-use Rattle.words.specs.Choice.{if◌then◌else◌}
+use Rattle.words.specs.Choice.{when◌then◌else◌}
 use Rattle.words.specs.Below.{all_below}
 use Rattle.octets.specs.Octets.{be32, nth_octet}
 use Rattle.hall.specs.Seats.{in_range}
@@ -52,7 +52,7 @@ free_fits s seat =
     && eqb (name_length_at s seat) 0
 
 unfoldable pub seat_fits : List ℕ → ℕ → Bool
-seat_fits s seat = zeros_behind s seat && (if taken_at s seat then taken_fits s seat else free_fits s seat)
+seat_fits s seat = zeros_behind s seat && (when taken_at s seat then taken_fits s seat else free_fits s seat)
 
 unfoldable pub seats_fit : List ℕ → Bool
 seats_fit s = in_range (settings_at s) && all_below (seat_fits s) 16

@@ -2,7 +2,7 @@
 -- and the identities that octets stand for, as Bools. What a value's own type gives (how many seats there are) is not tested. Assumes
 -- nothing.
 use Rattle.std.specs.Prelude.{ℕ, Bool, not, ◌&&◌, ◌||◌, eqb, ltb, length, get_or}
-use Rattle.words.specs.Choice.{if◌then◌else◌}
+use Rattle.words.specs.Choice.{when◌then◌else◌}
 use Rattle.words.specs.Below.{all_below}
 use Rattle.hall.specs.declared.Hall.{Hall}
 use Rattle.identities.specs.declared.Name.{Name}
@@ -32,7 +32,7 @@ free_sound h ns s =
     eqb (ssrc_at h s) 0 && eqb (get_or h.highest s 0) 0 && eqb (flags_octet (flags_at h s)) 0 && eqb (length (octets_of (name_at ns s))) 0
 
 unfoldable pub seat_sound : Hall → Names → ℕ → Bool
-seat_sound h ns s = name_sound (name_at ns s) && (if is_present h s then taken_sound h ns s else free_sound h ns s)
+seat_sound h ns s = name_sound (name_at ns s) && (when is_present h s then taken_sound h ns s else free_sound h ns s)
 
 unfoldable pub seats_sound : Hall → Names → Bool
 seats_sound h ns = in_range h.settings && all_below (seat_sound h ns) 16

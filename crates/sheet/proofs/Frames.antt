@@ -6,7 +6,7 @@ use mathlib.Core.Path.{◌≡◌, refl, sym, ap, ◌∙◌}
 use lib.Dec.{ltb, eqb}
 use lib.ListN.{length}
 use borrow.Author.Tests.{lt-ltb, le-ltb, eq-eqb, ne_eqb, ltb-true, ltb-false, eqb-true, eqb-false}
-use Rattle.words.specs.Choice.{if◌then◌else◌, by_test}
+use Rattle.words.specs.Choice.{when◌then◌else◌, by_test}
 use Rattle.sheet.specs.declared.Verdict.{Verdict}
 use Rattle.sheet.specs.declared.Verdict.TheVariants.{Accepted, NotASheet, OtherForm, WrongPlaces}
 use Rattle.sheet.specs.Layout.{form, sheet_letters, tail_size}
@@ -23,28 +23,28 @@ pub record Framed (s : List ℕ) : Type 0 where
 
 module _ (s : List ℕ) where
   pub frames_short : length s < tail_size → framing s ≡ NotASheet
-  unfolding framing if◌then◌else◌
+  unfolding framing when◌then◌else◌
   frames_short h = rw (lt-ltb (length s) tail_size h)
 
   module _ (h1 : tail_size ≤ length s) where
     pub frames_letters : (letters_of s ≡ sheet_letters → ⊥) → framing s ≡ NotASheet
-    unfolding framing if◌then◌else◌
+    unfolding framing when◌then◌else◌
     frames_letters h = rw (le-ltb (length s) tail_size h1, ne_eqb (letters_of s) sheet_letters h)
 
     module _ (h2 : letters_of s ≡ sheet_letters) where
       pub frames_form : (form_of s ≡ form → ⊥) → framing s ≡ OtherForm
-      unfolding framing if◌then◌else◌
+      unfolding framing when◌then◌else◌
       frames_form h = rw (le-ltb (length s) tail_size h1, eq-eqb (letters_of s) sheet_letters h2, ne_eqb (form_of s) form h)
 
       module _ (h3 : form_of s ≡ form) where
         pub frames_count : 16 < seat_count s → framing s ≡ WrongPlaces
-        unfolding framing if◌then◌else◌
+        unfolding framing when◌then◌else◌
         frames_count h =
             rw (le-ltb (length s) tail_size h1, eq-eqb (letters_of s) sheet_letters h2, eq-eqb (form_of s) form h3, lt-ltb 16 (seat_count s) h)
 
         module _ (h4 : seat_count s ≤ 16) where
           pub frames_settings : (settings_offset s + tail_size ≡ length s → ⊥) → framing s ≡ WrongPlaces
-          unfolding framing if◌then◌else◌
+          unfolding framing when◌then◌else◌
           frames_settings h =
               rw (
                 le-ltb (length s) tail_size h1,
@@ -56,7 +56,7 @@ module _ (s : List ℕ) where
 
           module _ (h5 : settings_offset s + tail_size ≡ length s) where
             pub frames_seats : (seats_offset s ≡ 0 → ⊥) → framing s ≡ WrongPlaces
-            unfolding framing if◌then◌else◌
+            unfolding framing when◌then◌else◌
             frames_seats h =
                 rw (
                   le-ltb (length s) tail_size h1,
@@ -69,7 +69,7 @@ module _ (s : List ℕ) where
 
   -- and where none applies
   pub frames : Framed s → framing s ≡ Accepted
-  unfolding framing if◌then◌else◌
+  unfolding framing when◌then◌else◌
   frames k =
       rw (
         le-ltb (length s) tail_size k.long,

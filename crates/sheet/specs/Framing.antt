@@ -1,7 +1,7 @@
 -- How a sheet is framed (document 01, "The sheet"): what its trailer says, read back from the end of any octets whatever, and the refusals
 -- of it, 41, 42 and 43. Assumes nothing.
 use Rattle.std.specs.Prelude.{ℕ, ◌+◌, ◌-◌, not, ◌||◌, List, ltb, eqb, length, get_or}
-use Rattle.words.specs.Choice.{if◌then◌else◌}
+use Rattle.words.specs.Choice.{when◌then◌else◌}
 use Rattle.octets.specs.Octets.{be16}
 use Rattle.sheet.specs.declared.Verdict.{Verdict}
 use Rattle.sheet.specs.declared.Verdict.TheVariants.{Accepted, NotASheet, OtherForm, WrongPlaces, OutsideRange, SeatAtFault}
@@ -42,7 +42,7 @@ verdict_number SeatAtFault = 45
 -- 41 under 20 octets or no FS; 42 form; 43 count above 16, settings not 20 octets before the end, or seats' offset not zero
 unfoldable pub framing : List ℕ → Verdict
 framing s =
-    if ltb (length s) tail_size || not (eqb (letters_of s) sheet_letters) then NotASheet
-    else if not (eqb (form_of s) form) then OtherForm
-    else if ltb 16 (seat_count s) || not (eqb (settings_offset s + tail_size) (length s)) || not (eqb (seats_offset s) 0) then WrongPlaces
+    when ltb (length s) tail_size || not (eqb (letters_of s) sheet_letters) then NotASheet
+    else when not (eqb (form_of s) form) then OtherForm
+    else when ltb 16 (seat_count s) || not (eqb (settings_offset s + tail_size) (length s)) || not (eqb (seats_offset s) 0) then WrongPlaces
     else Accepted

@@ -15,7 +15,7 @@
 --
 -- Assumes nothing.
 use Rattle.std.specs.Prelude.{ℕ, zero, suc, ◌+◌, ◌*◌, List, [], ◌∷◌, ◌++◌, length, get_or}
-use Rattle.words.specs.Choice.{if◌then◌else◌}
+use Rattle.words.specs.Choice.{when◌then◌else◌}
 use Rattle.octets.specs.Octets.{octets16, octets32}
 use Rattle.hall.specs.declared.Settings.{Settings}
 use Rattle.hall.specs.declared.Newcomer.{Newcomer}
@@ -85,7 +85,7 @@ seat_at h ns s = record { who = who_sits h s; identity = octets_of (name_at ns s
 
 abbrev pub seats_from : Hall → Names → ℕ → ℕ → List Seat
 seats_from h ns zero s = []
-seats_from h ns (suc n) s = if is_present h s then seat_at h ns s ∷ seats_from h ns n (suc s) else seats_from h ns n (suc s)
+seats_from h ns (suc n) s = when is_present h s then seat_at h ns s ∷ seats_from h ns n (suc s) else seats_from h ns n (suc s)
 
 unfoldable pub seats_of : Hall → Names → List Seat
 seats_of h ns = seats_from h ns 16 0

@@ -5,7 +5,7 @@ use mathlib.Core.Bool.{true}
 use mathlib.Core.List.{List}
 use mathlib.Core.Path.{◌≡◌, refl, sym, ap, subst, ◌∙◌}
 use lib.ListN.{length}
-use Rattle.words.specs.Choice.{if◌then◌else◌, by_test}
+use Rattle.words.specs.Choice.{when◌then◌else◌, by_test}
 use Rattle.hall.specs.declared.Settings.{Settings}
 use Rattle.hall.specs.declared.Hall.{Hall}
 use Rattle.hall.specs.Seats.{in_range, empty_hall, is_present}
@@ -57,7 +57,7 @@ joined zs st few a =
     (filled st zs few (length zs) 0 (empty_hall st) no_names (omega arith) (row-starts st zs) (empty-settings st) a)
 
 pub few_from : (h : Hall) (ns : Names) (n s : ℕ) → length (seats_from h ns n s) ≤ n
-unfolding if◌then◌else◌
+unfolding when◌then◌else◌
 few_from h ns zero s = omega arith
 few_from h ns (suc n) s =
     let k : length (seats_from h ns n (suc s)) ≤ n = few_from h ns n (suc s) in

@@ -2,7 +2,7 @@
 use Prim.Native.Nat.{ℕ}
 use mathlib.Core.Path.{◌≡◌, refl, sym, ap, ◌∙◌}
 use lib.Dec.{eqb}
-use Rattle.words.specs.Choice.{if◌then◌else◌}
+use Rattle.words.specs.Choice.{when◌then◌else◌}
 use Rattle.sheet.specs.declared.Verdict.{Verdict}
 use Rattle.sheet.specs.declared.Verdict.TheVariants.{Accepted, NotASheet, OtherForm, WrongPlaces, OutsideRange, SeatAtFault}
 use Rattle.loading.specs.declared.Loading.{Loading}
@@ -15,15 +15,15 @@ use Rattle.sheet_laws.specs.Sheets.{LoadingsCoincide, SavingsCoincide}
 
 verdict_of : ℕ → Verdict
 verdict_of n =
-    if eqb n 0 then Accepted
-    else if eqb n 41 then NotASheet
-    else if eqb n 42 then OtherForm
-    else if eqb n 43 then WrongPlaces
-    else if eqb n 44 then OutsideRange
+    when eqb n 0 then Accepted
+    else when eqb n 41 then NotASheet
+    else when eqb n 42 then OtherForm
+    else when eqb n 43 then WrongPlaces
+    else when eqb n 44 then OutsideRange
     else SeatAtFault
 
 verdict_again : (v : Verdict) → verdict_of (verdict_number v) ≡ v
-unfolding verdict_of if◌then◌else◌
+unfolding verdict_of when◌then◌else◌
 verdict_again Accepted = refl
 verdict_again NotASheet = refl
 verdict_again OtherForm = refl
@@ -42,10 +42,10 @@ pub loadings_coincide : LoadingsCoincide
 loadings_coincide s a b e f = sym (loading_again a) ∙ ap loading_of (e ∙ sym f) ∙ loading_again b
 
 saving_of : Save → Saving
-saving_of s = if eqb s.number 0 then Saved s.written else if eqb s.number 48 then CannotHold else NoRoom
+saving_of s = when eqb s.number 0 then Saved s.written else when eqb s.number 48 then CannotHold else NoRoom
 
 saving_again : (a : Saving) → saving_of (saving_answer a) ≡ a
-unfolding saving_of if◌then◌else◌
+unfolding saving_of when◌then◌else◌
 saving_again (Saved n) = refl
 saving_again CannotHold = refl
 saving_again NoRoom = refl

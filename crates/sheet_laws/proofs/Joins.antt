@@ -10,7 +10,7 @@ use lib.Dec.{ltb, eqb}
 use lib.ListN.{length, get_or, drop, drop_of_length-le}
 use lib.Seq.{drop-cons}
 use borrow.Author.Tests.{ltb-true}
-use Rattle.words.specs.Choice.{if◌then◌else◌, by_test}
+use Rattle.words.specs.Choice.{when◌then◌else◌, by_test}
 use Rattle.hall.specs.declared.Settings.{Settings}
 use Rattle.hall.specs.declared.Newcomer.{Newcomer}
 use Rattle.identities.specs.declared.Names.{Names}
@@ -123,7 +123,7 @@ module _ (st : Settings) (h : Hall) (ns : Names) (zs : List Seat) (k : ℕ) (row
   no_ssrc i b = by_test (ltb i k) (λ t. rw (row.present i b ∙ t) (sits i b t).ssrcs) (λ t. rw (row.present i b ∙ t))
 
   pub passes : Passes h ns (get_or zs k nobody).identity (get_or zs k nobody).who
-  unfolding seat_named seat_of ssrc_taken if◌then◌else◌
+  unfolding seat_named seat_of ssrc_taken when◌then◌else◌
   passes =
       let o = fine_at st zs k fine l in
       record {

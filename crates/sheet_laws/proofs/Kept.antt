@@ -5,7 +5,7 @@ use native.Mathlib.Omega.{arith}
 use mathlib.Core.Bool.{true}
 use mathlib.Core.Path.{◌≡◌}
 use borrow.Author.Tests.{ne_eqb}
-use Rattle.words.specs.Choice.{if◌then◌else◌, by_test}
+use Rattle.words.specs.Choice.{when◌then◌else◌, by_test}
 use Rattle.identities.specs.declared.Names.{Names}
 use Rattle.hall.specs.declared.Hall.{Hall}
 use Rattle.hall.specs.Seats.{in_range, is_present}
@@ -37,7 +37,7 @@ kept h ns k =
 -- so the seats of such a hall, in order, are a fine list
 module _ (h : Hall) (ns : Names) (k : Kept h ns) where
   ahead-from : (s n t : ℕ) → s < 16 → is_present h s ≡ true → s < t → t + n ≤ 16 → Ahead (seat_at h ns s) (seats_from h ns n t)
-  unfolding if◌then◌else◌
+  unfolding when◌then◌else◌
   ahead-from s zero t w e l b = tt
   ahead-from s (suc n) t w e l b =
       by_test (is_present h t)
@@ -45,7 +45,7 @@ module _ (h : Hall) (ns : Names) (k : Kept h ns) where
       (λ f. rw f (ahead-from s n (suc t) w e (omega arith) (omega arith)))
 
   fine_from : (n s : ℕ) → s + n ≤ 16 → Fine h.settings (seats_from h ns n s)
-  unfolding if◌then◌else◌
+  unfolding when◌then◌else◌
   fine_from zero s b = tt
   fine_from (suc n) s b =
       by_test (is_present h s)

@@ -6,7 +6,7 @@ use mathlib.Core.Path.{◌≡◌}
 use lib.Dec.{eqb}
 use lib.ListN.{length, length-append}
 use borrow.Author.Tests.{eqb-true, eqb-false}
-use Rattle.words.specs.Choice.{if◌then◌else◌, by_test}
+use Rattle.words.specs.Choice.{when◌then◌else◌, by_test}
 use Rattle.hall.specs.declared.Hall.{Hall}
 use Rattle.hall.specs.Seats.{is_present}
 use Rattle.identities.specs.declared.Names.{Names}
@@ -23,7 +23,7 @@ module _ (h : Hall) (ns : Names) (k : Kept h ns) where
   one_long s w e = omega (arith, length_seat (seat_at h ns s), allowed_short (seat_at h ns s).identity (k.seat s w e).long)
 
   all_long : (n s : ℕ) → s + n ≤ 16 → length (seats_octets (seats_from h ns n s)) ≤ 69 * n
-  unfolding if◌then◌else◌ seats_octets
+  unfolding when◌then◌else◌ seats_octets
   all_long zero s b = omega arith
   all_long (suc n) s b =
       let m : length (seats_octets (seats_from h ns n (suc s))) ≤ 69 * n = all_long n (suc s) (omega arith) in

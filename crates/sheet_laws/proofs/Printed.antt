@@ -9,7 +9,7 @@ use lib.Dec.{leb, eqb}
 use lib.ListN.{length, get_or, take, drop, length-drop}
 use lib.Seq.{drop-drop, take-add, take_all}
 use borrow.Author.Tests.{leb-true, eqb-true}
-use Rattle.words.specs.Choice.{if◌then◌else◌, by_test}
+use Rattle.words.specs.Choice.{when◌then◌else◌, by_test}
 use Rattle.words.specs.Below.{and_right}
 use Rattle.octets.specs.Octets.{be16, octets16, octets32, part, Octets}
 use Rattle.octets.proofs.Over.{length_part}
@@ -84,9 +84,9 @@ module _ (s : List ℕ) (octets : Octets s) where
       pub count : length zs ≡ n
       pub written : take at s ++ seats_octets zs ≡ take (settings_place s) s
 
-    back_none : (at : ℕ) (zs : List Seat) (t : Bool) → eqb at (settings_place s) ≡ t → (if t then whole [] else fault) ≡ whole zs →
+    back_none : (at : ℕ) (zs : List Seat) (t : Bool) → eqb at (settings_place s) ≡ t → (when t then whole [] else fault) ≡ whole zs →
         Back 0 at zs
-    unfolding if◌then◌else◌ seats_octets
+    unfolding when◌then◌else◌ seats_octets
     back_none at zs true q e =
         let z : [] ≡ zs = cc in
         rw (← z) (record { count = refl; written = append-nil (take at s) ∙ ap (λ (m : ℕ). take m s) (eqb-true at (settings_place s) q) })
@@ -108,7 +108,7 @@ module _ (s : List ℕ) (octets : Octets s) where
     back_one n at zs fault l e next = absurd (let z : ◌≡◌ {A = ℕ} 0 1 = cc in omega arith)
 
     pub seats_back : (n at : ℕ) (zs : List Seat) → read_seats n s at ≡ whole zs → Back n at zs
-    unfolding read_seats if◌then◌else◌
+    unfolding read_seats when◌then◌else◌
     seats_back zero at zs e = back_none at zs (eqb at (settings_place s)) refl e
     seats_back (suc n) at zs e =
         by_test (laid_out s at)

@@ -8,7 +8,7 @@ use lib.Dec.{eqb}
 use lib.ListN.{length, get_or, length-append}
 use lib.Seq.{take-append_seam}
 use borrow.Author.Tests.{le-leb, eq-eqb}
-use Rattle.words.specs.Choice.{if◌then◌else◌}
+use Rattle.words.specs.Choice.{when◌then◌else◌}
 use Rattle.words.proofs.Tests.{both}
 use Rattle.octets.specs.Octets.{be16, be32, octets16, octets32, part}
 use Rattle.hall.specs.declared.Settings.{Settings}
@@ -173,7 +173,7 @@ module _ (x : Seat) (r : List ℕ) where
 
 pub all_read : (xs : List Seat) (s p r : List ℕ) (at : ℕ) → s ≡ p ++ (seats_octets xs ++ r) → at ≡ length p → length r ≡ tail_size
     → read_seats (length xs) s at ≡ whole xs
-unfolding read_seats seats_octets if◌then◌else◌
+unfolding read_seats seats_octets when◌then◌else◌
 all_read [] s p r at is here l =
     let q : length s ≡ length p + tail_size = rw is (length-append p r ∙ ap (λ (n : ℕ). length p + n) l) in
     rw (eq-eqb at (settings_place s) (omega arith))

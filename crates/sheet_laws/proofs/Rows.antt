@@ -9,7 +9,7 @@ use lib.Dec.{ltb, eqb}
 use lib.ListN.{length, get_or, drop, length-set, get_or-replicate, drop_of_length-le}
 use lib.Seq.{get_or-set_same, get_or-set_other, drop-cons}
 use borrow.Author.Tests.{eqb-true, eqb-false, lt-ltb, le-ltb, ltb-true, ltb-false}
-use Rattle.words.specs.Choice.{if◌then◌else◌, by_test}
+use Rattle.words.specs.Choice.{when◌then◌else◌, by_test}
 use Rattle.hall.specs.declared.Settings.{Settings}
 use Rattle.hall.specs.declared.Newcomer.{Newcomer}
 use Rattle.identities.specs.declared.Name.{Name}
@@ -24,7 +24,7 @@ use Rattle.sheet.specs.Layout.{Seat, seat_at, seats_from, seats_of}
 -- a search: the lowest seat where a test holds, and none where it holds nowhere
 pub first_at : (test : ℕ → Bool) (n s k : ℕ) → s ≤ k → k < s + n → ((i : ℕ) → i < k → test i ≡ false) → test k ≡ true →
     first_from test n s ≡ At k
-unfolding if◌then◌else◌
+unfolding when◌then◌else◌
 first_at test zero s k l h f t = absurd (omega arith)
 first_at test (suc n) s k l h f t =
     by_test (eqb s k) (λ e. let q : s ≡ k = eqb-true s k e in rw (q, t))
@@ -33,7 +33,7 @@ first_at test (suc n) s k l h f t =
     rw (f s lt) (first_at test n (suc s) k (omega arith) (omega arith) f t))
 
 pub first_none : (test : ℕ → Bool) (n s : ℕ) → ((i : ℕ) → i < s + n → test i ≡ false) → first_from test n s ≡ Nowhere
-unfolding if◌then◌else◌
+unfolding when◌then◌else◌
 first_none test zero s f = refl
 first_none test (suc n) s f = rw (f s (omega arith)) (first_none test n (suc s) (λ i h. f i (omega arith)))
 
@@ -144,7 +144,7 @@ module _ (h : Hall) (ns : Names) (zs : List Seat) (few : length zs ≤ 16) (row 
   none_left s l = drop_of_length-le zs l
 
   row_from : (n s : ℕ) → s + n ≡ 16 → seats_from h ns n s ≡ drop s zs
-  unfolding if◌then◌else◌
+  unfolding when◌then◌else◌
   row_from zero s e = sym (none_left s (omega arith))
   row_from (suc n) s e =
       by_test (ltb s (length zs))

@@ -1,7 +1,7 @@
 -- A sheet written by hand from document 01, "The sheet", with no help from the definitions: it loads, and as what it says. By computing
 -- alone, so the definitions are held from outside. Assumes nothing.
 use Rattle.std.specs.Prelude.{ℕ, true, false, List, [], ◌∷◌, ◌++◌, ◌≡◌, refl, replicate}
-use Rattle.words.specs.Choice.{if◌then◌else◌}
+use Rattle.words.specs.Choice.{when◌then◌else◌}
 use Rattle.octets.specs.Octets.{be16, be32, octets16, octets32, part, over}
 use Rattle.hall.specs.declared.Flags.{Flags}
 use Rattle.hall.specs.Seats.{settings_of, newcomer_of, in_range, empty_hall, seat_of, free_seat, with_seat}
@@ -37,7 +37,7 @@ opened : Type 0
 unfolding
     loading framing not_loaded settings_in zeros_fit read_seats read_seat who_is flags_of laid_out join_all join seated ssrc_taken seat_named same
     length_allowed seat_of free_seat with_seat with_name name_of octets_of no_names empty_hall in_range seats_of sheet_of sheet seats_octets octets_of_seat
-    settings_octets trailer flags_octet saving room_after over be16 be32 octets16 octets32 part if◌then◌else◌
+    settings_octets trailer flags_octet saving room_after over be16 be32 octets16 octets32 part when◌then◌else◌
 opened = ℕ
 
 pub accepted : (loading by_hand).number ≡ 0

@@ -1,7 +1,7 @@
 -- An answer as C programs are told it (document 01 gives every refusal a number, from 1 on): 0 or more for what is done, minus the number
 -- of a refusal for what is not. Every exported function answers so. Assumes nothing.
 use Rattle.std.specs.Prelude.{ℕ, Bool, true, false, List, ◌≡◌, eqb, ℤ, pos, negsuc, neg_ℤ}
-use Rattle.words.specs.Choice.{if◌then◌else◌}
+use Rattle.words.specs.Choice.{when◌then◌else◌}
 use Rattle.message.specs.Answers.{Answer, refused, result}
 
 -- a number of the paper: 0 for what is done, which stays 0, or that of a refusal
@@ -14,7 +14,7 @@ signed (refused n) = told_as n
 
 -- the answer by a number of the paper, n, where k is answered to what is done
 abbrev pub by_number : (n k : ℕ) → Answer ℕ
-by_number n k = if eqb n 0 then result k else refused n
+by_number n k = when eqb n 0 then result k else refused n
 
 -- an answer, and what is left in the lent room
 abbrev pub answers : Answer ℕ → List ℕ → ℤ × List ℕ

@@ -1,6 +1,6 @@
 -- The timers of document 01, "The desk": their numbers, and which run. Assumes nothing.
 use Rattle.std.specs.Prelude.{ℕ, Bool, true, false, eqb}
-use Rattle.words.specs.Choice.{if◌then◌else◌}
+use Rattle.words.specs.Choice.{when◌then◌else◌}
 use Rattle.steps.specs.declared.AlsoRuns.TheVariants.{NoMore, T2, T20}
 use Rattle.steps.specs.declared.Phase.{Phase}
 use Rattle.steps.specs.declared.Phase.TheVariants.{Stopped, Idle, Taken, Revoking}
@@ -11,13 +11,13 @@ use Rattle.timers.specs.declared.Running.{Running}
 -- a timer by its number; a number that names none is a timer that never runs
 unfoldable pub timer_named : ℕ → Timer
 timer_named n =
-    if eqb n 1 then timer.T1
-    else if eqb n 2 then timer.T2
-    else if eqb n 3 then timer.T3
-    else if eqb n 4 then timer.T4
-    else if eqb n 7 then timer.T7
-    else if eqb n 8 then timer.T8
-    else if eqb n 20 then timer.T20
+    when eqb n 1 then timer.T1
+    else when eqb n 2 then timer.T2
+    else when eqb n 3 then timer.T3
+    else when eqb n 4 then timer.T4
+    else when eqb n 7 then timer.T7
+    else when eqb n 8 then timer.T8
+    else when eqb n 20 then timer.T20
     else timer.NoSuchTimer
 
 -- Which timers run follows from the phase: T4 and perhaps T7 in Idle, T1 and perhaps T2 or T20 in Taken, T1, T3 and T8 in Revoking.

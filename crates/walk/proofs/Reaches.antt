@@ -9,7 +9,7 @@ use lib.Dec.{ltb, eqb, lit<}
 use lib.ListN.{length, get_or, get_or-eq_default}
 use borrow.Author.Tests.{ltb-true, ltb-false, eqb-true}
 use Rattle.words.proofs.Tests.{neither_left}
-use Rattle.words.specs.Choice.{if◌then◌else◌, by_test}
+use Rattle.words.specs.Choice.{when◌then◌else◌, by_test}
 use Rattle.message.specs.Table.{row_in, row_of, against, at_fault}
 use Rattle.message.proofs.Paddings.{padded_least, padded-holds}
 use Rattle.header.specs.Header.{header_size}
@@ -51,7 +51,7 @@ pub differ : ◌≡◌ {A = ℕ} 0 1 → ⊥
 differ z = omega arith
 
 start-more : (s : List ℕ) (f : FieldFound) (fs : List FieldFound) (i : ℕ) → Lies s f → Start s fs i → Start s (f ∷ fs) i
-unfolding start_of if◌then◌else◌
+unfolding start_of when◌then◌else◌
 start-more s f fs i l r =
     by_test (eqb i f.id) (λ e. one f l (sym (eqb-true i f.id e)) (rw e))
     (λ e. elim r [ none z ↦ none (rw e z) | one g k q z ↦ one g k q (rw e z) ])
@@ -64,9 +64,9 @@ behind s f fs i (whole gs) l e next =
 behind s f fs i (fault n) l e next = absurd (differ (cc))
 
 -- where the fields are whole no fault was met
-pub no_fault : {P : Type 0} (t : Bool) (n : ℕ) (rest : Fields) (fs : List FieldFound) → (if t then fault n else rest) ≡ whole fs
+pub no_fault : {P : Type 0} (t : Bool) (n : ℕ) (rest : Fields) (fs : List FieldFound) → (when t then fault n else rest) ≡ whole fs
     → (t ≡ false → rest ≡ whole fs → P) → P
-unfolding if◌then◌else◌
+unfolding when◌then◌else◌
 no_fault true n rest fs e then-so = absurd (differ (cc))
 no_fault false n rest fs e then-so = then-so refl e
 
@@ -96,7 +96,7 @@ starts (suc steps) before s at fs e i =
     (λ past next gs q. starts steps past s next gs q i)
 
 pub reach : (s : List ℕ) (fs : List FieldFound) → header_size ≤ length s → fields_in s ≡ whole fs → Reach s (start_of fs)
-unfolding fields_in row_in if◌then◌else◌
+unfolding fields_in row_in when◌then◌else◌
 reach s fs h e =
     let at : (i : ℕ) → Start s fs i = starts (length s) [] s header_size fs e in
     record {

@@ -9,7 +9,7 @@ use lib.Dec.{T as Holds, ltb, leb, eqb}
 use lib.ListN.{length, get_or, replicate, length-set, get_or-replicate}
 use lib.Seq.{get_or-set_same, get_or-set_other}
 use borrow.Author.Tests.{ltb-true, lt-ltb, leb-true, leb-false, eqb-true, eqb-false, eq-eqb, ne_eqb, not-true, not-false}
-use Rattle.words.specs.Choice.{if◌then◌else◌, by_test}
+use Rattle.words.specs.Choice.{when◌then◌else◌, by_test}
 use Rattle.message.specs.Table.{padded}
 use Rattle.field.specs.declared.FieldFound.{FieldFound}
 use Rattle.field.specs.declared.FieldStep.{FieldStep}
@@ -52,27 +52,27 @@ placed-more (g ∷ seen) f p h = (p.0, placed-more seen f p.1 h)
 
 -- one more behind those found: it is found where none before it has its ID
 start-more : (seen : List FieldFound) (f : FieldFound) (i : ℕ) → Placed seen
-    → start_of (seen ++ (f ∷ [])) i ≡ (if eqb (start_of seen i) 0 then (if eqb i f.id then f.start else 0) else start_of seen i)
-unfolding start_of if◌then◌else◌
+    → start_of (seen ++ (f ∷ [])) i ≡ (when eqb (start_of seen i) 0 then (when eqb i f.id then f.start else 0) else start_of seen i)
+unfolding start_of when◌then◌else◌
 start-more [] f i p = refl
 start-more (g ∷ seen) f i p =
     by_test (eqb i g.id) (λ e. rw (e, ne_eqb g.start 0 (λ q. omega (arith, p.0)))) (λ e. rw e (start-more seen f i p.1))
 
-or_nothing : (v : ℕ) → (if eqb v 0 then 0 else v) ≡ v
-unfolding if◌then◌else◌
+or_nothing : (v : ℕ) → (when eqb v 0 then 0 else v) ≡ v
+unfolding when◌then◌else◌
 or_nothing v = by_test (eqb v 0) (λ e. rw (e, eqb-true v 0 e)) (λ e. rw e)
 
 -- a start noted: what stands at its own ID, if none came before, and at any other
 noted_long : (starts : List ℕ) (j start : ℕ) → length (noted starts j start) ≡ length starts
-unfolding noted if◌then◌else◌
+unfolding noted when◌then◌else◌
 noted_long starts j start = by_test (ltb j 16 && eqb (get_or starts j 0) 0) (λ e. rw e (length-set starts j start)) (λ e. rw e)
 
 noted-same : (starts : List ℕ) (j start : ℕ) → length starts ≡ 16 → j < 16 → get_or starts j 0 ≡ 0 → get_or (noted starts j start) j 0 ≡ start
-unfolding noted if◌then◌else◌
+unfolding noted when◌then◌else◌
 noted-same starts j start l h z = rw (lt-ltb j 16 h, z) (get_or-set_same starts j start 0 (omega arith))
 
 noted_other : (starts : List ℕ) (j start i : ℕ) → eqb i j ≡ false → get_or (noted starts j start) i 0 ≡ get_or starts i 0
-unfolding noted if◌then◌else◌
+unfolding noted when◌then◌else◌
 noted_other starts j start i e =
     by_test (ltb j 16 && eqb (get_or starts j 0) 0) (λ t. rw t (get_or-set_other starts j i start 0 (eqb-false i j e))) (λ t. rw t)
 
@@ -89,7 +89,7 @@ module _ (starts : List ℕ) (seen : List FieldFound) (f : FieldFound) (p : Plac
   its_own = noted-same starts f.id f.start n.long low not_yet
 
   has_more : (i : ℕ) → i < 16 → get_or after i 0 ≡ start_of (seen ++ (f ∷ [])) i
-  unfolding if◌then◌else◌
+  unfolding when◌then◌else◌
   has_more i h =
       by_test (eqb i f.id)
       (λ e.
@@ -149,7 +149,7 @@ ahead s at (suc fewer) before h e = record { fewer = fewer; one_less = refl; goe
 
 walking_on : (s starts : List ℕ) (at : ℕ) (f : FieldFound) → step_at s at ≡ Field f → has_come starts f.id ≡ false
     → Walking s starts at → Walking s (noted starts f.id f.start) f.next
-unfolding if◌then◌else◌
+unfolding when◌then◌else◌
 walking_on s starts at f e new w =
     let k : Sound s at f = step_sound s at f e in
     let a : Ahead s at w.steps w.before = ahead s at w.steps w.before k.lies.inside w.enough in
@@ -224,13 +224,13 @@ repeated_not_whole q = differ (cc)
 -- at a field that came before, by itself sound or against the table, the walk ends with 14
 walked_repeated : (s starts : List ℕ) (at : ℕ) (f : FieldFound) → step_at s at ≡ Field f → has_come starts f.id ≡ true
     → Walking s starts at → (after : List ℕ) → Walked (fields_in s) Repeated after
-unfolding if◌then◌else◌
+unfolding when◌then◌else◌
 walked_repeated s starts at f e come w after =
     walked_fault s starts at Repeated (λ q. differ (cc)) repeated_not_whole w (λ rest. rw (e, w.come f.id ∙ come)) after
 
 walked_against : (s starts : List ℕ) (at i : ℕ) → step_at s at ≡ AgainstTheTable i → Walking s starts at
-    → Walked (fields_in s) (if has_come starts i then Repeated else Against) starts
-unfolding if◌then◌else◌
+    → Walked (fields_in s) (when has_come starts i then Repeated else Against) starts
+unfolding when◌then◌else◌
 walked_against s starts at i e w =
     by_test (has_come starts i)
     (λ t.

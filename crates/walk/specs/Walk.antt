@@ -1,7 +1,7 @@
 -- How the walk is held in the code: the starts of the table's fields found so far, in an array of 16, one for each ID below 16. What the
 -- walk is stands in field/specs/Fields. Assumes nothing.
 use Rattle.std.specs.Prelude.{ℕ, ◌<◌, ◌≤◌, ◌+◌, ◌-◌, Bool, true, false, not, ◌&&◌, List, ◌≡◌, ltb, eqb, length, get_or, set, replicate}
-use Rattle.words.specs.Choice.{if◌then◌else◌}
+use Rattle.words.specs.Choice.{when◌then◌else◌}
 use Rattle.message.specs.Answers.{refusal_number}
 use Rattle.message.specs.declared.Refusal.{Refusal}
 use Rattle.header.specs.Header.{header_size}
@@ -18,7 +18,7 @@ has_come starts i = ltb i 16 && not (eqb (get_or starts i 0) 0)
 
 -- a start noted, if none with its ID came before
 unfoldable pub noted : List ℕ → ℕ → ℕ → List ℕ
-noted starts i start = if ltb i 16 && eqb (get_or starts i 0) 0 then set starts i start else starts
+noted starts i start = when ltb i 16 && eqb (get_or starts i 0) 0 then set starts i start else starts
 
 -- whether a walk goes on behind what was handed out, and what that adds to the array
 abbrev pub is_passed : List ℕ → FieldStep → Bool
@@ -41,7 +41,7 @@ ended_by starts (FieldStep.Field f) = Repeated
 ended_by starts (FieldStep.Skipped f) = Whole
 ended_by starts FieldStep.End = Whole
 ended_by starts FieldStep.PastTheEnd = PastTheEnd
-ended_by starts (FieldStep.AgainstTheTable i) = if has_come starts i then Repeated else AgainstTheTable
+ended_by starts (FieldStep.AgainstTheTable i) = when has_come starts i then Repeated else AgainstTheTable
 
 -- the array has the start of each ID below 16
 pub record Notes (starts : List ℕ) (fs : List FieldFound) : Type 0 where

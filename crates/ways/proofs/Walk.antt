@@ -6,7 +6,7 @@ use mathlib.Core.List.{List, [], ◌∷◌}
 use native.Mathlib.Omega.{arith}
 use lib.Dec.{eqb, ltb}
 use borrow.Author.Tests.{eqb-true, eqb-false, eq-eqb, ltb-true}
-use Rattle.words.specs.Choice.{if◌then◌else◌, by_test, by_if}
+use Rattle.words.specs.Choice.{when◌then◌else◌, by_test, by_if}
 use Rattle.words.specs.Below.{and_left}
 use Rattle.words.proofs.Tests.{clash}
 use Rattle.message.specs.Answers as read
@@ -82,14 +82,14 @@ module _ (c : Core) (h : Hall) (t : ℕ) where
     pub plain : (r.answer ≡ Done) × (r.report ≡ record { first = r.report.first; second = r.report.second; marks = no_marks })
 
   informs : Sixth (informed c h t)
-  unfolding informed if◌then◌else◌
+  unfolding informed when◌then◌else◌
   informs =
       by_test (queues h t)
       (λ q. rw q (record { goes = way.informs refl (rw q) refl; plain = (refl, refl) }))
       (λ q. rw q (record { goes = way.informs refl (rw q) refl; plain = (refl, refl) }))
 
   takes_floor : (e : Entry) (b : AlsoRuns) → c.phase ≡ Taken e b → Sixth (revokes (informed c h t) e media_burst_preempted)
-  unfolding informed revokes if◌then◌else◌
+  unfolding informed revokes when◌then◌else◌
   takes_floor e b k =
       by_test (queues h t)
       (λ q. rw (q, something c.line t) (record { goes = way.informs_and_presses e b k refl refl refl; plain = (refl, refl) }))

@@ -10,7 +10,7 @@ use mathlib.Core.Bool.{true}
 use mathlib.Core.List.{List, [], ◌++◌}
 use mathlib.Core.Path.{◌≡◌, refl}
 use lib.ListN.{length, length-append}
-use Rattle.words.specs.Choice.{if◌then◌else◌}
+use Rattle.words.specs.Choice.{when◌then◌else◌}
 use Rattle.message.specs.Table.{row_in}
 use Rattle.message.specs.Message.{Said, said, fields_of}
 use Rattle.message.specs.declared.Message.{Message}
@@ -53,7 +53,7 @@ six p q r s t o = simp (length-append, p.is, q.is, r.is, s.is, t.is, o.is) (omeg
 
 module _ (m : Message) (src : List ℕ) (h : FieldsFit m src) where
   pub front_length : length (body (front_fields m src)) ≡ front_size m
-  unfolding body row_in if◌then◌else◌
+  unfolding body row_in when◌then◌else◌
   front_length =
       six
       (octet_sized 0 refl m.priority)
@@ -64,7 +64,7 @@ module _ (m : Message) (src : List ℕ) (h : FieldsFit m src) where
       (word_sized 5 refl m.permission)
 
   pub rest-length : length (body (rest_fields m src)) ≡ rest_size m
-  unfolding body row_in if◌then◌else◌
+  unfolding body row_in when◌then◌else◌
   rest-length =
       six
       (part_sized 6 refl src m.user h.user)

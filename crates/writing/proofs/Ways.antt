@@ -7,7 +7,7 @@ use mathlib.Core.List.{List}
 use mathlib.Core.Path.{◌≡◌, ap}
 use lib.ListN.{length}
 use borrow.Author.Tests.{lt-ltb, le-ltb}
-use Rattle.words.specs.Choice.{if◌then◌else◌}
+use Rattle.words.specs.Choice.{when◌then◌else◌}
 use Rattle.octets.specs.Octets.{over}
 use Rattle.message.specs.Message.{said}
 use Rattle.message.specs.Answers.{refused, result}
@@ -22,17 +22,17 @@ use Rattle.writing.specs.Writing.{writing, written, writing_answer}
 module _ (m : Message) (src room : List ℕ) where
   -- 12
   pub unreadable : readable m src ≡ false → writing m src (length room) ≡ refused 12
-  unfolding writing if◌then◌else◌
+  unfolding writing when◌then◌else◌
   unreadable r = rw r
 
   -- 13
   pub roomless : readable m src ≡ true → length room < length (wire (said m src)) → writing m src (length room) ≡ refused 13
-  unfolding writing if◌then◌else◌
+  unfolding writing when◌then◌else◌
   roomless r h = rw (r, lt-ltb _ _ h)
 
   pub accepted : readable m src ≡ true → length (wire (said m src)) ≤ length room →
       writing m src (length room) ≡ result (length (wire (said m src)))
-  unfolding writing if◌then◌else◌
+  unfolding writing when◌then◌else◌
   accepted r h = rw (r, le-ltb _ _ h)
 
   pub untouched : {n : ℕ} → writing m src (length room) ≡ refused n → written m src room ≡ room

@@ -1,6 +1,6 @@
 -- What the writer answers and what it leaves in the room (document 01, "What is answered to packets": 12, then 13). Assumes nothing.
 use Rattle.std.specs.Prelude.{ℕ, not, List, ◌≡◌, ltb, length}
-use Rattle.words.specs.Choice.{if◌then◌else◌}
+use Rattle.words.specs.Choice.{when◌then◌else◌}
 use Rattle.octets.specs.Octets.{over}
 use Rattle.message.specs.Message.{said}
 use Rattle.message.specs.Answers.{Answer, refused, result, refusal_number}
@@ -13,8 +13,8 @@ use Rattle.writing.specs.declared.Writing.TheVariants.{Written, Refused}
 -- 12 (writer) a message that no reader would accept; 13 the lent room is shorter than the whole result; else how many octets it has
 unfoldable pub writing : Message → List ℕ → ℕ → Answer ℕ
 writing m src room =
-    if not (readable m src) then refused 12
-    else if ltb room (length (wire (said m src))) then refused 13
+    when not (readable m src) then refused 12
+    else when ltb room (length (wire (said m src))) then refused 13
     else result (length (wire (said m src)))
 
 -- "A refusal returns its number only and writes nothing; a result leaves the room past its end untouched"

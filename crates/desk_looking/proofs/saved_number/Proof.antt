@@ -1,5 +1,5 @@
 -- `desk_looking::saved_number` keeps its promise, `r ≡ signed (saved_answer (saving_answer saving))`. Assumes nothing.
-use Rattle.words.specs.Choice.{if◌then◌else◌}
+use Rattle.words.specs.Choice.{when◌then◌else◌}
 use Rattle.signed.proofs.Signed.{passed}
 use mathlib.Core.Path.{◌∙◌}
 use native.Mathlib.Omega.{arith}
@@ -29,15 +29,15 @@ refusal-requires-2 : tie.Need-refusal-requires-2
 refusal-requires-2 c κs = search rules
 
 returns : tie.Need-returns
-unfolding if◌then◌else◌
+unfolding when◌then◌else◌
 returns c = rw c.before.before.saving.given.1 (passed c.found.type-inv ∙ c.found.ensures)
 
 returns-2 : tie.Need-returns-2
-unfolding if◌then◌else◌
+unfolding when◌then◌else◌
 returns-2 c = rw c.before.enum_told.given.1 (passed c.refusal.type-inv ∙ c.refusal.ensures)
 
 returns-3 : tie.Need-returns-3
-unfolding if◌then◌else◌
+unfolding when◌then◌else◌
 returns-3 c = rw c.before.enum-told2.given.1 (passed c.refusal2.type-inv ∙ c.refusal2.ensures)
 
 pub saved-number-spec : {M : Type 1} → statement M

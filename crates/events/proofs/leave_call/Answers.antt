@@ -1,11 +1,11 @@
 -- `events::leave_call` meets its contract. Assumes nothing.
 use mathlib.Core.Path.{sym}
-use Rattle.words.specs.Choice.{if◌then◌else◌}
+use Rattle.words.specs.Choice.{when◌then◌else◌}
 use Rattle.events.specs.Events.{leave}
 use Rattle.events.proofs.leave_call.Goals as goal
 
 pub returns-then-is_present : goal.returns-then-is_present
-unfolding leave if◌then◌else◌
+unfolding leave when◌then◌else◌
 returns-then-is_present c =
     rw (
       sym c.is_present.ensures,
@@ -16,5 +16,5 @@ returns-then-is_present c =
     )
 
 pub returns-else-is_present : goal.returns-else-is_present
-unfolding leave if◌then◌else◌
+unfolding leave when◌then◌else◌
 returns-else-is_present c = rw (sym c.is_present.ensures, c.if-is_present.false, c.answer-step.ensures)

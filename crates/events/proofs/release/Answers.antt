@@ -1,15 +1,15 @@
 -- `events::release` meets its contract. Assumes nothing.
 use mathlib.Core.Path.{sym}
-use Rattle.words.specs.Choice.{if◌then◌else◌}
+use Rattle.words.specs.Choice.{when◌then◌else◌}
 use Rattle.events.specs.Events.{releases}
 use Rattle.events.proofs.release.Goals as goal
 
 pub returns-then-is_holder : goal.returns-then-is_holder
-unfolding releases if◌then◌else◌
+unfolding releases when◌then◌else◌
 returns-then-is_holder c = rw (sym c.is_holder.ensures, c.if-is_holder.true) c.end_floor.ensures
 
 pub returns-then-is_waiting : goal.returns-then-is_waiting
-unfolding releases if◌then◌else◌
+unfolding releases when◌then◌else◌
 returns-then-is_waiting c =
     rw (
       sym c.is_holder.ensures,
@@ -19,7 +19,7 @@ returns-then-is_waiting c =
     ) c.strike_off.ensures
 
 pub returns-else-is_waiting : goal.returns-else-is_waiting
-unfolding releases if◌then◌else◌
+unfolding releases when◌then◌else◌
 returns-else-is_waiting c =
     rw (
       sym c.is_holder.ensures,

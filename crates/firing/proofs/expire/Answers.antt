@@ -1,15 +1,15 @@
 -- `firing::expire` meets its contract. Assumes nothing.
 use mathlib.Core.Path.{sym}
-use Rattle.words.specs.Choice.{if◌then◌else◌}
+use Rattle.words.specs.Choice.{when◌then◌else◌}
 use Rattle.firing.specs.Firing.{expires}
 use Rattle.firing.proofs.expire.Goals as goal
 
 pub returns-then-is_stopped : goal.returns-then-is_stopped
-unfolding expires if◌then◌else◌
+unfolding expires when◌then◌else◌
 returns-then-is_stopped c = rw (sym c.is_stopped.ensures, c.if-is_stopped.true) c.answer.ensures
 
 pub returns-then-is_running : goal.returns-then-is_running
-unfolding expires if◌then◌else◌
+unfolding expires when◌then◌else◌
 returns-then-is_running c =
     rw (
       sym c.is_stopped.ensures,
@@ -20,7 +20,7 @@ returns-then-is_running c =
     ) c.fire.ensures
 
 pub returns-else-is_running : goal.returns-else-is_running
-unfolding expires if◌then◌else◌
+unfolding expires when◌then◌else◌
 returns-else-is_running c =
     rw (
       sym c.is_stopped.ensures,

@@ -5,7 +5,7 @@ use mathlib.Core.Path.{◌≡◌, refl, ap, sym, ◌∙◌}
 use native.Mathlib.Omega.{arith}
 use lib.Dec.{ltb}
 use borrow.Author.Tests.{ltb-true, ltb-false, not-true}
-use Rattle.words.specs.Choice.{if◌then◌else◌, if_yes, if_no, by_test}
+use Rattle.words.specs.Choice.{when◌then◌else◌, if_yes, if_no, by_test}
 use Rattle.words.specs.Below.{and_left, and_right}
 use Rattle.words.proofs.Tests.{clash, both}
 use Rattle.hall.specs.declared.Found.TheVariants.{At}

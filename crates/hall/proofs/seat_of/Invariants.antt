@@ -5,7 +5,7 @@ use mathlib.Core.List.{List}
 use mathlib.Core.Path.{◌≡◌}
 use lib.Dec.{eqb}
 use lib.ListN.{get_or}
-use Rattle.words.specs.Choice.{if◌then◌else◌}
+use Rattle.words.specs.Choice.{when◌then◌else◌}
 use Rattle.hall.specs.declared.Found.TheVariants.{At}
 use Rattle.hall.specs.Seats.{first_from, lowest}
 use Rattle.hall.proofs.seat_of.Given as goal
@@ -17,7 +17,7 @@ sits present ssrcs x s = get_or present s false && eqb (get_or ssrcs s 0) x
 abbrev pub invariant-loop-s : goal.invariant-loop-s
 invariant-loop-s l =
     (l.s ≤ 16) × (l.found ≡ true → 1 ≤ l.s)
-    × (lowest (sits l.present l.ssrcs l.ssrc) ≡ (if l.found then At (l.s - 1) else first_from (sits l.present l.ssrcs l.ssrc) (16 - l.s) l.s))
+    × (lowest (sits l.present l.ssrcs l.ssrc) ≡ (when l.found then At (l.s - 1) else first_from (sits l.present l.ssrcs l.ssrc) (16 - l.s) l.s))
 
 abbrev pub decreases-loop-s : goal.decreases-loop-s
 decreases-loop-s l = 16 - l.s

@@ -1,15 +1,15 @@
 -- `joining::join_call` meets its contract. Assumes nothing.
 use mathlib.Core.Path.{sym}
-use Rattle.words.specs.Choice.{if◌then◌else◌}
+use Rattle.words.specs.Choice.{when◌then◌else◌}
 use Rattle.joining.specs.Join.{join}
 use Rattle.joining.proofs.join_call.Goals as goal
 
 pub returns-then-not-allowed_length : goal.returns-then-not-allowed_length
-unfolding join if◌then◌else◌
+unfolding join when◌then◌else◌
 returns-then-not-allowed_length c = rw (sym c.allowed_length.ensures, c.if-not-allowed_length.true) c.not_joined.ensures
 
 pub returns-in-At : goal.returns-in-At
-unfolding join if◌then◌else◌
+unfolding join when◌then◌else◌
 returns-in-At c =
     rw (
       sym c.allowed_length.ensures,
@@ -19,7 +19,7 @@ returns-in-At c =
     ) c.not_joined-in-At.ensures
 
 pub returns-then-ssrc_taken : goal.returns-then-ssrc_taken
-unfolding join if◌then◌else◌
+unfolding join when◌then◌else◌
 returns-then-ssrc_taken c =
     rw (
       sym c.allowed_length.ensures,
@@ -31,7 +31,7 @@ returns-then-ssrc_taken c =
     ) c.not_joined-then-ssrc_taken.ensures
 
 pub returns : goal.returns
-unfolding join if◌then◌else◌
+unfolding join when◌then◌else◌
 returns c =
     rw (
       sym c.allowed_length.ensures,

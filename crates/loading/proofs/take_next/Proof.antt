@@ -3,7 +3,7 @@ use Rattle.octets.specs.Octets.{part}
 use lib.ListN.{take, drop}
 use Rattle.loading.proofs.Loads.{turn_made}
 use lib.ListN.{get_or}
-use Rattle.words.specs.Choice.{if◌then◌else◌}
+use Rattle.words.specs.Choice.{when◌then◌else◌}
 use Rattle.loading.specs.Walk.{turn_at}
 use Prim.Native.Nat.{ℕ, ◌+◌, ◌-◌}
 use mathlib.Core.Path.{◌≡◌, sym, ap, ◌∙◌}
@@ -84,7 +84,7 @@ returns c =
     (ap (λ (n : ℕ). take n (drop (at + 7) s)) q) c.before.before.join-call.ensures
 
 returns-2 : tie.Need-returns-2
-unfolding turn_at if◌then◌else◌
+unfolding turn_at when◌then◌else◌
 returns-2 c = rw (sym c.before.laid_out.ensures, c.if1.false)
 
 pub take-next-spec : {M : Type 1} → statement M

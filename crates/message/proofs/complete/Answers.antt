@@ -1,12 +1,12 @@
 -- A message tells of each required field whether it has it.
 use mathlib.Core.Path.{◌∙◌}
-use Rattle.words.specs.Choice.{if◌then◌else◌}
+use Rattle.words.specs.Choice.{when◌then◌else◌}
 use Rattle.message.specs.Message.{complete, said, has, fields_of}
 use Rattle.message.proofs.Required.{required_by}
 use Rattle.message.proofs.complete.Goals as goal
 
 pub returns : goal.returns
-unfolding complete said has if◌then◌else◌
+unfolding complete said has when◌then◌else◌
 returns c = λ src.
     let m = c.args.m in
     c.has_required.ensures

@@ -3,7 +3,7 @@
 use mathlib.Core.Path.{refl, sym}
 use native.Mathlib.Nat.{add-zero}
 use borrow.Author.Tests.{eq-eqb, ne_eqb}
-use Rattle.words.specs.Choice.{if◌then◌else◌}
+use Rattle.words.specs.Choice.{when◌then◌else◌}
 use Rattle.octets.specs.Octets.{octets16}
 use Rattle.reading.specs.Reading.{cause_at}
 use Rattle.message_octets.proofs.Laying.{lays_nothing, lays_octets}
@@ -11,13 +11,13 @@ use native.Mathlib.Omega.{arith}
 use Rattle.message_octets.proofs.lay_cause.Goals as goal
 
 pub returns-then-at-eq0 : goal.returns-then-at-eq0
-unfolding cause_at if◌then◌else◌ octets16
+unfolding cause_at when◌then◌else◌ octets16
 returns-then-at-eq0 c =
     let a = c.args in
     rw (eq-eqb _ _ c.if-at-eq0.true) (record { lays = lays_nothing a.room.now a.to _ c.requires.blank.0 2 c.requires.blank.1 refl; value = sym (add-zero a.has); upper_bound = omega arith })
 
 pub returns : goal.returns
-unfolding cause_at if◌then◌else◌ octets16
+unfolding cause_at when◌then◌else◌ octets16
 returns c =
     let a = c.args in
     let b = c.requires.blank.0 in

@@ -3,7 +3,7 @@
 use mathlib.Core.Path.{refl, sym}
 use native.Mathlib.Nat.{add-zero}
 use borrow.Author.Tests.{eq-eqb, ne_eqb}
-use Rattle.words.specs.Choice.{if◌then◌else◌}
+use Rattle.words.specs.Choice.{when◌then◌else◌}
 use Rattle.reading.specs.Reading.{octet_at}
 use Rattle.message_octets.proofs.Laying.{lays_nothing, lays_octets}
 use Rattle.octets.proofs.Over.{over-one}
@@ -11,14 +11,14 @@ use native.Mathlib.Omega.{arith}
 use Rattle.message_octets.proofs.lay_octet.Goals as goal
 
 pub returns-then-at-eq0 : goal.returns-then-at-eq0
-unfolding octet_at if◌then◌else◌
+unfolding octet_at when◌then◌else◌
 returns-then-at-eq0 c =
     let a = c.args in
     rw (eq-eqb _ _ c.if-at-eq0.true)
     (record { lays = lays_nothing a.room.now a.to _ c.requires.blank.0 1 c.requires.blank.1 refl; value = sym (add-zero a.has); upper_bound = omega arith })
 
 pub returns : goal.returns
-unfolding octet_at if◌then◌else◌
+unfolding octet_at when◌then◌else◌
 returns c =
     let a = c.args in
     let b = c.requires.blank.0 in

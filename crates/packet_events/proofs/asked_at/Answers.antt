@@ -1,13 +1,13 @@
 -- `packet_events::asked_at` meets its contract. Assumes nothing.
 use borrow.Author.Tests.{eq-eqb, ne_eqb}
-use Rattle.words.specs.Choice.{if◌then◌else◌}
+use Rattle.words.specs.Choice.{when◌then◌else◌}
 use Rattle.reading.specs.Reading.{octet_at}
 use Rattle.packet_events.proofs.asked_at.Goals as goal
 
 pub returns-then-at-eq0 : goal.returns-then-at-eq0
-unfolding octet_at if◌then◌else◌
+unfolding octet_at when◌then◌else◌
 returns-then-at-eq0 c = rw (eq-eqb _ _ c.if-at-eq0.true)
 
 pub returns : goal.returns
-unfolding octet_at if◌then◌else◌
+unfolding octet_at when◌then◌else◌
 returns c = rw (ne_eqb _ _ c.if-at-eq0.false)

@@ -1,7 +1,7 @@
 -- A required field is there where its start is not 0.
 use mathlib.Core.Path.{refl, ◌∙◌}
 use lib.ListN.{get_or}
-use Rattle.words.specs.Choice.{if◌then◌else◌}
+use Rattle.words.specs.Choice.{when◌then◌else◌}
 use Rattle.message.specs.Message.{complete, said, has, fields_of, is_there, of_octet, of_word, of_part, of_cause, of_queue}
 use Rattle.message.proofs.Required.{required_by}
 use Rattle.reading.specs.Reading.{message_at, octet_at, word_at, part_at, cause_at, queue_at}
@@ -9,7 +9,7 @@ use Rattle.reading.proofs.Judges.{given-at}
 use Rattle.reading.proofs.has_all.Goals as goal
 
 pub returns : goal.returns
-unfolding complete said has if◌then◌else◌ message_at word_at octet_at part_at cause_at queue_at
+unfolding complete said has when◌then◌else◌ message_at word_at octet_at part_at cause_at queue_at
 returns c = λ s.
     let a = c.args in
     let m = message_at a.kind s (λ i. get_or a.starts.now i 0) in

@@ -1,13 +1,13 @@
 -- `reading::number_at` keeps its promise, `r ≡ number_at (now s.entry) at`. Assumes nothing.
 use borrow.Author.Tests.{eq-eqb, ne_eqb}
-use Rattle.words.specs.Choice.{if◌then◌else◌}
+use Rattle.words.specs.Choice.{when◌then◌else◌}
 use Rattle.reading.specs.Reading.{number_at}
 use Rattle.reading.proofs.number_at.Goals as goal
 
 pub returns-then-at-eq0 : goal.returns-then-at-eq0
-unfolding number_at if◌then◌else◌
+unfolding number_at when◌then◌else◌
 returns-then-at-eq0 c = rw (eq-eqb _ _ c.if-at-eq0.true)
 
 pub returns : goal.returns
-unfolding number_at if◌then◌else◌
+unfolding number_at when◌then◌else◌
 returns c = rw (c.number32.ensures, ne_eqb _ _ c.if-at-eq0.false)

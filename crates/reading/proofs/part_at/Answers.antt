@@ -1,13 +1,13 @@
 -- `reading::part_at` keeps its promise, `r ≡ part_at (now s.entry) at`. Assumes nothing.
 use borrow.Author.Tests.{eq-eqb, ne_eqb}
-use Rattle.words.specs.Choice.{if◌then◌else◌}
+use Rattle.words.specs.Choice.{when◌then◌else◌}
 use Rattle.reading.specs.Reading.{part_at}
 use Rattle.reading.proofs.part_at.Goals as goal
 
 pub returns-then-at-eq0 : goal.returns-then-at-eq0
-unfolding part_at if◌then◌else◌
+unfolding part_at when◌then◌else◌
 returns-then-at-eq0 c = rw (eq-eqb _ _ c.if-at-eq0.true)
 
 pub returns : goal.returns
-unfolding part_at if◌then◌else◌
+unfolding part_at when◌then◌else◌
 returns c = rw (ne_eqb _ _ c.if-at-eq0.false)

@@ -5,7 +5,7 @@ use native.Mathlib.Nat.{add-sub_cancel_left}
 use mathlib.Core.Path.{ap, refl}
 use lib.ListN.{length, take, drop}
 use borrow.Author.Tests.{le-leb, lt-leb}
-use Rattle.words.specs.Choice.{if◌then◌else◌}
+use Rattle.words.specs.Choice.{when◌then◌else◌}
 use Rattle.octets.specs.Octets.{part}
 use native.Mathlib.Omega.{arith}
 use Rattle.reading.proofs.part_in.Goals.{else-from-s, then-from-s+else-count-s}
@@ -15,7 +15,7 @@ pub returns-in_default : goal.returns-in_default
 returns-in_default c = rw c.in_default.is (record { value = refl; place = refl })
 
 pub returns-then-count-s : goal.returns-then-count-s
-unfolding part if◌then◌else◌
+unfolding part when◌then◌else◌
 returns-then-count-s c =
     let s = c.args.s.now in
     let from = c.in-At.from in
@@ -25,7 +25,7 @@ returns-then-count-s c =
     (record { value = ap (λ (k : ℕ). take k (drop from s)) (add-sub_cancel_left from count); place = refl })
 
 pub returns : goal.returns
-unfolding if◌then◌else◌
+unfolding when◌then◌else◌
 returns c =
     let s = c.args.s.now in
     let from = c.in-At.from in

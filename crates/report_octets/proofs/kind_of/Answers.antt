@@ -2,35 +2,35 @@
 use Rattle.report_octets.specs.Report.{kind_of}
 use borrow.Author.Tests.{ne_eqb}
 use Rattle.std.proofs.Common.{◌≡◌, arith}
-use Rattle.words.specs.Choice.{if◌then◌else◌}
+use Rattle.words.specs.Choice.{when◌then◌else◌}
 use Rattle.report_octets.proofs.kind_of.Goals as goal
 
 pub returns-in-1 : goal.returns-in-1
-unfolding kind_of if◌then◌else◌
+unfolding kind_of when◌then◌else◌
 returns-in-1 c = rw c.in-1.is
 
 pub returns-in-2 : goal.returns-in-2
-unfolding kind_of if◌then◌else◌
+unfolding kind_of when◌then◌else◌
 returns-in-2 c = rw c.in-2.is
 
 pub returns-in-3 : goal.returns-in-3
-unfolding kind_of if◌then◌else◌
+unfolding kind_of when◌then◌else◌
 returns-in-3 c = rw c.in-3.is
 
 pub returns-in-5 : goal.returns-in-5
-unfolding kind_of if◌then◌else◌
+unfolding kind_of when◌then◌else◌
 returns-in-5 c = rw c.in-5.is
 
 pub returns-in-6 : goal.returns-in-6
-unfolding kind_of if◌then◌else◌
+unfolding kind_of when◌then◌else◌
 returns-in-6 c = rw c.in-6.is
 
 pub returns-in-9 : goal.returns-in-9
-unfolding kind_of if◌then◌else◌
+unfolding kind_of when◌then◌else◌
 returns-in-9 c = rw c.in-9.is
 
 pub returns-in_default : goal.returns-in_default
-unfolding kind_of if◌then◌else◌
+unfolding kind_of when◌then◌else◌
 returns-in_default c =
     let k = c.args.q.kind in
     let n1 : k ≡ 1 → ⊥ = λ e. omega (arith, e) in

@@ -1,18 +1,18 @@
 -- `request::refusal` meets its contract. Assumes nothing.
 use mathlib.Core.Path.{sym}
-use Rattle.words.specs.Choice.{if◌then◌else◌}
+use Rattle.words.specs.Choice.{when◌then◌else◌}
 use Rattle.request.proofs.refusal.Goals as goal
 
 pub returns-then-waits : goal.returns-then-waits
-unfolding if◌then◌else◌
+unfolding when◌then◌else◌
 returns-then-waits c = rw c.if-waits.true
 
 pub returns-then-press-queueing : goal.returns-then-press-queueing
-unfolding if◌then◌else◌
+unfolding when◌then◌else◌
 returns-then-press-queueing c = rw (c.if-waits.false, sym c.negotiated_queueing-queueing.ensures, c.if-press-queueing.true)
 
 pub returns-then-is_full : goal.returns-then-is_full
-unfolding if◌then◌else◌
+unfolding when◌then◌else◌
 returns-then-is_full c =
     rw (
       c.if-waits.false,
@@ -23,7 +23,7 @@ returns-then-is_full c =
     )
 
 pub returns-else-is_full : goal.returns-else-is_full
-unfolding if◌then◌else◌
+unfolding when◌then◌else◌
 returns-else-is_full c =
     rw (
       c.if-waits.false,

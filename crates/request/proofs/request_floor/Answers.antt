@@ -1,15 +1,15 @@
 -- `request::request_floor` meets its contract. Assumes nothing.
 use mathlib.Core.Path.{sym}
-use Rattle.words.specs.Choice.{if◌then◌else◌}
+use Rattle.words.specs.Choice.{when◌then◌else◌}
 use Rattle.request.specs.Request.{request}
 use Rattle.request.proofs.request_floor.Goals as goal
 
 pub returns-then-is_holder : goal.returns-then-is_holder
-unfolding request if◌then◌else◌
+unfolding request when◌then◌else◌
 returns-then-is_holder c = rw (sym c.is_holder.ensures, c.if-is_holder.true) c.holder_asks.ensures
 
 pub returns-then-receives_only : goal.returns-then-receives_only
-unfolding request if◌then◌else◌
+unfolding request when◌then◌else◌
 returns-then-receives_only c =
     rw (
       sym c.is_holder.ensures,
@@ -19,7 +19,7 @@ returns-then-receives_only c =
     ) c.deny.ensures
 
 pub returns-then-is_idle : goal.returns-then-is_idle
-unfolding request if◌then◌else◌
+unfolding request when◌then◌else◌
 returns-then-is_idle c =
     rw (
       sym c.is_holder.ensures,
@@ -31,7 +31,7 @@ returns-then-is_idle c =
     ) c.idle_request.ensures
 
 pub returns : goal.returns
-unfolding request if◌then◌else◌
+unfolding request when◌then◌else◌
 returns c =
     rw (
       sym c.is_holder.ensures,

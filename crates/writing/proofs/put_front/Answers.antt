@@ -2,16 +2,16 @@
 use mathlib.Core.Path.{refl}
 use Rattle.message.specs.Table.{row_in}
 use Rattle.field_writing.proofs.Bodies.{field_fits, field-rest, lay_field, lay_end}
-use Rattle.words.specs.Choice.{if◌then◌else◌}
+use Rattle.words.specs.Choice.{when◌then◌else◌}
 use Rattle.writing.proofs.put_front.Goals as goal
 
 pub put_octet-at-requires : goal.put_octet-at-requires
-unfolding row_in if◌then◌else◌
+unfolding row_in when◌then◌else◌
 put_octet-at-requires c =
     record { id_value = refl; o_in_bounds = field_fits _ _ _ c.args.room.now _ c.requires.src_in_bounds }
 
 pub put_word-at-requires : goal.put_word-at-requires
-unfolding row_in if◌then◌else◌
+unfolding row_in when◌then◌else◌
 put_word-at-requires c =
     let fits_1 = field-rest _ _ _ _ _ c.requires.src_in_bounds c.put_octet-at.ensures in
     record { id_value = refl; w_in_bounds = field_fits _ _ _ c.put_octet-at.new.room _ fits_1 }
@@ -30,7 +30,7 @@ put_queue-at-requires c =
     field_fits _ _ _ c.put_cause-at.new.room _ fits_3
 
 pub put_identity-at-requires : goal.put_identity-at-requires
-unfolding row_in if◌then◌else◌
+unfolding row_in when◌then◌else◌
 put_identity-at-requires c =
     let fits_1 = field-rest _ _ _ _ _ c.requires.src_in_bounds c.put_octet-at.ensures in
     let fits_2 = field-rest _ _ _ _ _ fits_1 c.put_word-at.ensures in
@@ -39,7 +39,7 @@ put_identity-at-requires c =
     record { id_value = refl; p_bound = c.requires.fields_fit.short.granted; p_value = c.requires.fields_fit.granted; p_in_bounds = field_fits _ _ _ c.put_queue-at.new.room _ fits_4 }
 
 pub put_word-requires : goal.put_word-requires
-unfolding row_in if◌then◌else◌
+unfolding row_in when◌then◌else◌
 put_word-requires c =
     let fits_1 = field-rest _ _ _ _ _ c.requires.src_in_bounds c.put_octet-at.ensures in
     let fits_2 = field-rest _ _ _ _ _ fits_1 c.put_word-at.ensures in

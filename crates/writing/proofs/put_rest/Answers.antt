@@ -2,29 +2,29 @@
 use mathlib.Core.Path.{refl}
 use Rattle.message.specs.Table.{row_in}
 use Rattle.field_writing.proofs.Bodies.{field_fits, field-rest, lay_field, lay_end}
-use Rattle.words.specs.Choice.{if◌then◌else◌}
+use Rattle.words.specs.Choice.{when◌then◌else◌}
 use Rattle.writing.proofs.put_rest.Goals as goal
 
 pub put_identity-at-requires : goal.put_identity-at-requires
-unfolding row_in if◌then◌else◌
+unfolding row_in when◌then◌else◌
 put_identity-at-requires c =
     record { id_value = refl; p_bound = c.requires.fields_fit.short.user; p_value = c.requires.fields_fit.user; p_in_bounds = field_fits _ _ _ c.args.room.now _ c.requires.src_in_bounds }
 
 pub put_word-at-requires : goal.put_word-at-requires
-unfolding row_in if◌then◌else◌
+unfolding row_in when◌then◌else◌
 put_word-at-requires c =
     let fits_1 = field-rest _ _ _ _ _ c.requires.src_in_bounds c.put_identity-at.ensures in
     record { id_value = refl; w_in_bounds = field_fits _ _ _ c.put_identity-at.new.room _ fits_1 }
 
 pub put_word-at-requires-2 : goal.put_word-at-requires-2
-unfolding row_in if◌then◌else◌
+unfolding row_in when◌then◌else◌
 put_word-at-requires-2 c =
     let fits_1 = field-rest _ _ _ _ _ c.requires.src_in_bounds c.put_identity-at.ensures in
     let fits_2 = field-rest _ _ _ _ _ fits_1 c.put_word-at.ensures in
     record { id_value = refl; w_in_bounds = field_fits _ _ _ c.put_word-at.new.room _ fits_2 }
 
 pub put_octet-at-requires : goal.put_octet-at-requires
-unfolding row_in if◌then◌else◌
+unfolding row_in when◌then◌else◌
 put_octet-at-requires c =
     let fits_1 = field-rest _ _ _ _ _ c.requires.src_in_bounds c.put_identity-at.ensures in
     let fits_2 = field-rest _ _ _ _ _ fits_1 c.put_word-at.ensures in
@@ -32,7 +32,7 @@ put_octet-at-requires c =
     record { id_value = refl; o_in_bounds = field_fits _ _ _ c.put_word-at-2.new.room _ fits_3 }
 
 pub put_word-at-requires-3 : goal.put_word-at-requires-3
-unfolding row_in if◌then◌else◌
+unfolding row_in when◌then◌else◌
 put_word-at-requires-3 c =
     let fits_1 = field-rest _ _ _ _ _ c.requires.src_in_bounds c.put_identity-at.ensures in
     let fits_2 = field-rest _ _ _ _ _ fits_1 c.put_word-at.ensures in
