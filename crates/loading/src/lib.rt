@@ -1,4 +1,6 @@
 // Loads a sheet (document 01, "The sheet", 41 to 45): a fresh desk with its settings and seats, or the first refusal that applies.
+#![tactic(auto)]
+
 ghost use Rattle.std.specs.Prelude.{◌≡◌, ◌+◌, ◌≤◌, length};
 ghost use Rattle.hall.specs.Seats.{empty_hall};
 ghost use Rattle.identities.specs.Identity.{no_names};
@@ -13,7 +15,7 @@ use sheet::Verdict;
 use steps::Core;
 
 // The verdict, and the desk: fresh, and empty with zeros for its settings where the sheet was refused.
-#[derive(Drop)]
+#[derive(Clone, Copy)]
 pub struct Loading {
     pub verdict: Verdict,
     pub core: Core,
@@ -22,7 +24,7 @@ pub struct Loading {
 }
 
 // One seat of a sheet read and seated: the seat it took, if it took one, and where the next begins.
-#[derive(Drop)]
+#[derive(Clone, Copy)]
 pub struct Turn {
     pub seat: Found,
     pub next: usize,
