@@ -12,7 +12,8 @@ use Rattle.clocks_laws.specs.Clockwork.{StartedRuns, StoppedRunsNot, NotBoth, Cl
 
 -- each timer's answer is its own
 module _ (before after : Running) where
-  started : (fired : Timer) (given : Bool) (t : Timer) → runs (starts_anew before after fired given) t ≡ is_started before after fired given t
+  started : (fired : Timer) (given : Bool) (t : Timer) →
+      runs (starts_anew before after fired given) t ≡ is_started before after fired given t
   unfolding starts_anew
   started fired given T1 = refl
   started fired given T2 = refl

@@ -1,6 +1,7 @@
 -- What the octets of a desk say of its line: how many wait, who stands at a place, where a seat is found. Assumes nothing.
 use Rattle.desk_octets.specs.Places.{phase_place, timers_place, holder_place, held_at_place, cause_place, c7_place, c20_place, count_place}
-use Rattle.desk_octets.specs.Places.{waiting_column, waiting_zero, priorities_column, priorities_zero, limit_place, c7_limit_place, c20_limit_place}
+use Rattle.desk_octets.specs.Places.{waiting_column, waiting_zero, priorities_column, priorities_zero, limit_place, c7_limit_place}
+use Rattle.desk_octets.specs.Places.{c20_limit_place}
 use Prim.Native.Nat.{ℕ, zero, suc, ◌+◌, ◌≤◌, ◌<◌}
 use mathlib.Core.Path.{◌≡◌, refl, ap, sym, ◌∙◌}
 use mathlib.Core.Bool.{Bool, true, false, not, ◌&&◌, ◌||◌, and-true}
@@ -89,7 +90,8 @@ module _ (s : List ℕ) (few : nth_octet s count_place ≤ 15) where
   pub seat_at_lem : (i : ℕ) → i < nth_octet s count_place → (get_or (line_in s) i empty).seat ≡ nth_octet s (waiting_column + i)
   seat_at_lem i h = ap (λ (e : Entry). e.seat) (line_at i h)
 
-  pub first_in : (i : ℕ) → i < nth_octet s count_place → all_below (is_another s (nth_octet s (waiting_column + i))) i ≡ is_first (line_in s) i
+  pub first_in : (i : ℕ) → i < nth_octet s count_place →
+      all_below (is_another s (nth_octet s (waiting_column + i))) i ≡ is_first (line_in s) i
   first_in i h =
       below_same (is_another s (nth_octet s (waiting_column + i)))
       (λ j. not (eqb (get_or (line_in s) j empty).seat (get_or (line_in s) i empty).seat)) i
@@ -98,7 +100,8 @@ module _ (s : List ℕ) (few : nth_octet s count_place ≤ 15) where
 
   pub apart_in : (x : ℕ) → all_below (is_another s x) (nth_octet s count_place) ≡ not (is_in x (line_in s))
   apart_in x =
-      below_same (is_another s x) (λ j. not (eqb (get_or (line_in s) j empty).seat x)) (nth_octet s count_place) (λ j k. rw (seat_at_lem j k))
+      below_same (is_another s x) (λ j. not (eqb (get_or (line_in s) j empty).seat x)) (nth_octet s count_place)
+      (λ j k. rw (seat_at_lem j k))
       ∙ ap (all_below (λ j. not (eqb (get_or (line_in s) j empty).seat x))) (sym line-length)
       ∙ sym (apart_is x (line_in s))
 
@@ -178,12 +181,14 @@ module _ (s : List ℕ) where
       pub phase_2 : nth_octet s phase_place ≡ 2 →
           (core_at s).phase ≡ Taken (entry_of (nth_octet s holder_place) (nth_octet s held_at_place)) (also_of (nth_octet s timers_place))
       unfolding core_at phase_at phase_of when◌then◌else◌
-      phase_2 e = rw (ne_eqb (nth_octet s phase_place) 0 no-0, ne_eqb (nth_octet s phase_place) 1 no-1, eq-eqb (nth_octet s phase_place) 2 e)
+      phase_2 e =
+          rw (ne_eqb (nth_octet s phase_place) 0 no-0, ne_eqb (nth_octet s phase_place) 1 no-1, eq-eqb (nth_octet s phase_place) 2 e)
 
       pub phase_3 : ¬ (nth_octet s phase_place ≡ 2) →
           (core_at s).phase ≡ Revoking (entry_of (nth_octet s holder_place) (nth_octet s held_at_place)) (be16 s cause_place)
       unfolding core_at phase_at phase_of when◌then◌else◌
-      phase_3 e = rw (ne_eqb (nth_octet s phase_place) 0 no-0, ne_eqb (nth_octet s phase_place) 1 no-1, ne_eqb (nth_octet s phase_place) 2 e)
+      phase_3 e =
+          rw (ne_eqb (nth_octet s phase_place) 0 no-0, ne_eqb (nth_octet s phase_place) 1 no-1, ne_eqb (nth_octet s phase_place) 2 e)
 
 -- the counters
 pub core_is : (s : List ℕ) → (line_sound (hall_at s) (core_at s).line && floor_sound (hall_at s) (line_in s) (core_at s).phase

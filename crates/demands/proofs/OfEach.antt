@@ -27,7 +27,8 @@ use Rattle.events.specs.declared.Event.TheVariants.{Start, Stop, Expiry, Request
 use Rattle.timers.specs.Timers.{is_stopped}
 use Rattle.events.specs.declared.Desk.{Desk}
 use Rattle.history.specs.Doing.{Doing}
-use Rattle.history.specs.Asking.{Becoming, no_event, an_event, becomes, Asking, nobody, asks, asked_by, asked_in, asking, gives_up, stops_by}
+use Rattle.history.specs.Asking.{Becoming, no_event, an_event, becomes, Asking, nobody, asks, asked_by, asked_in, asking, gives_up}
+use Rattle.history.specs.Asking.{stops_by}
 use Rattle.history.specs.Asking.{stops_in, stops_call}
 use Rattle.ways.specs.Ways.{Unmoved, quiet, holder, only_receives, outside, same_priority}
 use Rattle.ways.proofs.Phases.{idle_quiet, idle_none}
@@ -36,7 +37,8 @@ use Rattle.marks.proofs.InLine.{none_in, first_in, behind_in, only_at, gone_out,
 use Rattle.marks.proofs.Did.{Did, rests, gives, places, shifts, strikes, passes, frees, halts, closes}
 use Rattle.reach.specs.Sound.{Sound}
 use Rattle.reach.proofs.Reach.{fits}
-use Rattle.demands.specs.Demands.{moves, comes_into, goes_out, held_after, is_placed, is_struck, is_given_out, is_ended, reason, Place, away}
+use Rattle.demands.specs.Demands.{moves, comes_into, goes_out, held_after, is_placed, is_struck, is_given_out, is_ended, reason, Place}
+use Rattle.demands.specs.Demands.{away}
 use Rattle.demands.specs.Demands.{in_line, placed_at, asked_again, place_after, is_moved}
 use Rattle.demands.proofs.Places.{place_in, place_out, place_at, place_enter, place_without}
 
@@ -87,7 +89,8 @@ moved_by s t p es =
     (λ q. by_test (is_in s es) (λ w. rw (place_at s es w, q)) (λ w. rw (place_out s es w, q)))
 
 -- so asking again leaves a place as it is, but for one who moves
-pub asked_still : (s t p : ℕ) (es : List Entry) → (eqb t s && moves t p es) ≡ false → asked_again s (asks t p) (place_in s es) ≡ place_in s es
+pub asked_still : (s t p : ℕ) (es : List Entry) → (eqb t s && moves t p es) ≡ false →
+    asked_again s (asks t p) (place_in s es) ≡ place_in s es
 unfolding moves
 asked_still s t p es n =
     by_test (is_in s es)
@@ -244,7 +247,8 @@ module _ (d : Desk) (x : Doing) (new : Core) (m : Marks) where
         place_after s what m (place_in s before) ≡ place_in s before
     quiet_place s a p q r = place_stays s what m (place_in s before) p q r ∙ ap (λ (y : Asking). asked_again s y (place_in s before)) a
 
-    other_place : (s t p : ℕ) → what ≡ asks t p → eqb t s ≡ false → is_struck s m ≡ false → is_given_out s m ≡ false → is_placed s m ≡ false →
+    other_place : (s t p : ℕ) → what ≡ asks t p → eqb t s ≡ false → is_struck s m ≡ false → is_given_out s m ≡ false →
+        is_placed s m ≡ false →
         place_after s what m (place_in s before) ≡ place_in s before
     other_place s t p a z i j r =
         place_stays s what m (place_in s before) i j r ∙ ap (λ (y : Asking). asked_again s y (place_in s before)) a
@@ -286,7 +290,8 @@ module _ (d : Desk) (x : Doing) (new : Core) (m : Marks) where
         let i : is_struck s m ≡ eqb t s = ap (is_struck s) e ∙ only_at t s b in
         let n = place_without s (only t) before in
         by_test (eqb t s)
-        (λ z. place_goes s what m (place_in s before) (or_left _ _ (i ∙ z)) ∙ sym (ap (place_in s) l ∙ n ∙ if_yes _ _ _ (only_at t s b ∙ z)))
+        (λ z. place_goes s what m (place_in s before) (or_left _ _ (i ∙ z))
+        ∙ sym (ap (place_in s) l ∙ n ∙ if_yes _ _ _ (only_at t s b ∙ z)))
         (λ z. quiet_place s a (i ∙ z) (ap (is_given_out s) e) (ap (is_placed s) e)
         ∙ sym (ap (place_in s) l ∙ n ∙ if_no _ _ _ (only_at t s b ∙ z)))
     place_changed (passes t y es a h b w l f e) s =

@@ -14,7 +14,8 @@ use Rattle.words.proofs.Tests.{and_five}
 use Rattle.octets.specs.Octets.{be16, Octets, nth_octet}
 use Rattle.line.specs.Line.{entry_of}
 use Rattle.seat_octets.specs.Layout.{flags_top, unused_zero}
-use Rattle.desk_octets.specs.Places.{desk_size, phase_place, timers_place, holder_place, held_at_place, cause_place, count_place, count_zero}
+use Rattle.desk_octets.specs.Places.{desk_size, phase_place, timers_place, holder_place, held_at_place, cause_place, count_place}
+use Rattle.desk_octets.specs.Places.{count_zero}
 use Rattle.desk_octets.specs.Places.{waiting_zero, priorities_zero, taken_column, flags_column, flags_zeros, settings_start, settings_end}
 use Rattle.desk_octets.specs.Places.{lengths_column}
 use Rattle.desk_octets.specs.Form.{up_to, phase_fits, letters_fit, core_fits, hall_fits, names_fit, canonical}
@@ -54,7 +55,8 @@ module _ (s : List ℕ) (fits : canonical s ≡ true) where
 
 -- the floor and the line
 pub record CoreFacts (s : List ℕ) : Type 0 where
-  pub phase : phase_fits (nth_octet s phase_place) (nth_octet s timers_place) (entry_of (nth_octet s holder_place) (nth_octet s held_at_place))
+  pub phase : phase_fits (nth_octet s phase_place) (nth_octet s timers_place)
+      (entry_of (nth_octet s holder_place) (nth_octet s held_at_place))
       (be16 s cause_place) ≡ true
   pub few : nth_octet s count_place ≤ 15
   pub behind_count : nth_octet s count_zero ≡ 0
@@ -67,7 +69,8 @@ core_facts s e =
     let f = and_five
     (phase_fits (nth_octet s phase_place) (nth_octet s timers_place) (entry_of (nth_octet s holder_place) (nth_octet s held_at_place))
     (be16 s cause_place))
-    (leb (nth_octet s count_place) 15) (eqb (nth_octet s count_zero) 0) (eqb (nth_octet s waiting_zero) 0) (eqb (nth_octet s priorities_zero) 0)
+    (leb (nth_octet s count_place) 15) (eqb (nth_octet s count_zero) 0) (eqb (nth_octet s waiting_zero) 0)
+    (eqb (nth_octet s priorities_zero) 0)
     e in
     record {
       phase = f.0;

@@ -32,7 +32,8 @@ use Rattle.seat_octets.proofs.SettingsLaws.{settings_forth}
 use Rattle.desk_octets.specs.Form.{desk_letters, phase_octets, line_octets, core_octets, bool_octets, octet_column, seat_flags_octets}
 use Rattle.desk_octets.specs.Form.{word_column}
 use Rattle.desk_octets.specs.Form.{hall_octets, length_octets, name_octets, names_octets, octets_of_desk, bool_at, entry_at, phase_at}
-use Rattle.desk_octets.specs.Form.{entries_at, core_at, bools_at, octets_at, words_at, seat_flags_at, settings_at, hall_at, name_in, names_at}
+use Rattle.desk_octets.specs.Form.{entries_at, core_at, bools_at, octets_at, words_at, seat_flags_at, settings_at, hall_at, name_in}
+use Rattle.desk_octets.specs.Form.{names_at}
 use Rattle.desk_octets.specs.Form.{up_to, phase_fits, letters_fit, core_fits, hall_fits, names_fit, canonical}
 use Rattle.desk_octets.proofs.Columns.{column_is, column-same, column-two, rows_same, length-column, get_d_column}
 use Rattle.desk_octets.proofs.Pieces.{name_of_seat, part-column}
@@ -89,7 +90,8 @@ seat_flags_forth s at e =
     column-same (λ i. flags_octet (get_or (column f 0 16) i no_flags)) (nth_octet s) 0 at 16
     (λ i k.
     ap (λ (j : ℕ). flags_octet (get_or (column f 0 16) j no_flags)) (zero-add i)
-    ∙ ap flags_octet (get_d_column f 0 16 i no_flags k ∙ ap f (zero-add i)) ∙ flags_forth (nth_octet s (at + i)) (up_to_lem flags_top s at 16 e i k))
+    ∙ ap flags_octet (get_d_column f 0 16 i no_flags k ∙ ap f (zero-add i))
+    ∙ flags_forth (nth_octet s (at + i)) (up_to_lem flags_top s at 16 e i k))
 
 zero_in : (n i : ℕ) → ◌≡◌ {A = ℕ} (get_or (replicate n 0) i 0) 0
 zero_in zero i = refl
@@ -247,7 +249,8 @@ core_written s o e c =
     ap (λ (x : List ℕ). over x phase_place (core_octets c)) (sym (forth s o e)) ∙ over_core c (core_at s) (hall_at s) (names_at s)
 
 -- a whole desk written over one
-pub over-desk : (d : List ℕ) (c : Core) (h : Hall) (ns : Names) → length d ≡ desk_size → over d 0 (octets_of_desk c h ns) ≡ octets_of_desk c h ns
+pub over-desk : (d : List ℕ) (c : Core) (h : Hall) (ns : Names) → length d ≡ desk_size →
+    over d 0 (octets_of_desk c h ns) ≡ octets_of_desk c h ns
 unfolding over
 over-desk d c h ns l =
     let b : length d ≤ desk_size = omega (arith, l) in rw (length-octets c h ns, drop_of_length-le d b) (append-nil (octets_of_desk c h ns))

@@ -88,7 +88,8 @@ identity_of s seat h k =
     (take-two (nth_octet s (lengths_column + seat)) 62 (drop (identities_column + 62 * seat) s) l)
 
 -- the identity of a seat, as the code cuts it out of the octets
-pub identity_is : (s : List ℕ) (seat at len count : ℕ) → at ≡ seat → len ≡ nth_octet s (lengths_column + at) → count ≡ min len 62 → at < 16 →
+pub identity_is : (s : List ℕ) (seat at len count : ℕ) → at ≡ seat → len ≡ nth_octet s (lengths_column + at) → count ≡ min len 62 →
+    at < 16 →
     desk_size ≤ length s →
     take (identities_column + 62 * at + count - (identities_column + 62 * at)) (drop (identities_column + 62 * at) s)
     ≡ identity.octets_of (name_at (names_at s) seat)

@@ -25,8 +25,10 @@ use Rattle.steps.specs.declared.AlsoRuns.TheVariants.{NoMore, T2, T20}
 use Rattle.steps.specs.declared.Phase.{Phase}
 use Rattle.steps.specs.declared.Phase.TheVariants.{Stopped, Idle, Taken, Revoking}
 use Rattle.steps.specs.declared.Core.{Core}
-use Rattle.desk_octets.specs.Places.{phase_place, timers_place, holder_place, held_at_place, cause_place, sequence_place, c7_place, c20_place}
-use Rattle.desk_octets.specs.Places.{count_place, count_zero, waiting_column, waiting_zero, priorities_column, priorities_zero, taken_column}
+use Rattle.desk_octets.specs.Places.{phase_place, timers_place, holder_place, held_at_place, cause_place, sequence_place, c7_place}
+use Rattle.desk_octets.specs.Places.{c20_place}
+use Rattle.desk_octets.specs.Places.{count_place, count_zero, waiting_column, waiting_zero, priorities_column, priorities_zero}
+use Rattle.desk_octets.specs.Places.{taken_column}
 use Rattle.desk_octets.specs.Places.{ssrcs_column, highest_column, flags_column, flags_zeros, settings_start, settings_end, lengths_column}
 use Rattle.desk_octets.specs.Places.{identities_column, desk_size}
 use Rattle.desk_octets.specs.Columns.{column, rows}
@@ -134,7 +136,8 @@ phase_of kind timers holder cause =
 
 unfoldable pub phase_at : List ℕ → Phase
 phase_at s =
-    phase_of (nth_octet s phase_place) (nth_octet s timers_place) (entry_of (nth_octet s holder_place) (nth_octet s held_at_place)) (be16 s cause_place)
+    phase_of (nth_octet s phase_place) (nth_octet s timers_place) (entry_of (nth_octet s holder_place) (nth_octet s held_at_place))
+    (be16 s cause_place)
 
 -- the fifteen seats, and their priorities beside them
 abbrev pub entry_at : List ℕ → ℕ → Entry
@@ -207,7 +210,8 @@ unfoldable pub core_fits : List ℕ → Bool
 core_fits s =
     phase_fits (nth_octet s phase_place) (nth_octet s timers_place) (entry_of (nth_octet s holder_place) (nth_octet s held_at_place))
     (be16 s cause_place)
-    && leb (nth_octet s count_place) 15 && eqb (nth_octet s count_zero) 0 && eqb (nth_octet s waiting_zero) 0 && eqb (nth_octet s priorities_zero) 0
+    && leb (nth_octet s count_place) 15 && eqb (nth_octet s count_zero) 0 && eqb (nth_octet s waiting_zero) 0
+    && eqb (nth_octet s priorities_zero) 0
 
 unfoldable pub hall_fits : List ℕ → Bool
 hall_fits s =

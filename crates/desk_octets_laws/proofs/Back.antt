@@ -1,6 +1,7 @@
 -- Back: each part of the desk that a desk's octets stand for is that desk's own part. Places are found by computing, since every piece has
 -- a known length; a column is then brought back value by value. Assumes nothing.
-use Rattle.desk_octets.specs.Places.{sequence_place, c7_place, c20_place, count_place, taken_column, ssrcs_column, highest_column, lengths_column}
+use Rattle.desk_octets.specs.Places.{sequence_place, c7_place, c20_place, count_place, taken_column, ssrcs_column, highest_column}
+use Rattle.desk_octets.specs.Places.{lengths_column}
 use Rattle.desk_octets.specs.Places.{identities_column, flags_column, settings_start}
 use Prim.Native.Nat.{ℕ, ◌+◌, ◌*◌, ◌/◌, ◌%◌, ◌≤◌, ◌<◌}
 use native.Mathlib.Nat.{zero-add}
@@ -28,7 +29,8 @@ use Rattle.hall.specs.Seats.{no_flags}
 use Rattle.seat_octets.specs.Layout.{flags_octet, flags_of, settings_octets}
 use Rattle.seat_octets.proofs.Bits.{flags_back}
 use Rattle.seat_octets.proofs.SettingsLaws.{settings_back}
-use Rattle.desk_octets.specs.Form.{desk_letters, cause_in, phase_octets, line_octets, core_octets, bool_octets, octet_column, seat_flags_octets}
+use Rattle.desk_octets.specs.Form.{desk_letters, cause_in, phase_octets, line_octets, core_octets, bool_octets, octet_column}
+use Rattle.desk_octets.specs.Form.{seat_flags_octets}
 use Rattle.desk_octets.specs.Form.{word_column, hall_octets, length_octets, name_octets, names_octets, octets_of_desk, phase_at, entries_at}
 use Rattle.desk_octets.specs.Form.{core_at, bools_at, octets_at, words_at, seat_flags_at, settings_at, hall_at, name_in, names_at}
 use Rattle.desk_octets.proofs.Columns.{column-same, column_is, column_is_from_0, length-column, get_d_column}
@@ -127,15 +129,18 @@ module _ (c : Core) (h : Hall) (ns : Names) where
   ssrcs_there : words_at (octets_of_desk c h ns) ssrcs_column
       ≡ column (λ i. let n : ℕ = get_or h.ssrcs i 0 in
       65536 * (256 * (n / 65536 / 256) + n / 65536 % 256) + (256 * (n % 65536 / 256) + n % 65536 % 256)) 0 16
-  unfolding octets_of_desk core_octets phase_octets octets16 octets32 line_octets hall_octets bool_octets word_column words_at be16 be32 column rows
+  unfolding octets_of_desk core_octets phase_octets octets16 octets32 line_octets hall_octets bool_octets word_column words_at be16 be32
+      column rows
   ssrcs_there = refl
 
   highest_there : octets_at (octets_of_desk c h ns) highest_column ≡ column (λ i. get_or h.highest i 0) 0 16
-  unfolding octets_of_desk core_octets phase_octets octets16 octets32 line_octets hall_octets bool_octets word_column octet_column octets_at column rows
+  unfolding octets_of_desk core_octets phase_octets octets16 octets32 line_octets hall_octets bool_octets word_column octet_column octets_at
+      column rows
   highest_there = refl
 
   flags_there : seat_flags_at (octets_of_desk c h ns) flags_column ≡ column (λ i. flags_of (flags_octet (get_or h.flags i no_flags))) 0 16
-  unfolding octets_of_desk core_octets phase_octets octets16 octets32 line_octets hall_octets bool_octets word_column octet_column seat_flags_octets
+  unfolding octets_of_desk core_octets phase_octets octets16 octets32 line_octets hall_octets bool_octets word_column octet_column
+      seat_flags_octets
       seat_flags_at column rows
   flags_there = refl
 
@@ -194,7 +199,8 @@ module _ (c : Core) (h : Hall) (ns : Names) where
 
   -- the identities
   names_there : drop lengths_column (octets_of_desk c h ns) ≡ names_octets ns
-  unfolding octets_of_desk core_octets phase_octets octets16 octets32 line_octets hall_octets bool_octets word_column octet_column seat_flags_octets
+  unfolding octets_of_desk core_octets phase_octets octets16 octets32 line_octets hall_octets bool_octets word_column octet_column
+      seat_flags_octets
       settings_octets column rows
   names_there = refl
 

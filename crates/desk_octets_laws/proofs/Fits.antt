@@ -17,7 +17,8 @@ use Rattle.desk_octets.specs.Columns.{column, rows}
 use Rattle.hall.specs.declared.Flags.{Flags}
 use Rattle.seat_octets.specs.Layout.{flags_octet, flags_top, settings_octets, unused_zero}
 use Rattle.seat_octets.proofs.Bits.{flags_few}
-use Rattle.desk_octets.specs.Form.{cause_in, phase_octets, line_octets, core_octets, bool_octets, octet_column, seat_flags_octets, word_column}
+use Rattle.desk_octets.specs.Form.{cause_in, phase_octets, line_octets, core_octets, bool_octets, octet_column, seat_flags_octets}
+use Rattle.desk_octets.specs.Form.{word_column}
 use Rattle.desk_octets.specs.Form.{hall_octets, octets_of_desk, up_to, letters_fit, core_fits, hall_fits, names_fit, canonical}
 use Rattle.desk_octets.proofs.Tests.{all_below_lem}
 use Rattle.desk_octets.proofs.Lengths.{length-octets}
@@ -40,7 +41,8 @@ module _ (c : Core) (h : Hall) (ns : Names) where
   core_there k = rw (back16 (cause_in c.phase), phase_fits_lem c.phase, le-leb (length (waiting c.line)) 15 k)
 
   hall_there : hall_fits (octets_of_desk c h ns) ≡ true
-  unfolding hall_fits up_to unused_zero octets_of_desk core_octets phase_octets octets16 octets32 line_octets hall_octets bool_octets word_column
+  unfolding hall_fits up_to unused_zero octets_of_desk core_octets phase_octets octets16 octets32 line_octets hall_octets bool_octets
+      word_column
       octet_column seat_flags_octets settings_octets column rows
   hall_there = simp (flag_fits, flags_fit)
 

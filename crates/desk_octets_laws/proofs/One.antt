@@ -15,7 +15,8 @@ pub every_string_forth : EveryStringForth
 every_string_forth = forth
 
 -- the octets that stand for a desk are that desk's
-its_octets : (s : List ℕ) → Octets s → canonical s ≡ true → (c : Core) (h : Hall) (ns : Names) → StandsFor s c h ns → s ≡ octets_of_desk c h ns
+its_octets : (s : List ℕ) → Octets s → canonical s ≡ true → (c : Core) (h : Hall) (ns : Names) → StandsFor s c h ns →
+    s ≡ octets_of_desk c h ns
 its_octets s o e c h ns p = sym (forth s o e) ∙ rw (p.core, p.hall, p.names)
 
 pub one_string : OneString

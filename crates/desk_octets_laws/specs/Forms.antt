@@ -46,4 +46,5 @@ OneString =
 -- Written (proofs/One): the core written into octets that hold what the table says leaves those of the desk with that core
 abbrev pub CoreWritten : Type 0
 CoreWritten =
-    (s : List ℕ) → Octets s → canonical s ≡ true → (c : Core) → over s phase_place (core_octets c) ≡ octets_of_desk c (hall_at s) (names_at s)
+    (s : List ℕ) → Octets s → canonical s ≡ true → (c : Core) →
+    over s phase_place (core_octets c) ≡ octets_of_desk c (hall_at s) (names_at s)

@@ -69,7 +69,8 @@ abbrev rest_of : List Seen → List Seen
 rest_of [] = []
 rest_of (s ∷ ss) = ss
 
-keeps_in_lem : (d : Desk) (rs : List TableRow) (n : ℕ) → n < length rs → seen_all (steps_of d (events rs)) ≡ outcomes rs → keeps_in does d rs n
+keeps_in_lem : (d : Desk) (rs : List TableRow) (n : ℕ) → n < length rs → seen_all (steps_of d (events rs)) ≡ outcomes rs →
+    keeps_in does d rs n
 keeps_in_lem d [] n l e = absurd (omega (arith, l))
 keeps_in_lem d (r ∷ rs) zero l e = ap first_of e
 keeps_in_lem d (r ∷ rs) (suc n) l e = keeps_in_lem (after d r.happens) rs n (omega (arith, l)) (ap rest_of e)

@@ -23,7 +23,8 @@ use Rattle.steps.specs.declared.Given.TheVariants.{NotGiven, AtOnce, OutOfLine}
 use Rattle.steps.specs.declared.Marks.{Marks}
 use Rattle.steps.specs.Words.{next, ◌⇒◌, silence, no_marks}
 use Rattle.giving.specs.Floor.{given, given_at_once, given_out_of_line, enters_idle, passes_on, floor_ends, revokes}
-use Rattle.request.specs.Request.{waits, priority_in, full, presses, denied, info_of, holder_asks, informed, pressed, rule6, asks_again, placed}
+use Rattle.request.specs.Request.{waits, priority_in, full, presses, denied, info_of, holder_asks, informed, pressed, rule6, asks_again}
+use Rattle.request.specs.Request.{placed}
 use Rattle.request.specs.Request.{request}
 use Rattle.events.specs.declared.Event.TheVariants.{Start, Expiry, Request, Release}
 use Rattle.timers.specs.declared.Timer.TheVariants as timer
@@ -179,10 +180,14 @@ seen_all (l ∷ ls) = seen l ∷ seen_all ls
 
 -- the statement: the rules, from the desk that was made and the four that joined it, give the table
 pub thursday : seen_all (steps_of start (events thursday_table)) ≡ outcomes thursday_table
-unfolding when◌then◌else◌ waiting line_of before ahead enter another_at_least without seat_set empty_hall alone effective seat_of free_seat with_seat
-    octets_of name_of no_names with_name same seat_named length_allowed ssrc_taken seated join next given given_at_once given_out_of_line enters_idle
-    passes_on floor_ends revokes waits priority_in priority_of full presses denied info_of holder_asks informed pressed rule6 asks_again placed
-    request halted stops ends_in revokes_in idle_again revokes_again grants_or_ends grants_again fires expires fresh starts caller_of struck_off
+unfolding when◌then◌else◌ waiting line_of before ahead enter another_at_least without seat_set empty_hall alone effective seat_of free_seat
+    with_seat
+    octets_of name_of no_names with_name same seat_named length_allowed ssrc_taken seated join next given given_at_once given_out_of_line
+    enters_idle
+    passes_on floor_ends revokes waits priority_in priority_of full presses denied info_of holder_asks informed pressed rule6 asks_again
+    placed
+    request halted stops ends_in revokes_in idle_again revokes_again grants_or_ends grants_again fires expires fresh starts caller_of
+    struck_off
     releases asks_place talks step leave_floor leave does
 thursday = refl
 
@@ -192,6 +197,7 @@ answers [] = []
 answers (l ∷ ls) = l.answer ∷ answers ls
 
 pub four-joined : (answers (steps_of (made settings) arrivals) ≡ Done ∷ Done ∷ Done ∷ Done ∷ []) × (start.hall.present ≡ all_four)
-unfolding when◌then◌else◌ empty_hall seat_of free_seat with_seat octets_of name_of no_names with_name same seat_named length_allowed ssrc_taken seated
+unfolding when◌then◌else◌ empty_hall seat_of free_seat with_seat octets_of name_of no_names with_name same seat_named length_allowed
+    ssrc_taken seated
     join fresh does
 four-joined = (refl, refl)

@@ -20,7 +20,8 @@ use Rattle.steps.specs.declared.Given.TheVariants.{NotGiven, AtOnce, OutOfLine}
 use Rattle.steps.specs.declared.Marks.{Marks}
 use Rattle.steps.specs.Words.{◌with_line◌, next}
 use Rattle.giving.specs.Floor.{holds, given, given_at_once, given_out_of_line, enters_idle, passes_on, floor_ends, revokes}
-use Rattle.request.specs.Request.{waits, priority_in, full, presses, denied, info_of, holder_asks, informed, pressed, rule6, asks_again, placed}
+use Rattle.request.specs.Request.{waits, priority_in, full, presses, denied, info_of, holder_asks, informed, pressed, rule6, asks_again}
+use Rattle.request.specs.Request.{placed}
 use Rattle.request.specs.Request.{request}
 use Rattle.events.specs.declared.Event.TheVariants.{Start, Request, Release}
 use Rattle.events.specs.declared.Outcome.{Outcome}
@@ -31,7 +32,8 @@ use Rattle.history.specs.Doing.{Doing, event, joins, made, does, Fresh, just_mad
 use Rattle.history.specs.Asking.{Asking, nobody, asks, asking}
 use Rattle.exercise.specs.Thursday.{test1, test10}
 use Rattle.marks.specs.Marks.{is_seat}
-use Rattle.demands.specs.Demands.{Server, History, desk_after, log, times, is_placed, is_struck, is_given_out, is_given_any, is_ended, moves}
+use Rattle.demands.specs.Demands.{Server, History, desk_after, log, times, is_placed, is_struck, is_given_out, is_given_any, is_ended}
+use Rattle.demands.specs.Demands.{moves}
 use Rattle.demands.specs.Demands.{changed, line_from, holder_from, in_line, place_after, place_of, latest, reason, NobodyDropsOut}
 use Rattle.demands.specs.Demands.{StruckForAReason, GoesToTheFirst, GivenAndEnded, NothingUnseen, WorkedOut}
 
@@ -113,9 +115,12 @@ student_evening :
     × (times (is_struck 0) (log student at_first two_wait) ≡ 0) × (waits (desk_after student at_first two_wait).core 0 ≡ false)
     × (waits (desk_after student at_first one-waits).core 0 ≡ true) × ((is_struck 0 student-marks || is_given_out 0 student-marks) ≡ false)
     × (length (waiting (desk_after student at_first two_wait).core.line) ≡ 1) × (length (line_from (log student at_first two_wait)) ≡ 2)
-unfolding student changed moves when◌then◌else◌ waiting line_of before ahead enter another_at_least without empty_hall alone effective seat_of
-    free_seat with_seat octets_of name_of no_names with_name same seat_named length_allowed ssrc_taken seated join next given given_at_once enters_idle
-    revokes waits priority_in priority_of full presses denied info_of holder_asks informed pressed rule6 asks_again placed request fresh starts
+unfolding student changed moves when◌then◌else◌ waiting line_of before ahead enter another_at_least without empty_hall alone effective
+    seat_of
+    free_seat with_seat octets_of name_of no_names with_name same seat_named length_allowed ssrc_taken seated join next given given_at_once
+    enters_idle
+    revokes waits priority_in priority_of full presses denied info_of holder_asks informed pressed rule6 asks_again placed request fresh
+    starts
     caller_of step does
 student_evening = (refl, refl, refl, refl, refl, refl, refl, refl)
 
@@ -139,9 +144,12 @@ handed_over = lets_go 2 ∷ one-waits
 
 stays_counts : (times (is_placed 0) (log stays at_first handed_over) ≡ 1) × (times (is_given_out 0) (log stays at_first handed_over) ≡ 1)
     × (times (is_struck 0) (log stays at_first handed_over) ≡ 0) × (waits (desk_after stays at_first handed_over).core 0 ≡ true)
-unfolding stays when◌then◌else◌ waiting line_of before ahead enter another_at_least without empty_hall alone effective seat_of free_seat with_seat
-    octets_of name_of no_names with_name same seat_named length_allowed ssrc_taken seated join next given given_at_once given_out_of_line enters_idle
-    passes_on floor_ends revokes waits priority_in priority_of full presses denied info_of holder_asks informed pressed rule6 asks_again placed
+unfolding stays when◌then◌else◌ waiting line_of before ahead enter another_at_least without empty_hall alone effective seat_of free_seat
+    with_seat
+    octets_of name_of no_names with_name same seat_named length_allowed ssrc_taken seated join next given given_at_once given_out_of_line
+    enters_idle
+    passes_on floor_ends revokes waits priority_in priority_of full presses denied info_of holder_asks informed pressed rule6 asks_again
+    placed
     request fresh starts caller_of struck_off releases step does
 stays_counts = (refl, refl, refl, refl)
 
@@ -198,11 +206,15 @@ sent_back :
     (is_ended 2 (sends_back (desk_after sends_back at_first asked_again_lem) (lets_go 2)).report.marks ≡ true)
     × (is_stopped (sends_back (desk_after sends_back at_first asked_again_lem) (lets_go 2)).desk.core.phase ≡ false)
     × ((sends_back (desk_after sends_back at_first asked_again_lem) (lets_go 2)).report.marks.given ≡ OutOfLine 1)
-    × (place_of 0 (log sends_back at_first asked_again_lem) ≡ in_line 5) × (place_of 1 (log sends_back at_first asked_again_lem) ≡ in_line 5)
+    × (place_of 0 (log sends_back at_first asked_again_lem) ≡ in_line 5)
+    × (place_of 1 (log sends_back at_first asked_again_lem) ≡ in_line 5)
     × (latest 0 (log sends_back at_first asked_again_lem) ≡ 6) × (latest 1 (log sends_back at_first asked_again_lem) ≡ 7)
-unfolding sends_back place_after priority_of when◌then◌else◌ waiting line_of before ahead enter another_at_least without empty_hall alone effective
-    seat_of free_seat with_seat octets_of name_of no_names with_name same seat_named length_allowed ssrc_taken seated join next given given_at_once
-    given_out_of_line enters_idle passes_on floor_ends revokes waits priority_in full presses denied info_of holder_asks informed pressed rule6
+unfolding sends_back place_after priority_of when◌then◌else◌ waiting line_of before ahead enter another_at_least without empty_hall alone
+    effective
+    seat_of free_seat with_seat octets_of name_of no_names with_name same seat_named length_allowed ssrc_taken seated join next given
+    given_at_once
+    given_out_of_line enters_idle passes_on floor_ends revokes waits priority_in full presses denied info_of holder_asks informed pressed
+    rule6
     asks_again placed request fresh starts caller_of struck_off releases step does
 sent_back = (refl, refl, refl, refl, refl, refl, refl)
 
@@ -244,9 +256,12 @@ let_go = lets_go 2 ∷ asks_for 2 5 ∷ opened
 
 forgotten : (times (is_given_any 2) (log forgets at_first let_go) ≡ 1) × (times (is_ended 2) (log forgets at_first let_go) ≡ 0)
     × (holds (desk_after forgets at_first let_go).core.phase 2 ≡ false) × (is_seat (holder_from (log forgets at_first let_go)) 2 ≡ true)
-unfolding forgets when◌then◌else◌ waiting line_of before ahead enter another_at_least without empty_hall alone effective seat_of free_seat with_seat
-    octets_of name_of no_names with_name same seat_named length_allowed ssrc_taken seated join next given given_at_once given_out_of_line enters_idle
-    passes_on floor_ends revokes waits priority_in priority_of full presses denied info_of holder_asks informed pressed rule6 asks_again placed
+unfolding forgets when◌then◌else◌ waiting line_of before ahead enter another_at_least without empty_hall alone effective seat_of free_seat
+    with_seat
+    octets_of name_of no_names with_name same seat_named length_allowed ssrc_taken seated join next given given_at_once given_out_of_line
+    enters_idle
+    passes_on floor_ends revokes waits priority_in priority_of full presses denied info_of holder_asks informed pressed rule6 asks_again
+    placed
     request fresh starts caller_of struck_off releases step does
 forgotten = (refl, refl, refl, refl)
 

@@ -24,7 +24,8 @@ pub octet_is : (i : ℕ) → (row_of i).spare ≡ 1 → {o : Octet} {n : ℕ} �
 unfolding optional field_octets padding
 octet_is i s e = rw (e, s)
 
-pub word_is : (i : ℕ) → (row_of i).spare ≡ 0 → {w : Word} {n : ℕ} → w ≡ Word.Is n → (i ∷ 2 ∷ n / 256 ∷ n % 256 ∷ []) ≡ optional i (of_word w)
+pub word_is : (i : ℕ) → (row_of i).spare ≡ 0 → {w : Word} {n : ℕ} → w ≡ Word.Is n →
+    (i ∷ 2 ∷ n / 256 ∷ n % 256 ∷ []) ≡ optional i (of_word w)
 unfolding optional field_octets padding octets16
 word_is i s e = rw (e, s)
 
@@ -50,7 +51,8 @@ text src from count len = part src from count ++ replicate (padding len) 0
 pub text-length : (src : List ℕ) (from count len : ℕ) → from + count ≤ length src → length (text src from count len) ≡ count + padding len
 text-length src from count len h = rw (length-append, length_part src from count h, length-replicate)
 
-pub identity_is : (i : ℕ) → (row_of i).spare ≡ 0 → (src : List ℕ) {p : Part} {from count : ℕ} → p ≡ Part.At from count → part_lies src p ≡ true
+pub identity_is : (i : ℕ) → (row_of i).spare ≡ 0 → (src : List ℕ) {p : Part} {from count : ℕ} → p ≡ Part.At from count →
+    part_lies src p ≡ true
     → (i ∷ count ∷ text src from count count) ≡ optional i (of_part src p)
 unfolding optional
 identity_is i s src {p} {from} {count} e h =

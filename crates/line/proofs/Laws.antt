@@ -7,7 +7,8 @@ use native.Mathlib.Numerals.{add-one, unary_clauses}
 use native.Mathlib.Omega.{arith}
 use lib.Dec.{eqb, leb}
 use lib.ListN.{length, take, drop, get_or, set, replicate, length-take, length-append, length-drop, drop_of_length-le, get_or-append}
-use lib.Seq.{drop-cons, take-suc, take_all, take-take, take-append_seam, take-set-lt, get_or-append-add, get_or-take, get_or-drop, get_or_at}
+use lib.Seq.{drop-cons, take-suc, take_all, take-take, take-append_seam, take-set-lt, get_or-append-add, get_or-take, get_or-drop}
+use lib.Seq.{get_or_at}
 use Rattle.words.specs.Choice.{when◌then◌else◌, if_yes, if_no, by_test}
 use Rattle.words.specs.Table as table
 use Rattle.line.specs.declared.Entry.{Entry}

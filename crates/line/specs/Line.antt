@@ -1,6 +1,7 @@
 -- The line of document 01, "The desk": seats with priorities, highest first, earlier first among equals. The code keeps it as an array of
 -- fifteen places and a length; here it is a list of entries, its head first. Assumes nothing.
-use Rattle.std.specs.Prelude.{ℕ, suc, ltb, leb, eqb, Bool, true, false, not, ◌&&◌, List, [], ◌∷◌, ◌++◌, length, take, drop, get_or, set, replicate}
+use Rattle.std.specs.Prelude.{ℕ, suc, ltb, leb, eqb, Bool, true, false, not, ◌&&◌, List, [], ◌∷◌, ◌++◌, length, take, drop, get_or, set}
+use Rattle.std.specs.Prelude.{replicate}
 use Rattle.words.specs.Table.{padded}
 use Rattle.words.specs.Choice.{when◌then◌else◌}
 use Rattle.line.specs.declared.Entry.{Entry}

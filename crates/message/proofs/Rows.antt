@@ -32,7 +32,8 @@ least_is i h = eqb-true (get_or leasts i 0) (row_of i).least (below (λ k. eqb (
 
 greatest_is : (i : ℕ) → i < 16 → get_or greatests i 0 ≡ marked_greatest i
 unfolding marked_greatest listed_in row_in when◌then◌else◌
-greatest_is i h = eqb-true (get_or greatests i 0) (marked_greatest i) (below (λ k. eqb (get_or greatests k 0) (marked_greatest k)) 16 refl i h)
+greatest_is i h =
+    eqb-true (get_or greatests i 0) (marked_greatest i) (below (λ k. eqb (get_or greatests k 0) (marked_greatest k)) 16 refl i h)
 
 -- the table has no ID from 16 on
 under : List FieldRow → Bool

@@ -16,7 +16,8 @@ use Rattle.message_octets.specs.Held.{held_octets, unlisted_field, held_of_type,
 use Rattle.message_octets.specs.Places.{type_place, ack_place, fields_place, message_size}
 
 -- octets in the form hold a message if their type is listed
-pub held_is : (s : List ℕ) (t : Typed) → length s ≡ message_size → nth_octet s ack_place ≤ 1 → unlisted_field (be16 s fields_place) ≡ false →
+pub held_is : (s : List ℕ) (t : Typed) → length s ≡ message_size → nth_octet s ack_place ≤ 1 →
+    unlisted_field (be16 s fields_place) ≡ false →
     typed (nth_octet s type_place) ≡ t
     → held_at s ≡ held_of_type t s
 unfolding held_at when◌then◌else◌
@@ -32,7 +33,8 @@ module _ (packet room : List ℕ) where
   unfolding read_held kept_in when◌then◌else◌
   short_is m e h = (simp (e, lt-ltb _ _ h), simp (e, lt-ltb _ _ h))
 
-  pub kept_is : (m : Message) (room' : List ℕ) → reading packet ≡ result m → message_size ≤ length room → room' ≡ over room 0 (held_octets m)
+  pub kept_is : (m : Message) (room' : List ℕ) → reading packet ≡ result m → message_size ≤ length room →
+      room' ≡ over room 0 (held_octets m)
       → (0 ≡ read_held packet (length room)) × (room' ≡ kept_in packet room)
   unfolding read_held kept_in when◌then◌else◌
   kept_is m room' e h q = (simp (e, le-ltb _ _ h), simp (e, le-ltb _ _ h) q)

@@ -148,7 +148,8 @@ head_is k s start =
 
 pub held_by_rows : (k : MessageType) (s : List ℕ) (start : ℕ → ℕ) (room zeros first next parts all : List ℕ) → message_size ≤ length room
     → zeros ≡ over room 0 (replicate message_size 0) → Lays zeros priority_place (first_octets (message_at k s start)) first
-    → Lays first permission_place (next_octets (message_at k s start)) next → Lays next phrase_place (part_octets (message_at k s start)) parts
+    → Lays first permission_place (next_octets (message_at k s start)) next →
+    Lays next phrase_place (part_octets (message_at k s start)) parts
     → all ≡ over parts 0 (head_by k s (which (message_at k s start))) → all ≡ over room 0 (held_octets (message_at k s start))
 unfolding held_octets head_octets first_octets next_octets part_octets place_octets octets16 octets32
 held_by_rows k s start room zeros first next parts all h z p q r e =

@@ -23,7 +23,8 @@ use Rattle.packet_laws.specs.Again.{WrittenAgain}
 use Rattle.header.proofs.Openings.{opened_by}
 use Rattle.reading.proofs.Judges.{read_by}
 use Rattle.packet_laws.proofs.Again.{read_is_written}
-use Rattle.message_octets.specs.Held.{Is, phrase_in, head_octets, first_octets, next_octets, place_octets, part_octets, held_octets, held_at}
+use Rattle.message_octets.specs.Held.{Is, phrase_in, head_octets, first_octets, next_octets, place_octets, part_octets, held_octets}
+use Rattle.message_octets.specs.Held.{held_at}
 use Rattle.message_octets.specs.Held.{kept_in}
 use Rattle.message_octets.proofs.Answers.{kept_is}
 use Rattle.message_octets_laws.specs.Laws.{NearPart, Near, ReadThenWritten}

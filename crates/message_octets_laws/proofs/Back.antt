@@ -18,9 +18,11 @@ use Rattle.message.specs.declared.Queue.{Queue}
 use Rattle.message.specs.declared.Part.{Part}
 use Rattle.message.specs.declared.Cause.{Cause}
 use Rattle.message.specs.declared.Message.{Message}
-use Rattle.message_octets.specs.Held.{Is, which, octet_in, word_in, number_in, position_in, queue_priority_in, reject_cause_in, phrase_in, part_start}
+use Rattle.message_octets.specs.Held.{Is, which, octet_in, word_in, number_in, position_in, queue_priority_in, reject_cause_in, phrase_in}
+use Rattle.message_octets.specs.Held.{part_start}
 use Rattle.message_octets.specs.Held.{head_octets}
-use Rattle.message_octets.specs.Held.{first_octets, next_octets, place_octets, part_octets, held_octets, octet_if, word_if, number_if, queue_if}
+use Rattle.message_octets.specs.Held.{first_octets, next_octets, place_octets, part_octets, held_octets, octet_if, word_if, number_if}
+use Rattle.message_octets.specs.Held.{queue_if}
 use Rattle.message_octets.specs.Held.{part_if, cause_if, message_with, unlisted_field, held_at}
 use Rattle.message_octets_laws.specs.Laws.{Near, HeldBack}
 use Rattle.message_octets.proofs.Bits.{is_set_lem, flag_back}
@@ -64,11 +66,13 @@ cause_back (Cause.Is cause from count) b m n k e o q r = rw (e, o, q, r)
 module _ (m : Message) where
   none_unlisted : unlisted_field (which m) ≡ false
   unfolding unlisted_field has when◌then◌else◌
-  none_unlisted = rw (is_set_lem m 7 (omega arith), is_set_lem m 9 (omega arith), is_set_lem m 11 (omega arith), is_set_lem m 15 (omega arith))
+  none_unlisted =
+      rw (is_set_lem m 7 (omega arith), is_set_lem m 9 (omega arith), is_set_lem m 11 (omega arith), is_set_lem m 15 (omega arith))
 
   -- at each place stands what the message has there, and `has` computes the question of a bit to that of one field
   message_back : Near m → message_with m.kind (held_octets m) (which m) ≡ m
-  unfolding message_with held_octets head_octets first_octets next_octets part_octets place_octets octets16 octets32 be16 be32 has when◌then◌else◌
+  unfolding message_with held_octets head_octets first_octets next_octets part_octets place_octets octets16 octets32 be16 be32 has
+      when◌then◌else◌
   message_back near = λ i. record {
     kind = m.kind;
     ack = flag_back m.ack i;

@@ -15,7 +15,8 @@ use Rattle.message.specs.declared.Queue.{Queue}
 use Rattle.message.specs.declared.Part.{Part}
 use Rattle.message.specs.declared.Cause.{Cause}
 use Rattle.message.specs.declared.Message.{Message}
-use Rattle.message_octets.specs.Held.{Is, which, head_octets, first_octets, next_octets, place_octets, part_octets, held_octets, message_with}
+use Rattle.message_octets.specs.Held.{Is, which, head_octets, first_octets, next_octets, place_octets, part_octets, held_octets}
+use Rattle.message_octets.specs.Held.{message_with}
 use Rattle.message_octets.specs.Held.{unlisted_field, held_at}
 
 abbrev full : Message

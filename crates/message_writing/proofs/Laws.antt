@@ -36,11 +36,14 @@ use Rattle.message_octets.specs.Held.{unlisted_field, held_of_type, held_at, wri
 use Rattle.message_octets.proofs.Answers.{held_is}
 use Rattle.message_writing.specs.Writes.{type_of, message_in, has_required, readable_in, four_if, short_size}
 use Rattle.header.specs.Header.{header_size}
-use Rattle.message_octets.specs.Places.{type_place, ack_place, fields_place, priority_place, message_type_place, duration_place, message_cause_place}
-use Rattle.message_octets.specs.Places.{queue_place, permission_place, message_sequence_place, source_place, indicator_place, ssrc_field_place}
+use Rattle.message_octets.specs.Places.{type_place, ack_place, fields_place, priority_place, message_type_place, duration_place}
+use Rattle.message_octets.specs.Places.{message_cause_place}
+use Rattle.message_octets.specs.Places.{queue_place, permission_place, message_sequence_place, source_place, indicator_place}
+use Rattle.message_octets.specs.Places.{ssrc_field_place}
 use Rattle.message_octets.specs.Places.{phrase_place, granted_place, message_size}
 
-pub type_small : (s : List ℕ) → typed (nth_octet s type_place) ≡ Listed (type_of (typed (nth_octet s type_place))) → nth_octet s type_place ≤ 10
+pub type_small : (s : List ℕ) → typed (nth_octet s type_place) ≡ Listed (type_of (typed (nth_octet s type_place))) →
+    nth_octet s type_place ≤ 10
 type_small s e =
     omega (
       arith,
@@ -94,7 +97,8 @@ complete_is Idle s src fields = one_of (word_given (is_set fields 8) (be16 s mes
 complete_is Revoke s src fields =
     one_of (cause_given src (is_set fields 2) (be16 s message_cause_place) (be16 s phrase_place) (be16 s (phrase_place + 2)))
 complete_is QueuePositionRequest s src fields = refl
-complete_is QueuePositionInfo s src fields = one_of (queue_given (is_set fields 3) (nth_octet s queue_place) (nth_octet s (queue_place + 1)))
+complete_is QueuePositionInfo s src fields =
+    one_of (queue_given (is_set fields 3) (nth_octet s queue_place) (nth_octet s (queue_place + 1)))
 complete_is Ack s src fields =
     rw (word_given (is_set fields 10) (be16 s source_place), octet_given (is_set fields 12) (nth_octet s message_type_place))
 
@@ -114,7 +118,8 @@ fits_order lp fp lg fg w lu fu v =
     (λ b. rw b (simp and-false))) (λ a. rw a (simp and-false))
 
 judged : (s src : List ℕ) (t : Typed)
-    → (has_required t (be16 s fields_place) && (lies (message_in s (be16 s fields_place)) src && fitting (message_in s (be16 s fields_place))))
+    → (has_required t (be16 s fields_place)
+    && (lies (message_in s (be16 s fields_place)) src && fitting (message_in s (be16 s fields_place))))
     ≡ readable_in (held_of_type t s) src
 unfolding lies fitting message_in message_with
 judged s src Unlisted = refl

@@ -46,5 +46,6 @@ four_if false = 0
 
 unfoldable pub short_size : ℕ → ℕ
 short_size fields =
-    four_if (is_set fields 0) + four_if (is_set fields 1) + four_if (is_set fields 3) + four_if (is_set fields 5) + four_if (is_set fields 8)
+    four_if (is_set fields 0) + four_if (is_set fields 1) + four_if (is_set fields 3) + four_if (is_set fields 5)
+    + four_if (is_set fields 8)
     + four_if (is_set fields 10) + four_if (is_set fields 12) + four_if (is_set fields 13) + four_if (is_set fields 14) * 2

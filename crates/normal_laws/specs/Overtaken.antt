@@ -37,8 +37,10 @@ line_at normal xs = waiting (after_all (after_all (made (settings_of 1 200 15 2 
 -- all that the desk's steps stand on, opened, so that an evening computes
 opens : Type 0
 unfolding
-    when◌then◌else◌ waiting line_of before ahead enter without empty_hall alone effective seat_of free_seat with_seat octets_of name_of no_names
-    with_name same seat_named length_allowed ssrc_taken seated join given given_at_once enters_idle waits priority_in priority_of full presses
+    when◌then◌else◌ waiting line_of before ahead enter without empty_hall alone effective seat_of free_seat with_seat octets_of name_of
+    no_names
+    with_name same seat_named length_allowed ssrc_taken seated join given given_at_once enters_idle waits priority_in priority_of full
+    presses
     informed pressed rule6 asks_again placed request fresh starts caller_of step does
 opens = ℕ
 

@@ -55,7 +55,8 @@ word_back s i at Word.Absent h = rw h
 word_back s i at (Word.Is n) h =
     rw (given at Word.Absent (Word.Is (be16 s at)) h.starts, be16_first s _ at h.octets, be16_back n h.behind)
 
-pub number_back : (s : List ℕ) (i at : ℕ) (o : Number) → Stands s i (or_else (of_number o) none) at → of_number (number_at s at) ≡ of_number o
+pub number_back : (s : List ℕ) (i at : ℕ) (o : Number) → Stands s i (or_else (of_number o) none) at →
+    of_number (number_at s at) ≡ of_number o
 unfolding number_at when◌then◌else◌
 number_back s i at Number.Absent h = rw h
 number_back s i at (Number.Is n) h =

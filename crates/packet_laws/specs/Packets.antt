@@ -39,7 +39,8 @@ with k asks_ack ssrc fs =
 -- all that reading and writing stand on, opened, so that a packet computes
 opened : Type 0
 unfolding
-    reading opening ends message_at octet_at word_at number_at queue_at part_at cause_at fields_in fields_from step_at among listed_in start_of
+    reading opening ends message_at octet_at word_at number_at queue_at part_at cause_at fields_in fields_from step_at among listed_in
+    start_of
     wire header headed first_octet body optional field_octets said complete has_all has against at_fault row_in padded padding
     be16 be32 octets16 octets32 part when◌then◌else◌
 opened = ℕ

@@ -20,7 +20,8 @@ use Rattle.identities.specs.Identity.{octets_of, name_of, no_name, name_at, with
 use Rattle.reach.specs.Sound.{HallOk, SeatsOk}
 
 -- a seat's value in a column, after a store
-pub stored {ℓ} : {A : Type ℓ} (l : List A) (t s : ℕ) (a d : A) → t < length l → get_or (set l t a) s d ≡ (when eqb t s then a else get_or l s d)
+pub stored {ℓ} : {A : Type ℓ} (l : List A) (t s : ℕ) (a d : A) → t < length l →
+    get_or (set l t a) s d ≡ (when eqb t s then a else get_or l s d)
 unfolding when◌then◌else◌
 stored l t s a d h =
     by_test (eqb t s)

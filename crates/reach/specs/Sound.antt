@@ -88,7 +88,8 @@ pub record SeatsOk (h : Hall) (ns : Names) : Type 0 where
   pub desk : (s : ℕ) → is_present h s ≡ true → get_or h.ssrcs s 0 ≡ h.settings.ssrc → ⊥
   pub lengths : (s : ℕ) → is_present h s ≡ true → length_allowed (octets_of (name_at ns s)) ≡ true
   pub behind : (s : ℕ) → name_at ns s ≡ name_of (octets_of (name_at ns s))
-  pub identities : (s t : ℕ) → is_present h s ≡ true → is_present h t ≡ true → same (octets_of (name_at ns s)) (octets_of (name_at ns t)) ≡ true →
+  pub identities : (s t : ℕ) → is_present h s ≡ true → is_present h t ≡ true →
+      same (octets_of (name_at ns s)) (octets_of (name_at ns t)) ≡ true →
       s ≡ t
   pub free : (s : ℕ) → is_present h s ≡ false →
       (get_or h.ssrcs s 0 ≡ 0) × (get_or h.highest s 0 ≡ 0) × (flags_at h s ≡ no_flags) × (name_at ns s ≡ no_name)

@@ -17,7 +17,8 @@ use Rattle.octets.specs.Octets.{be16, octets16, octets32, part}
 use Rattle.octets.proofs.Over.{length_part}
 use Rattle.octets.proofs.Numbers.{be16_of}
 use Rattle.message.specs.Table.{against, at_fault, row_of, row_in, length_of}
-use Rattle.message.specs.Message.{of_octet, of_word, of_number, of_queue, of_part, of_cause, said, fields_of, complete, part_lies, phrase_lies, lies}
+use Rattle.message.specs.Message.{of_octet, of_word, of_number, of_queue, of_part, of_cause, said, fields_of, complete, part_lies}
+use Rattle.message.specs.Message.{phrase_lies, lies}
 use Rattle.message.specs.Message.{count_of, phrase_count}
 use Rattle.message.specs.declared.Octet.{Octet}
 use Rattle.message.specs.declared.Word.{Word}
@@ -51,7 +52,8 @@ number_free Number.Absent = refl
 number_free (Number.Is n) = refl
 
 -- a number that the table limits
-word_limited : (i : ℕ) → (row_of i).spare ≡ 0 → ((x : ℕ) → against i 2 x ≡ at_fault i x) → (w : Word) → fits i (of_word w) ≡ content_fits i w
+word_limited : (i : ℕ) → (row_of i).spare ≡ 0 → ((x : ℕ) → against i 2 x ≡ at_fault i x) → (w : Word) →
+    fits i (of_word w) ≡ content_fits i w
 unfolding octets16
 word_limited i s f Word.Absent = refl
 word_limited i s f (Word.Is n) = rw (s, f (be16 (octets16 n) 0), be16_of n)

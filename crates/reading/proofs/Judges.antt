@@ -99,7 +99,8 @@ module _ (k : MessageType) (s starts : List ℕ) (w : Walk) where
 
     module _ (e : w ≡ Whole) where
       by_completeness : reading s
-          ≡ (when complete (said (message_at k s (λ i. get_or starts i 0)) s) then result (message_at k s (λ i. get_or starts i 0)) else refused 11)
+          ≡ (when complete (said (message_at k s (λ i. get_or starts i 0)) s) then result (message_at k s (λ i. get_or starts i 0)) else
+          refused 11)
       by_completeness = by_fields ∙ judged_whole (message_at k s (λ i. get_or starts i 0)) refl e walked
 
       pub judges_missing : complete (said (message_at k s (λ i. get_or starts i 0)) s) ≡ false → reading s ≡ refused 11

@@ -24,9 +24,11 @@ use Rattle.report_octets.specs.Places.{report_size, struck_place, struck_zero, p
 use Rattle.report_octets.specs.Places.{first_place, second_place, seat_within, number_within, priority_within, zero_within, mask_within}
 use Rattle.report_octets.specs.declared.Particulars.{Particulars}
 use Rattle.report_octets.specs.declared.Told.TheVariants.{Says}
-use Rattle.report_octets.specs.Report.{mask_of, seat_octet, given_octet, how_octet, with, particulars, octets_of_message, marks_octets, octets_of_report}
+use Rattle.report_octets.specs.Report.{mask_of, seat_octet, given_octet, how_octet, with, particulars, octets_of_message, marks_octets}
+use Rattle.report_octets.specs.Report.{octets_of_report}
 use Rattle.report_octets.specs.Report.{particulars_at, kind_of, alike, said_by, told_in}
-use Rattle.report_octets_laws.specs.Reported.{seats_in, set_of, mark_of, given_of, marks_in, sending_at, report_in, is_mark, is_how, are_marks}
+use Rattle.report_octets_laws.specs.Reported.{seats_in, set_of, mark_of, given_of, marks_in, sending_at, report_in, is_mark, is_how}
+use Rattle.report_octets_laws.specs.Reported.{are_marks}
 use Rattle.report_octets_laws.specs.Reported.{is_message, is_message_at, is_report, MarkFits, GivenFits, KindFits, MessageFits, MarksFit}
 use Rattle.report_octets_laws.specs.Reported.{ReportFits, SaysTheReport, ReportWrittenBack, HasOctets, SaysAReport, SameMessages}
 use Rattle.steps.specs.declared.Report.{Report}
@@ -214,7 +216,8 @@ is_message_lem q behind e =
 module _ (r : List ℕ) (o : Octets r) where
   message_forth : (at : ℕ) → is_message_at r at ≡ true → octets_of_message (sending_at r at)
       ≡ get_or r at 0 ∷ get_or r (at + seat_within) 0 ∷ get_or r (at + number_within) 0 ∷ get_or r (at + number_within + 1) 0
-      ∷ get_or r (at + priority_within) 0 ∷ get_or r (at + zero_within) 0 ∷ get_or r (at + mask_within) 0 ∷ get_or r (at + mask_within + 1) 0 ∷ []
+      ∷ get_or r (at + priority_within) 0 ∷ get_or r (at + zero_within) 0 ∷ get_or r (at + mask_within) 0
+      ∷ get_or r (at + mask_within + 1) 0 ∷ []
   unfolding octets_of_message sending_at particulars_at
   message_forth at e =
       let m = is_message_lem (particulars_at r at) (get_or r (at + zero_within) 0) e in

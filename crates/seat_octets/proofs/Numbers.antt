@@ -57,10 +57,12 @@ module _ (s : List ℕ) (octets : Octets s) where
       ∙ ap (λ (x : ℕ). get_or s (at + k) 0 ∷ x ∷ []) (same_place (at + k + 1) (at + (k + 1)) (omega arith))
 
   pub long_back : (at k : ℕ) →
-      octets32 (be32 s (at + k)) ≡ get_or s (at + k) 0 ∷ get_or s (at + (k + 1)) 0 ∷ get_or s (at + (k + 2)) 0 ∷ get_or s (at + (k + 3)) 0 ∷ []
+      octets32 (be32 s (at + k))
+      ≡ get_or s (at + k) 0 ∷ get_or s (at + (k + 1)) 0 ∷ get_or s (at + (k + 2)) 0 ∷ get_or s (at + (k + 3)) 0 ∷ []
   unfolding be32 be16
   long_back at k =
-      octets32_of (get_or s (at + k) 0) (get_or s (at + k + 1) 0) (get_or s (at + k + 2) 0) (get_or s (at + k + 2 + 1) 0) (octets (at + k + 1))
+      octets32_of (get_or s (at + k) 0) (get_or s (at + k + 1) 0) (get_or s (at + k + 2) 0) (get_or s (at + k + 2 + 1) 0)
+      (octets (at + k + 1))
       (octets (at + k + 2)) (octets (at + k + 2 + 1))
       ∙ rw (
         same_place (at + k + 1) (at + (k + 1)) (omega arith),

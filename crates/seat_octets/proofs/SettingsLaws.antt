@@ -71,7 +71,8 @@ settings_back s p q at g is here =
         be16-at s p r is (at + duration_within) duration_within (omega arith) ∙ duration_there g q,
         octet_at_lem s p r is (at + normal_within) normal_within (omega arith) ∙ normal_there g q,
       ),
-      eq-eqb (get_or s (at + unused_within) 0) 0 (octet_at_lem s p r is (at + unused_within) unused_within (omega arith) ∙ unused_there g q),
+      eq-eqb (get_or s (at + unused_within) 0) 0
+          (octet_at_lem s p r is (at + unused_within) unused_within (omega arith) ∙ unused_there g q),
     )
 
 -- the octets where the settings were read, from their numbers, with what stands where no setting does

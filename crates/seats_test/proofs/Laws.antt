@@ -46,7 +46,8 @@ no_length s seat q =
     (eqb (name_length_at s seat) 0) q).3
 
 -- of a free seat, that has no identity, all sixty_two octets are asked
-pub free_whole : (s : List ℕ) (seat : ℕ) → (up_to 0 s (identity_start seat) 62 && free_fits s seat) ≡ (zeros_behind s seat && free_fits s seat)
+pub free_whole : (s : List ℕ) (seat : ℕ) →
+    (up_to 0 s (identity_start seat) 62 && free_fits s seat) ≡ (zeros_behind s seat && free_fits s seat)
 unfolding zeros_behind
 free_whole s seat =
     by_test (free_fits s seat)

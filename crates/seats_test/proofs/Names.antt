@@ -68,7 +68,8 @@ module _ (s : List ℕ) (seat : ℕ) (b : seat < 16) (fits : name_length_at s se
   behind_zeros q i h k =
       let e : identity_start seat + name_length_at s seat + (i - name_length_at s seat) ≡ identity_start seat + i = omega arith in
       let l : nth_octet s (identity_start seat + name_length_at s seat + (i - name_length_at s seat)) ≤ 0 =
-      up_to_lem 0 s (identity_start seat + name_length_at s seat) (62 - name_length_at s seat) q (i - name_length_at s seat) (omega arith) in
+      up_to_lem 0 s (identity_start seat + name_length_at s seat) (62 - name_length_at s seat) q (i - name_length_at s seat)
+      (omega arith) in
       ap (nth_octet s) (sym e) ∙ omega arith
 
   zeros_behind_lem : Zeros → zeros_behind s seat ≡ true

@@ -21,7 +21,8 @@ use Rattle.desk_octets.proofs.Tests.{together, below_same}
 use Rattle.desk_octets.proofs.InOctets.{present_is, flags_are, highest_is, ssrc_is, settings_are}
 use Rattle.desk_octets.proofs.Facts.{fits-length}
 use Rattle.identities.proofs.Same.{same_self}
-use Rattle.seats_test.specs.Seated.{taken_at, ssrc_in_octets, name_length_at, identity_start, has_ssrc_of, has_name_of, ssrc_first, name_first}
+use Rattle.seats_test.specs.Seated.{taken_at, ssrc_in_octets, name_length_at, identity_start, has_ssrc_of, has_name_of, ssrc_first}
+use Rattle.seats_test.specs.Seated.{name_first}
 use Rattle.seats_test.specs.Seated.{zeros_behind}
 use Rattle.seats_test.specs.Seated.{taken_fits}
 use Rattle.seats_test.specs.Seated.{free_fits, seat_fits, seats_fit}

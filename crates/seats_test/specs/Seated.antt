@@ -1,7 +1,8 @@
 -- The test of the seats, asked of the octets themselves: "no two seats have the same SSRC or the same identity, and none the desk's SSRC;
 -- identities have 1 to 62 octets", "zeros behind it", "zero for a free one" (docs/FORMS.md, the form of document 01, "The desk").
 -- Assumes nothing.
-use Rattle.desk_octets.specs.Places.{taken_column, ssrcs_column, highest_column, flags_column, settings_start, lengths_column, identities_column}
+use Rattle.desk_octets.specs.Places.{taken_column, ssrcs_column, highest_column, flags_column, settings_start, lengths_column}
+use Rattle.desk_octets.specs.Places.{identities_column}
 use Rattle.std.specs.Prelude.{ℕ, ◌+◌, ◌*◌, ◌-◌, Bool, not, ◌&&◌, List, leb, eqb}
 use Rattle.words.specs.Choice.{when◌then◌else◌}
 use Rattle.words.specs.Below.{all_below}

@@ -40,7 +40,12 @@ module _ (s : List ℕ) where
         pub frames_count : 16 < seat_count s → framing s ≡ WrongPlaces
         unfolding framing when◌then◌else◌
         frames_count h =
-            rw (le-ltb (length s) tail_size h1, eq-eqb (letters_of s) sheet_letters h2, eq-eqb (form_of s) form h3, lt-ltb 16 (seat_count s) h)
+            rw (
+              le-ltb (length s) tail_size h1,
+              eq-eqb (letters_of s) sheet_letters h2,
+              eq-eqb (form_of s) form h3,
+              lt-ltb 16 (seat_count s) h,
+            )
 
         module _ (h4 : seat_count s ≤ 16) where
           pub frames_settings : (settings_offset s + tail_size ≡ length s → ⊥) → framing s ≡ WrongPlaces

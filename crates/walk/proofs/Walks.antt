@@ -29,7 +29,8 @@ abbrev all_infront : List FieldFound → Fields → Fields
 all_infront [] rest = rest
 all_infront (f ∷ fs) rest = infront f (all_infront fs rest)
 
-one_more : (seen : List FieldFound) (f : FieldFound) (rest : Fields) → all_infront (seen ++ (f ∷ [])) rest ≡ all_infront seen (infront f rest)
+one_more : (seen : List FieldFound) (f : FieldFound) (rest : Fields) →
+    all_infront (seen ++ (f ∷ [])) rest ≡ all_infront seen (infront f rest)
 one_more [] f rest = refl
 one_more (g ∷ seen) f rest = ap (infront g) (one_more seen f rest)
 
@@ -67,7 +68,8 @@ noted_long : (starts : List ℕ) (j start : ℕ) → length (noted starts j star
 unfolding noted when◌then◌else◌
 noted_long starts j start = by_test (ltb j 16 && eqb (get_or starts j 0) 0) (λ e. rw e (length-set starts j start)) (λ e. rw e)
 
-noted-same : (starts : List ℕ) (j start : ℕ) → length starts ≡ 16 → j < 16 → get_or starts j 0 ≡ 0 → get_or (noted starts j start) j 0 ≡ start
+noted-same : (starts : List ℕ) (j start : ℕ) → length starts ≡ 16 → j < 16 → get_or starts j 0 ≡ 0 →
+    get_or (noted starts j start) j 0 ≡ start
 unfolding noted when◌then◌else◌
 noted-same starts j start l h z = rw (lt-ltb j 16 h, z) (get_or-set_same starts j start 0 (omega arith))
 

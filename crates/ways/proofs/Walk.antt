@@ -50,10 +50,12 @@ use Rattle.timers.specs.declared.Timer.{Timer}
 use Rattle.timers.specs.declared.Timer.TheVariants as timer
 use Rattle.timers.specs.Timers.{is_stopped, runs, running}
 use Rattle.firing.specs.Firing.{halted, stops, ends_in, revokes_in, idle_again, revokes_again, grants_or_ends, grants_again, fires, expires}
-use Rattle.events.specs.Events.{starts, sitting, caller_of, heard, struck_off, releases, asks_place, talks, step, outcome, leave_floor, leave}
+use Rattle.events.specs.Events.{starts, sitting, caller_of, heard, struck_off, releases, asks_place, talks, step, outcome, leave_floor}
+use Rattle.events.specs.Events.{leave}
 use Rattle.events.specs.declared.Desk.{Desk}
 use Rattle.history.specs.Doing.{Doing, event, packet, leaves, joins, joined, does}
-use Rattle.history.specs.Asking.{an_event, read_as, becomes, nobody, asks, from_seat, asked_by, asked_in, asking, gives_up, stops_in, stops_call}
+use Rattle.history.specs.Asking.{an_event, read_as, becomes, nobody, asks, from_seat, asked_by, asked_in, asking, gives_up, stops_in}
+use Rattle.history.specs.Asking.{stops_call}
 use Rattle.ways.specs.Ways as way
 use Rattle.ways.proofs.Apart.{no_leave, not-leave, gives_up_lem, asks-nobody, this_one, not-asked}
 use Rattle.ways.proofs.Phases.{stopped_quiet, idle_quiet, busy_else, t7_idle, taken_held, revoking_held}

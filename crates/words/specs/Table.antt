@@ -1,7 +1,8 @@
 -- An array of fixed size that holds a list: the list's elements first, and one filling value in every place behind them.
 -- Assumes nothing.
 use Rattle.std.specs.Prelude.{ℕ, zero, suc, ◌+◌, ◌<◌, ◌≡◌, refl, List, [], ◌∷◌, ◌++◌, eqb, length, take, get_or, set, replicate}
-use Rattle.std.proofs.Common.{sym, ◌∙◌, arith, length-take, length-append, get_or-take, ext_get_or, get_or-set_same, get_or-set_other, eqb-true}
+use Rattle.std.proofs.Common.{sym, ◌∙◌, arith, length-take, length-append, get_or-take, ext_get_or, get_or-set_same, get_or-set_other}
+use Rattle.std.proofs.Common.{eqb-true}
 use Rattle.std.proofs.lemmas.List.{length-replicate}
 use Rattle.std.proofs.lemmas.Bool.{eqb-false}
 use Rattle.words.specs.Choice.{by_test}

@@ -26,4 +26,6 @@ returns-else-how-le2 c =
 
 pub returns-else-report-eq-REPORT_SIZE : goal.returns-else-report-eq-REPORT_SIZE
 unfolding starts_on when◌then◌else◌
-returns-else-report-eq-REPORT_SIZE c = passed c.refusal-else-report-eq-REPORT_SIZE.type_inv ∙ c.refusal-else-report-eq-REPORT_SIZE.ensures ∙ rw (ne_eqb _ _ c.if-report-eq-REPORT_SIZE.false)
+returns-else-report-eq-REPORT_SIZE c =
+    passed c.refusal-else-report-eq-REPORT_SIZE.type_inv ∙ c.refusal-else-report-eq-REPORT_SIZE.ensures
+    ∙ rw (ne_eqb _ _ c.if-report-eq-REPORT_SIZE.false)

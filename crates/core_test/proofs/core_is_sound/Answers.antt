@@ -4,7 +4,8 @@ use native.Mathlib.Omega.{arith}
 use Rattle.core_test.proofs.core_is_sound.Goals as goal
 
 pub line_is_sound-queue-requires : goal.line_is_sound-queue-requires
-line_is_sound-queue-requires c = record { desk_size_in_bounds = c.requires.desk_size_in_bounds; fits = c.requires.fits; n_value = c.wide-n.ensures }
+line_is_sound-queue-requires c =
+    record { desk_size_in_bounds = c.requires.desk_size_in_bounds; fits = c.requires.fits; n_value = c.wide-n.ensures }
 
 pub floor_is_sound-floor-requires : goal.floor_is_sound-floor-requires
 floor_is_sound-floor-requires c =

@@ -5,7 +5,10 @@ use Rattle.core_test.proofs.line_is_sound.Goals as goal
 
 pub places_are_sound-places-requires : goal.places_are_sound-places-requires
 places_are_sound-places-requires c =
-    record { desk_size_in_bounds = c.requires.desk_size_in_bounds; n_value = (c.requires.n_value, omega (arith, c.requires.n_value, few_wait c.args.s.now c.requires.fits)) }
+    record {
+      desk_size_in_bounds = c.requires.desk_size_in_bounds;
+      n_value = (c.requires.n_value, omega (arith, c.requires.n_value, few_wait c.args.s.now c.requires.fits));
+    }
 
 pub returns : goal.returns
 returns c =

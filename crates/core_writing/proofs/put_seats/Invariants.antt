@@ -11,7 +11,8 @@ use Rattle.core_writing.proofs.put_seats.Given as goal
 
 abbrev pub invariant-loop-i : goal.invariant-loop-i
 invariant-loop-i l =
-    (l.i ≤ 15) × (length l.room ≡ length l.initial.room) × (l.room ≡ over l.initial.room waiting_column (column (λ k. (get_or l.entries k empty).seat) 0 l.i))
+    (l.i ≤ 15) × (length l.room ≡ length l.initial.room)
+    × (l.room ≡ over l.initial.room waiting_column (column (λ k. (get_or l.entries k empty).seat) 0 l.i))
 
 abbrev pub decreases-loop-i : goal.decreases-loop-i
 decreases-loop-i l = 15 - l.i

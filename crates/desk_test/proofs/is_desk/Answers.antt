@@ -7,7 +7,9 @@ use Rattle.desk_test.proofs.is_desk.Goals as goal
 
 pub seats_are_sound-seats-requires : goal.seats_are_sound-seats-requires
 seats_are_sound-seats-requires c =
-    let q = sym c.is_canonical.ensures ∙ c.if-is_canonical.true in record { desk_size_in_bounds = fits_room _ q; hall_part = fits_hall _ q; names_part = fits_names _ q }
+    let q =
+    sym c.is_canonical.ensures ∙ c.if-is_canonical.true in
+    record { desk_size_in_bounds = fits_room _ q; hall_part = fits_hall _ q; names_part = fits_names _ q }
 
 pub core_is_sound-floor-requires : goal.core_is_sound-floor-requires
 core_is_sound-floor-requires c =

@@ -11,7 +11,8 @@ use Rattle.desk_writing.proofs.put_lengths.Given as goal
 
 abbrev pub invariant-loop-s : goal.invariant-loop-s
 invariant-loop-s l =
-    (l.s ≤ 16) × (length l.room ≡ length l.initial.room) × (l.room ≡ over l.initial.room lengths_column (column (λ k. length (octets_of (name_at l.names k))) 0 l.s))
+    (l.s ≤ 16) × (length l.room ≡ length l.initial.room)
+    × (l.room ≡ over l.initial.room lengths_column (column (λ k. length (octets_of (name_at l.names k))) 0 l.s))
 
 abbrev pub decreases-loop-s : goal.decreases-loop-s
 decreases-loop-s l = 16 - l.s

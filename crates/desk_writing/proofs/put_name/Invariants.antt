@@ -7,7 +7,8 @@ use mathlib.Core.Path.{◌≡◌}
 use Rattle.desk_writing.proofs.put_name.Given as goal
 
 abbrev pub invariant-loop-i : goal.invariant-loop-i
-invariant-loop-i l = (l.i ≤ 62) × (length l.room ≡ length l.initial.room) × (l.room ≡ over l.initial.room (l.at) (column (λ k. get_or l.octets k 0) 0 l.i))
+invariant-loop-i l =
+    (l.i ≤ 62) × (length l.room ≡ length l.initial.room) × (l.room ≡ over l.initial.room (l.at) (column (λ k. get_or l.octets k 0) 0 l.i))
 
 abbrev pub decreases-loop-i : goal.decreases-loop-i
 decreases-loop-i l = 62 - l.i

@@ -10,7 +10,8 @@ use Rattle.desk_writing.proofs.put_seat_flags.Given as goal
 
 abbrev pub invariant-loop-i : goal.invariant-loop-i
 invariant-loop-i l =
-    (l.i ≤ 16) × (length l.room ≡ length l.initial.room) × (l.room ≡ over l.initial.room (l.at) (column (λ k. flags_octet (get_or l.flags k no_flags)) 0 l.i))
+    (l.i ≤ 16) × (length l.room ≡ length l.initial.room)
+    × (l.room ≡ over l.initial.room (l.at) (column (λ k. flags_octet (get_or l.flags k no_flags)) 0 l.i))
 
 abbrev pub decreases-loop-i : goal.decreases-loop-i
 decreases-loop-i l = 16 - l.i

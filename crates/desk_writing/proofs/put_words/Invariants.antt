@@ -8,7 +8,8 @@ use Rattle.desk_writing.proofs.put_words.Given as goal
 
 abbrev pub invariant-loop-i : goal.invariant-loop-i
 invariant-loop-i l =
-    (l.i ≤ 16) × (length l.room ≡ length l.initial.room) × (l.room ≡ over l.initial.room l.at (rows (λ k. octets32 (get_or l.words k 0)) 0 l.i))
+    (l.i ≤ 16) × (length l.room ≡ length l.initial.room)
+    × (l.room ≡ over l.initial.room l.at (rows (λ k. octets32 (get_or l.words k 0)) 0 l.i))
 
 abbrev pub decreases-loop-i : goal.decreases-loop-i
 decreases-loop-i l = 16 - l.i

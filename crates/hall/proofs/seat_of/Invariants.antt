@@ -17,7 +17,8 @@ sits present ssrcs x s = get_or present s false && eqb (get_or ssrcs s 0) x
 abbrev pub invariant-loop-s : goal.invariant-loop-s
 invariant-loop-s l =
     (l.s ≤ 16) × (l.found ≡ true → 1 ≤ l.s)
-    × (lowest (sits l.present l.ssrcs l.ssrc) ≡ (when l.found then At (l.s - 1) else first_from (sits l.present l.ssrcs l.ssrc) (16 - l.s) l.s))
+    × (lowest (sits l.present l.ssrcs l.ssrc)
+    ≡ (when l.found then At (l.s - 1) else first_from (sits l.present l.ssrcs l.ssrc) (16 - l.s) l.s))
 
 abbrev pub decreases-loop-s : goal.decreases-loop-s
 decreases-loop-s l = 16 - l.s

@@ -18,7 +18,8 @@ sits present all o s = get_or present s false && same (octets_of (get_or all s n
 abbrev pub invariant-loop-s : goal.invariant-loop-s
 invariant-loop-s l =
     (l.s ≤ 16) × (l.found ≡ true → 1 ≤ l.s)
-    × (lowest (sits l.present l.all l.identity) ≡ (when l.found then At (l.s - 1) else first_from (sits l.present l.all l.identity) (16 - l.s) l.s))
+    × (lowest (sits l.present l.all l.identity)
+    ≡ (when l.found then At (l.s - 1) else first_from (sits l.present l.all l.identity) (16 - l.s) l.s))
 
 abbrev pub decreases-loop-s : goal.decreases-loop-s
 decreases-loop-s l = 16 - l.s

@@ -7,7 +7,8 @@ use Rattle.line.proofs.another_at_least.Given as goal
 
 abbrev pub invariant-loop-i : goal.invariant-loop-i
 invariant-loop-i l =
-    (l.i ≤ l.n) × (another_at_least l.seat l.priority (take l.n l.entries) ≡ anyone (other_at_least l.seat l.priority) (drop l.i (take l.n l.entries)))
+    (l.i ≤ l.n) × (another_at_least l.seat l.priority (take l.n l.entries)
+    ≡ anyone (other_at_least l.seat l.priority) (drop l.i (take l.n l.entries)))
 
 abbrev pub decreases-loop-i : goal.decreases-loop-i
 decreases-loop-i l = l.n - l.i

@@ -8,7 +8,8 @@ use Rattle.line.proofs.struck.Given as goal
 
 abbrev pub invariant-loop-i : goal.invariant-loop-i
 invariant-loop-i l =
-    (l.i ≤ l.n) × (l.len ≡ length (without l.seats (take l.i l.old))) × (l.len ≤ l.i) × (l.entries ≡ padded (without l.seats (take l.i l.old)))
+    (l.i ≤ l.n) × (l.len ≡ length (without l.seats (take l.i l.old))) × (l.len ≤ l.i)
+    × (l.entries ≡ padded (without l.seats (take l.i l.old)))
 
 abbrev pub decreases-loop-i : goal.decreases-loop-i
 decreases-loop-i l = l.n - l.i

@@ -11,7 +11,8 @@ use native.Mathlib.Omega.{arith}
 use Rattle.message_octets.proofs.lay_next.Goals as goal
 
 pub lay_word-has-requires : goal.lay_word-has-requires
-lay_word-has-requires c = record { blank = (c.requires.blank, omega arith); at_in_bounds = (c.requires.reach.two 5, omega (arith, c.requires.has_bound)) }
+lay_word-has-requires c =
+    record { blank = (c.requires.blank, omega arith); at_in_bounds = (c.requires.reach.two 5, omega (arith, c.requires.has_bound)) }
 
 pub lay_word-has-requires-2 : goal.lay_word-has-requires-2
 unfolding octets16 octets32 place_octets

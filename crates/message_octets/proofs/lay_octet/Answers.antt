@@ -15,7 +15,11 @@ unfolding octet_at when◌then◌else◌
 returns-then-at-eq0 c =
     let a = c.args in
     rw (eq-eqb _ _ c.if-at-eq0.true)
-    (record { lays = lays_nothing a.room.now a.to _ c.requires.blank.0 1 c.requires.blank.1 refl; value = sym (add-zero a.has); upper_bound = omega arith })
+    (record {
+      lays = lays_nothing a.room.now a.to _ c.requires.blank.0 1 c.requires.blank.1 refl;
+      value = sym (add-zero a.has);
+      upper_bound = omega arith;
+    })
 
 pub returns : goal.returns
 unfolding octet_at when◌then◌else◌

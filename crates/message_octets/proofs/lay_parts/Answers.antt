@@ -11,7 +11,8 @@ use native.Mathlib.Omega.{arith}
 use Rattle.message_octets.proofs.lay_parts.Goals as goal
 
 pub lay_phrase-requires : goal.lay_phrase-requires
-lay_phrase-requires c = record { blank = (c.requires.blank, omega arith); at_in_bounds = c.requires.reach.two 2; bound = c.requires.reach.cause }
+lay_phrase-requires c =
+    record { blank = (c.requires.blank, omega arith); at_in_bounds = c.requires.reach.two 2; bound = c.requires.reach.cause }
 
 pub lay_part-has-requires : goal.lay_part-has-requires
 unfolding octets16 place_octets

@@ -14,7 +14,12 @@ pub returns-then-at-eq0 : goal.returns-then-at-eq0
 unfolding word_at when◌then◌else◌ octets16
 returns-then-at-eq0 c =
     let a = c.args in
-    rw (eq-eqb _ _ c.if-at-eq0.true) (record { lays = lays_nothing a.room.now a.to _ c.requires.blank.0 2 c.requires.blank.1 refl; value = sym (add-zero a.has); upper_bound = omega arith })
+    rw (eq-eqb _ _ c.if-at-eq0.true)
+    (record {
+      lays = lays_nothing a.room.now a.to _ c.requires.blank.0 2 c.requires.blank.1 refl;
+      value = sym (add-zero a.has);
+      upper_bound = omega arith;
+    })
 
 pub returns : goal.returns
 unfolding word_at when◌then◌else◌ octets16

@@ -1,5 +1,5 @@
--- `message_writing::size_in` keeps its promise, `r ≡ header_size + (front_size (message_in (now s.entry) fields) + rest_size (message_in (now
--- s.entry) fields))`. The octets of the whole packet. Assumes nothing.
+-- `message_writing::size_in` keeps its promise, `r ≡ header_size + (front_size (message_in (now s.entry) fields) + rest_size (message_in
+-- (now s.entry) fields))`. The octets of the whole packet. Assumes nothing.
 use Rattle.message_octets.specs.Held.{message_with}
 use Rattle.message_writing.specs.Writes.{message_in}
 use Rattle.message_writing.proofs.Laws.{size_is, size_none}
@@ -24,7 +24,8 @@ part_size-requires c =
 
 pub part_size-requires-2 : goal.part_size-requires-2
 unfolding message_in message_with
-part_size-requires-2 c = record { worth_nonzero = (omega arith, omega (arith, c.requires.message_size_in_bounds)); at_bound = c.requires.short.user }
+part_size-requires-2 c =
+    record { worth_nonzero = (omega arith, omega (arith, c.requires.message_size_in_bounds)); at_bound = c.requires.short.user }
 
 pub overflow_add-result-2 : goal.overflow_add-result-2
 unfolding message_in message_with
@@ -36,13 +37,29 @@ pub overflow_add-result-3 : goal.overflow_add-result-3
 unfolding message_in message_with
 overflow_add-result-3 c =
     let m = message_in c.args.s.now c.args.fields in
-    omega (arith, c.short_size.ensures.upper_bound, c.cause_size.ensures, c.part_size.ensures, (cause_whole m.cause c.requires.short.phrase).small, (part_whole m.granted c.requires.short.granted).small)
+    omega (
+      arith,
+      c.short_size.ensures.upper_bound,
+      c.cause_size.ensures,
+      c.part_size.ensures,
+      (cause_whole m.cause c.requires.short.phrase).small,
+      (part_whole m.granted c.requires.short.granted).small,
+    )
 
 pub overflow_add-result-4 : goal.overflow_add-result-4
 unfolding message_in message_with
 overflow_add-result-4 c =
     let m = message_in c.args.s.now c.args.fields in
-    omega (arith, c.short_size.ensures.upper_bound, c.cause_size.ensures, c.part_size.ensures, c.part_size-2.ensures, (cause_whole m.cause c.requires.short.phrase).small, (part_whole m.granted c.requires.short.granted).small, (part_whole m.user c.requires.short.user).small)
+    omega (
+      arith,
+      c.short_size.ensures.upper_bound,
+      c.cause_size.ensures,
+      c.part_size.ensures,
+      c.part_size-2.ensures,
+      (cause_whole m.cause c.requires.short.phrase).small,
+      (part_whole m.granted c.requires.short.granted).small,
+      (part_whole m.user c.requires.short.user).small,
+    )
 
 pub returns : goal.returns
 unfolding message_in message_with

@@ -23,7 +23,9 @@ readable_in-requires c = record { s_len = c.if-held-ne-MESSAGE_SIZE.false; field
 
 pub size_in-size-requires : goal.size_in-size-requires
 size_in-size-requires c =
-    let facts = holds c.args.held.now c.args.source.now c.number16-fields.ensures c.if-held-ne-MESSAGE_SIZE.false (sym c.readable_in.ensures ∙ c.if-readable_in.true) in
+    let facts =
+    holds c.args.held.now c.args.source.now c.number16-fields.ensures c.if-held-ne-MESSAGE_SIZE.false
+    (sym c.readable_in.ensures ∙ c.if-readable_in.true) in
     record {
       message_size_in_bounds = omega (arith, c.if-held-ne-MESSAGE_SIZE.false);
       short = (held_by (message_in c.args.held.now c.number16-fields.result)
@@ -32,7 +34,9 @@ size_in-size-requires c =
 
 pub returns-then-room-size : goal.returns-then-room-size
 returns-then-room-size c =
-    let facts = holds c.args.held.now c.args.source.now c.number16-fields.ensures c.if-held-ne-MESSAGE_SIZE.false (sym c.readable_in.ensures ∙ c.if-readable_in.true) in
+    let facts =
+    holds c.args.held.now c.args.source.now c.number16-fields.ensures c.if-held-ne-MESSAGE_SIZE.false
+    (sym c.readable_in.ensures ∙ c.if-readable_in.true) in
     rw facts.is
     (refused_13 (message_in c.args.held.now
     c.number16-fields.result)
@@ -42,17 +46,23 @@ returns-then-room-size c =
 
 pub overflow_mul-first : goal.overflow_mul-first
 overflow_mul-first c =
-    let facts = holds c.args.held.now c.args.source.now c.number16-fields.ensures c.if-held-ne-MESSAGE_SIZE.false (sym c.readable_in.ensures ∙ c.if-readable_in.true) in
+    let facts =
+    holds c.args.held.now c.args.source.now c.number16-fields.ensures c.if-held-ne-MESSAGE_SIZE.false
+    (sym c.readable_in.ensures ∙ c.if-readable_in.true) in
     omega (arith, facts.ack)
 
 pub overflow_add-first : goal.overflow_add-first
 overflow_add-first c =
-    let facts = holds c.args.held.now c.args.source.now c.number16-fields.ensures c.if-held-ne-MESSAGE_SIZE.false (sym c.readable_in.ensures ∙ c.if-readable_in.true) in
+    let facts =
+    holds c.args.held.now c.args.source.now c.number16-fields.ensures c.if-held-ne-MESSAGE_SIZE.false
+    (sym c.readable_in.ensures ∙ c.if-readable_in.true) in
     omega (arith, facts.ack)
 
 pub overflow_add-first-then-readable_in : goal.overflow_add-first-then-readable_in
 overflow_add-first-then-readable_in c =
-    let facts = holds c.args.held.now c.args.source.now c.number16-fields.ensures c.if-held-ne-MESSAGE_SIZE.false (sym c.readable_in.ensures ∙ c.if-readable_in.true) in
+    let facts =
+    holds c.args.held.now c.args.source.now c.number16-fields.ensures c.if-held-ne-MESSAGE_SIZE.false
+    (sym c.readable_in.ensures ∙ c.if-readable_in.true) in
     omega (arith, facts.ack, type_small c.args.held.now facts.type)
 
 pub number32-ssrc-requires : goal.number32-ssrc-requires
@@ -60,7 +70,9 @@ number32-ssrc-requires c = omega (arith, c.if-held-ne-MESSAGE_SIZE.false)
 
 pub put_header-requires : goal.put_header-requires
 put_header-requires c =
-    let facts = holds c.args.held.now c.args.source.now c.number16-fields.ensures c.if-held-ne-MESSAGE_SIZE.false (sym c.readable_in.ensures ∙ c.if-readable_in.true) in
+    let facts =
+    holds c.args.held.now c.args.source.now c.number16-fields.ensures c.if-held-ne-MESSAGE_SIZE.false
+    (sym c.readable_in.ensures ∙ c.if-readable_in.true) in
     let w =
     size_whole (message_in
     c.args.held.now
@@ -74,7 +86,9 @@ put_header-requires c =
 pub put_front-at-requires : goal.put_front-at-requires
 unfolding message_in message_with
 put_front-at-requires c =
-    let facts = holds c.args.held.now c.args.source.now c.number16-fields.ensures c.if-held-ne-MESSAGE_SIZE.false (sym c.readable_in.ensures ∙ c.if-readable_in.true) in
+    let facts =
+    holds c.args.held.now c.args.source.now c.number16-fields.ensures c.if-held-ne-MESSAGE_SIZE.false
+    (sym c.readable_in.ensures ∙ c.if-readable_in.true) in
     let m = message_in c.args.held.now c.number16-fields.result in
     let headed_is : c.put_header.new.room ≡ over c.args.room.now 0 (headed (first_octet m.kind m.ack) m.ssrc c.size_in-size.result) =
     c.put_header.ensures
@@ -98,7 +112,9 @@ put_front-at-requires c =
 pub put_rest-requires : goal.put_rest-requires
 unfolding message_in message_with
 put_rest-requires c =
-    let facts = holds c.args.held.now c.args.source.now c.number16-fields.ensures c.if-held-ne-MESSAGE_SIZE.false (sym c.readable_in.ensures ∙ c.if-readable_in.true) in
+    let facts =
+    holds c.args.held.now c.args.source.now c.number16-fields.ensures c.if-held-ne-MESSAGE_SIZE.false
+    (sym c.readable_in.ensures ∙ c.if-readable_in.true) in
     let m = message_in c.args.held.now c.number16-fields.result in
     let headed_is : c.put_header.new.room ≡ over c.args.room.now 0 (headed (first_octet m.kind m.ack) m.ssrc c.size_in-size.result) =
     c.put_header.ensures
@@ -124,7 +140,9 @@ put_rest-requires c =
 pub returns-else-room-size : goal.returns-else-room-size
 unfolding message_in message_with
 returns-else-room-size c =
-    let facts = holds c.args.held.now c.args.source.now c.number16-fields.ensures c.if-held-ne-MESSAGE_SIZE.false (sym c.readable_in.ensures ∙ c.if-readable_in.true) in
+    let facts =
+    holds c.args.held.now c.args.source.now c.number16-fields.ensures c.if-held-ne-MESSAGE_SIZE.false
+    (sym c.readable_in.ensures ∙ c.if-readable_in.true) in
     let m = message_in c.args.held.now c.number16-fields.result in
     let headed_is : c.put_header.new.room ≡ over c.args.room.now 0 (headed (first_octet m.kind m.ack) m.ssrc c.size_in-size.result) =
     c.put_header.ensures

@@ -29,7 +29,8 @@ returns-in-PastTheEnd c =
     let a = c.args in
     let w = c.in-PastTheEnd.is in (
       judges_fault a.kind a.s.now c.all_starts.new.starts c.all_starts.result c.requires.s_value
-          (walked_of (fields_in a.s.now) c.all_starts.result c.all_starts.new.starts c.all_starts.ensures) PastTheEnd (rw w) (rw w (lit< tt)),
+          (walked_of (fields_in a.s.now) c.all_starts.result c.all_starts.new.starts c.all_starts.ensures) PastTheEnd (rw w)
+          (rw w (lit< tt)),
       none_left (fields_in a.s.now) c.all_starts.result c.all_starts.new.starts (λ q. past_not_whole (sym w ∙ q)) c.all_starts.ensures,
     )
 
@@ -38,7 +39,8 @@ returns-in-AgainstTheTable c =
     let a = c.args in
     let w = c.in-AgainstTheTable.is in (
       judges_fault a.kind a.s.now c.all_starts.new.starts c.all_starts.result c.requires.s_value
-          (walked_of (fields_in a.s.now) c.all_starts.result c.all_starts.new.starts c.all_starts.ensures) AgainstTheTable (rw w) (rw w (lit< tt)),
+          (walked_of (fields_in a.s.now) c.all_starts.result c.all_starts.new.starts c.all_starts.ensures) AgainstTheTable (rw w)
+          (rw w (lit< tt)),
       none_left (fields_in a.s.now) c.all_starts.result c.all_starts.new.starts (λ q. against_not_whole (sym w ∙ q)) c.all_starts.ensures,
     )
 

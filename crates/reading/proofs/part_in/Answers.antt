@@ -30,5 +30,6 @@ returns c =
     let s = c.args.s.now in
     let from = c.in-At.from in
     let count = c.in-At.count in
-    let h : length s < from + count = (elim c.if-from-s.branch [ then-from-s+else-count-s w ↦ omega arith | else-from-s w ↦ omega arith ]) in
+    let h : length s < from + count =
+    (elim c.if-from-s.branch [ then-from-s+else-count-s w ↦ omega arith | else-from-s w ↦ omega arith ]) in
     rw (c.in-At.is, lt-leb (from + count) (length s) h) (record { value = refl; place = refl })

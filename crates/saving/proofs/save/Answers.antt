@@ -12,7 +12,13 @@ use Rattle.saving.proofs.save.Goals as goal
 pub returns-then-settings-ne0 : goal.returns-then-settings-ne0
 returns-then-settings-ne0 c =
     let a = c.args in
-    let other = c.if-settings-ne0.true in record { saves = sym (saves_none a.hall a.names a.room.now other); room_after = sym (room_kept a.hall a.names a.room.now other); result_bound = omega arith }
+    let other =
+    c.if-settings-ne0.true in
+    record {
+      saves = sym (saves_none a.hall a.names a.room.now other);
+      room_after = sym (room_kept a.hall a.names a.room.now other);
+      result_bound = omega arith;
+    }
 
 pub returns-then-room-at : goal.returns-then-room-at
 returns-then-room-at c =

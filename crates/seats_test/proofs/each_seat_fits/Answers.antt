@@ -12,7 +12,11 @@ loop-seat-init c = (omega arith, refl)
 
 pub seat_fits-good-requires : goal.seat_fits-good-requires
 seat_fits-good-requires c =
-    record { desk_size_in_bounds = c.requires.desk_size_in_bounds; seat_bound = c.loop-seat-test.true; length_bound = fits-length c.args.s.now c.requires.names_part _ c.loop-seat-test.true }
+    record {
+      desk_size_in_bounds = c.requires.desk_size_in_bounds;
+      seat_bound = c.loop-seat-test.true;
+      length_bound = fits-length c.args.s.now c.requires.names_part _ c.loop-seat-test.true;
+    }
 
 pub loop-seat-preserved : goal.loop-seat-preserved
 loop-seat-preserved c =

@@ -7,11 +7,19 @@ use Rattle.seats_test.proofs.seat_fits.Goals as goal
 
 pub taken_fits-taken-requires : goal.taken_fits-taken-requires
 taken_fits-taken-requires c =
-    record { desk_size_in_bounds = c.requires.desk_size_in_bounds; seat_bound = c.requires.seat_bound; ssrc_value = c.number32-ssrc.ensures }
+    record {
+      desk_size_in_bounds = c.requires.desk_size_in_bounds;
+      seat_bound = c.requires.seat_bound;
+      ssrc_value = c.number32-ssrc.ensures;
+    }
 
 pub free_fits-free-requires : goal.free_fits-free-requires
 free_fits-free-requires c =
-    record { desk_size_in_bounds = c.requires.desk_size_in_bounds; seat_bound = c.requires.seat_bound; ssrc_value = c.number32-ssrc.ensures }
+    record {
+      desk_size_in_bounds = c.requires.desk_size_in_bounds;
+      seat_bound = c.requires.seat_bound;
+      ssrc_value = c.number32-ssrc.ensures;
+    }
 
 pub returns-then-s-seat-eq1 : goal.returns-then-s-seat-eq1
 unfolding seat_fits

@@ -20,7 +20,11 @@ pub put_cause-at-requires : goal.put_cause-at-requires
 put_cause-at-requires c =
     let fits_1 = field-rest _ _ _ _ _ c.requires.src_in_bounds c.put_octet-at.ensures in
     let fits_2 = field-rest _ _ _ _ _ fits_1 c.put_word-at.ensures in
-    record { c_bound = c.requires.fields_fit.short.phrase; c_value = c.requires.fields_fit.phrase; c_in_bounds = field_fits _ _ _ c.put_word-at.new.room _ fits_2 }
+    record {
+      c_bound = c.requires.fields_fit.short.phrase;
+      c_value = c.requires.fields_fit.phrase;
+      c_in_bounds = field_fits _ _ _ c.put_word-at.new.room _ fits_2;
+    }
 
 pub put_queue-at-requires : goal.put_queue-at-requires
 put_queue-at-requires c =
@@ -36,7 +40,12 @@ put_identity-at-requires c =
     let fits_2 = field-rest _ _ _ _ _ fits_1 c.put_word-at.ensures in
     let fits_3 = field-rest _ _ _ _ _ fits_2 c.put_cause-at.ensures in
     let fits_4 = field-rest _ _ _ _ _ fits_3 c.put_queue-at.ensures in
-    record { id_value = refl; p_bound = c.requires.fields_fit.short.granted; p_value = c.requires.fields_fit.granted; p_in_bounds = field_fits _ _ _ c.put_queue-at.new.room _ fits_4 }
+    record {
+      id_value = refl;
+      p_bound = c.requires.fields_fit.short.granted;
+      p_value = c.requires.fields_fit.granted;
+      p_in_bounds = field_fits _ _ _ c.put_queue-at.new.room _ fits_4;
+    }
 
 pub put_word-requires : goal.put_word-requires
 unfolding row_in when◌then◌else◌

@@ -8,7 +8,12 @@ use Rattle.writing.proofs.put_rest.Goals as goal
 pub put_identity-at-requires : goal.put_identity-at-requires
 unfolding row_in when◌then◌else◌
 put_identity-at-requires c =
-    record { id_value = refl; p_bound = c.requires.fields_fit.short.user; p_value = c.requires.fields_fit.user; p_in_bounds = field_fits _ _ _ c.args.room.now _ c.requires.src_in_bounds }
+    record {
+      id_value = refl;
+      p_bound = c.requires.fields_fit.short.user;
+      p_value = c.requires.fields_fit.user;
+      p_in_bounds = field_fits _ _ _ c.args.room.now _ c.requires.src_in_bounds;
+    }
 
 pub put_word-at-requires : goal.put_word-at-requires
 unfolding row_in when◌then◌else◌

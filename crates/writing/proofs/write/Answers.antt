@@ -37,7 +37,8 @@ pub put_front-at-requires : goal.put_front-at-requires
 put_front-at-requires c =
     let read : readable c.args.m c.args.src.now ≡ true = sym c.readable.ensures ∙ c.if-readable.true in
     let a = c.args in
-    let headed_is = c.put_header.ensures ∙ ap (λ (first : ℕ). over a.room.now 0 (headed first a.m.ssrc c.size_of-size.result)) c.first_octet.ensures in
+    let headed_is =
+    c.put_header.ensures ∙ ap (λ (first : ℕ). over a.room.now 0 (headed first a.m.ssrc c.size_of-size.result)) c.first_octet.ensures in
     record {
       fields_fit = held_by a.m a.src.now read;
       src_in_bounds = front_fits c.args.m
@@ -52,7 +53,8 @@ pub put_rest-requires : goal.put_rest-requires
 put_rest-requires c =
     let read : readable c.args.m c.args.src.now ≡ true = sym c.readable.ensures ∙ c.if-readable.true in
     let a = c.args in
-    let headed_is = c.put_header.ensures ∙ ap (λ (first : ℕ). over a.room.now 0 (headed first a.m.ssrc c.size_of-size.result)) c.first_octet.ensures in
+    let headed_is =
+    c.put_header.ensures ∙ ap (λ (first : ℕ). over a.room.now 0 (headed first a.m.ssrc c.size_of-size.result)) c.first_octet.ensures in
     record {
       fields_fit = held_by a.m a.src.now
           read;
@@ -67,7 +69,8 @@ pub returns-else-room-size : goal.returns-else-room-size
 returns-else-room-size c =
     let read : readable c.args.m c.args.src.now ≡ true = sym c.readable.ensures ∙ c.if-readable.true in
     let a = c.args in
-    let headed_is = c.put_header.ensures ∙ ap (λ (first : ℕ). over a.room.now 0 (headed first a.m.ssrc c.size_of-size.result)) c.first_octet.ensures in
+    let headed_is =
+    c.put_header.ensures ∙ ap (λ (first : ℕ). over a.room.now 0 (headed first a.m.ssrc c.size_of-size.result)) c.first_octet.ensures in
     laid_whole c.args.m
     c.args.src.now
     c.args.room.now
