@@ -39,9 +39,6 @@ mask_turn set i mask b p h m e =
 pub mask_small : (set : List Bool) (i mask : ℕ) → 0 < i → length set ≡ 8 → mask ≡ mask_of (drop i set) → mask < 2 ^ 7
 mask_small set i mask p h m = rw m (mask_fits (drop i set) 7 (rw length-drop (omega arith)))
 
-pub octet_fits : (set : List Bool) (i mask : ℕ) → length set ≡ 8 → mask ≡ mask_of (drop i set) → mask < 2 ^ 8
-octet_fits set i mask h m = rw m (mask_fits (drop i set) 8 (rw length-drop (omega arith)))
-
 pub mask_none : (set : List Bool) → length set ≡ 8 → 0 ≡ mask_of (drop 8 set)
 mask_none set h = sym (ap mask_of (drop_of_length-le set (le_of_eq h)))
 
