@@ -1,9 +1,9 @@
 -- `hall::is_alone` meets its contract. The invariant says what is done at the present place, and what is left. Assumes nothing.
-use Prim.Native.Nat.{◌-◌, ◌≤◌}
+use Prim.Native.Nat.{◌≤◌}
 use mathlib.Core.Path.{refl, ap, sym, ◌∙◌}
 use native.Mathlib.Omega.{arith}
 use lib.ListN.{length-set, length}
-use Rattle.hall.specs.Seats.{alone, someone}
+use Rattle.hall.specs.Seats.{alone}
 use Rattle.hall.proofs.Laws.{someone_on, someone-stops, someone-ends}
 use Rattle.hall.proofs.is_alone.Goals as goal
 

@@ -1,15 +1,15 @@
 -- `hall::seat_of` meets its contract. The invariant says what is done at the present seat, and what is left. Assumes nothing.
 use Prim.Native.Nat.{◌+◌, ◌-◌, ◌≤◌, ◌<◌}
-use mathlib.Core.Bool.{true, false, not}
+use mathlib.Core.Bool.{not}
 use mathlib.Core.Path.{◌≡◌, refl, ap, sym, ◌∙◌}
 use native.Mathlib.Omega.{arith}
 use lib.Dec.{ltb}
 use borrow.Author.Tests.{ltb-true, ltb-false, not-true}
-use Rattle.words.specs.Choice.{when◌then◌else◌, if_yes, if_no, by_test}
+use Rattle.words.specs.Choice.{if_yes, if_no, by_test}
 use Rattle.words.specs.Below.{and_left, and_right}
 use Rattle.words.proofs.Tests.{clash, both}
 use Rattle.hall.specs.declared.Found.TheVariants.{At}
-use Rattle.hall.specs.Seats.{seat_of, lowest}
+use Rattle.hall.specs.Seats.{seat_of}
 use Rattle.hall.proofs.Laws.{lowest_on, lowest-stops, lowest-ends}
 use Rattle.hall.proofs.seat_of.Invariants.{sits}
 use Rattle.hall.proofs.seat_of.Goals as goal

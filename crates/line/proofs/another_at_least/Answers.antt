@@ -1,9 +1,9 @@
 -- `line::another_at_least` meets its contract. The invariant says what is done at the present place, and what is left. Assumes nothing.
-use Prim.Native.Nat.{◌-◌, ◌≤◌, ◌<◌}
+use Prim.Native.Nat.{◌≤◌, ◌<◌}
 use mathlib.Core.Path.{refl, ap, sym, ◌∙◌}
 use native.Mathlib.Omega.{arith}
 use lib.ListN.{length}
-use Rattle.line.specs.Line.{waiting, another_at_least, anyone, other_at_least}
+use Rattle.line.specs.Line.{waiting, another_at_least, other_at_least}
 use Rattle.line.proofs.Laws.{waiting_first, first_there, anyone_on, anyone-stops, anyone-ends}
 use Rattle.line.proofs.another_at_least.Goals as goal
 

@@ -1,12 +1,12 @@
 -- `line::insert` meets its contract. The invariant says what is done at the present place, and what is left. Assumes nothing.
-use Prim.Native.Nat.{ℕ, suc, ◌+◌, ◌-◌, ◌≤◌, ◌<◌}
+use Prim.Native.Nat.{ℕ, suc, ◌+◌, ◌≤◌, ◌<◌}
 use mathlib.Core.List.{◌++◌, ◌∷◌, []}
 use mathlib.Core.Path.{◌≡◌, refl, ap, sym, ◌∙◌}
 use native.Mathlib.Omega.{arith}
 use lib.ListN.{length-take, length, take, drop, get_or}
 use lib.Seq.{take_all, take-take}
 use Rattle.line.specs.Line.{waiting, empty}
-use Rattle.line.proofs.Laws.{waiting_first, waiting-within, padded, padded-next, put_length, put_first, next-taken, line_front}
+use Rattle.line.proofs.Laws.{waiting_first, waiting-within, padded-next, put_length, put_first, next-taken, line_front}
 use Rattle.line.proofs.insert.Goals.{else-n-lt15, then-n-lt15}
 use Rattle.line.proofs.insert.Goals as goal
 

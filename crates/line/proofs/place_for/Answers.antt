@@ -1,10 +1,10 @@
 -- `line::place_for` meets its contract. The invariant says what is done at the present place, and what is left. Assumes nothing.
-use Prim.Native.Nat.{◌-◌, ◌<◌}
+use Prim.Native.Nat.{◌<◌}
 use mathlib.Core.Path.{◌≡◌, sym, ◌∙◌}
 use native.Mathlib.Omega.{arith}
 use lib.ListN.{length}
 use borrow.Author.Tests.{le-leb, lt-leb}
-use Rattle.line.specs.Line.{waiting, ahead, leading}
+use Rattle.line.specs.Line.{waiting, ahead}
 use Rattle.line.proofs.Laws.{waiting_first, first_there, leading_on, leading-stops, leading-ends}
 use Rattle.line.proofs.place_for.Goals as goal
 

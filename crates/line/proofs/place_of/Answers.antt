@@ -1,10 +1,10 @@
 -- `line::place_of` meets its contract. The invariant says what is done at the present place, and what is left. Assumes nothing.
-use Prim.Native.Nat.{◌-◌, ◌<◌}
+use Prim.Native.Nat.{◌<◌}
 use mathlib.Core.Path.{◌≡◌, sym, ◌∙◌}
 use native.Mathlib.Omega.{arith}
 use lib.ListN.{length}
 use borrow.Author.Tests.{eq-eqb, ne_eqb}
-use Rattle.line.specs.Line.{waiting, before, leading}
+use Rattle.line.specs.Line.{waiting, before}
 use Rattle.line.proofs.Laws.{waiting_first, first_there, leading_on, leading-stops, leading-ends}
 use Rattle.line.proofs.place_of.Goals as goal
 
