@@ -1,10 +1,14 @@
 // Saves the class's sheet, prints it octet by octet, damages it in each way that loading looks for, and prints the answer to each.
+#![tactic(auto)]
+
 ghost use Rattle.std.specs.Prelude.{◌+◌, ◌<◌, ◌≤◌, length};
 
 use hall::Hall;
 use identities::Names;
+use printing::{Page, Printout};
 use saving::Saving;
 use sheet::Verdict;
+use std::io;
 
 // Octets enough for the longest sheet, which has 1,124.
 const SHEET_ROOM: usize = 1152;
@@ -65,8 +69,9 @@ const OTHER_LEVEL: usize = EVERYBODY + 1;
 
 const FLAGS: usize = OTHER_LEVEL + 1;
 
-fn say(k: usize, n: usize) {
+fn say(page: &mut Printout, k: usize, n: usize) {
     printing::row(
+        page,
         b"\
           highest priority %\n^\
           SSRC\n^\
@@ -159,33 +164,33 @@ fn octet_at(s: &[u8], at: usize) -> u8 {
 }
 
 // The octets of a line, up to eight, and their offset.
-fn dump(s: &[u8], at: usize, count: usize) {
-    printing::column(at);
-    printing::places(printing::part(s, at, count), 8);
-    printing::spaces(2);
+fn dump(page: &mut Printout, s: &[u8], at: usize, count: usize) {
+    printing::column(page, at);
+    printing::places(page, printing::part(s, at, count), 8);
+    printing::spaces(page, 2);
 }
 
 // The rows from one up to another, of the octets from a place on.
-fn dump_rows(s: &[u8], at: usize, first: usize, last: usize)
+fn dump_rows(page: &mut Printout, s: &[u8], at: usize, first: usize, last: usize)
     requires { (at ≤ length s.now) × (last ≤ 15) }
 {
     let mut from = at;
     let mut k = first;
     while k < last {
         let count = width(k) as usize;
-        dump(s, from, count);
-        say(k, octet_at(s, from) as usize);
+        dump(page, s, from, count);
+        say(page, k, octet_at(s, from) as usize);
         from += count;
         k += 1;
     }
 }
 
 // A line of an identity, with its letters.
-fn dump_letters(s: &[u8], at: usize, count: usize) {
-    dump(s, at, count);
-    printing::spaces(2);
-    printing::letters(printing::part(s, at, count));
-    printing::line_end();
+fn dump_letters(page: &mut Printout, s: &[u8], at: usize, count: usize) {
+    dump(page, s, at, count);
+    printing::spaces(page, 2);
+    printing::letters(page, printing::part(s, at, count));
+    printing::line_end(page);
 }
 
 // How many octets the next line has.
@@ -194,56 +199,56 @@ fn next_line(left: usize) -> usize {
 }
 
 // An identity, eight octets to a line.
-fn dump_identity(s: &[u8], at: usize, count: usize)
+fn dump_identity(page: &mut Printout, s: &[u8], at: usize, count: usize)
     requires { (at ≤ length s.now) × (count ≤ 255) }
 {
     let mut done = 0;
     while done < count {
-        dump_letters(s, at + done, next_line(count - done));
+        dump_letters(page, s, at + done, next_line(count - done));
         done += 8;
     }
 }
 
 // One seat; where the next begins.
-fn dump_seat(s: &[u8], at: usize) -> usize
+fn dump_seat(page: &mut Printout, s: &[u8], at: usize) -> usize
     requires { at + 7 ≤ length s.now }
     ensures { (at + 7 ≤ result) × (result ≤ at + 262) }
 {
     let count = octet_at(s, at + 6) as usize;
-    say(SEAT, 0);
-    dump(s, at, 1);
-    say(FLAGS + octet_at(s, at) as usize, 0);
-    dump_rows(s, at + 1, SEAT_ROWS, SETTINGS_ROWS);
-    dump_identity(s, at + 7, count);
+    say(page, SEAT, 0);
+    dump(page, s, at, 1);
+    say(page, FLAGS + octet_at(s, at) as usize, 0);
+    dump_rows(page, s, at + 1, SEAT_ROWS, SETTINGS_ROWS);
+    dump_identity(page, s, at + 7, count);
     at + 7 + count
 }
 
 // The seats that stand before a place.
-fn dump_seats(s: &[u8], end: usize)
+fn dump_seats(page: &mut Printout, s: &[u8], end: usize)
     requires { end ≤ length s.now }
 {
     let mut at = 0;
     while at + 7 <= end {
-        at = dump_seat(s, at);
+        at = dump_seat(page, s, at);
     }
 }
 
 // The whole sheet.
-fn dump_sheet(s: &[u8]) {
+fn dump_sheet(page: &mut Printout, s: &[u8]) {
     if s.len() < 20 {
         return;
     }
     let end = s.len() - 20;
-    dump_seats(s, end);
-    say(SETTINGS, 0);
-    dump_rows(s, end, SETTINGS_ROWS, TRAILER_ROWS);
-    say(TRAILER, 0);
-    dump_rows(s, end + 12, TRAILER_ROWS, SEAT);
+    dump_seats(page, s, end);
+    say(page, SETTINGS, 0);
+    dump_rows(page, s, end, SETTINGS_ROWS, TRAILER_ROWS);
+    say(page, TRAILER, 0);
+    dump_rows(page, s, end + 12, TRAILER_ROWS, SEAT);
 }
 
 // The classes.
 
-#[derive(Drop)]
+#[derive(Clone, Copy)]
 pub struct Seated {
     pub hall: Hall,
     pub names: Names,
@@ -325,32 +330,32 @@ fn everybody() -> Seated {
 
 // Saving and loading, with the answer printed.
 
-fn show_verdict(v: Verdict) {
+fn show_verdict(page: &mut Printout, v: Verdict) {
     let n = sheet::verdict_number(v) as usize;
-    say(VERDICT + n % 40, n);
+    say(page, VERDICT + n % 40, n);
 }
 
-fn load(s: &[u8]) {
+fn load(page: &mut Printout, s: &[u8]) {
     let l = loading::load(s);
     let v = l.verdict;
-    show_verdict(v);
+    show_verdict(page, v);
 }
 
 // How many octets there are; 0 where it was refused.
-fn save(class: Seated, room: &mut [u8]) -> usize {
+fn save(page: &mut Printout, class: Seated, room: &mut [u8]) -> usize {
     let hall = class.hall;
     let names = class.names;
     match saving::save(hall, names, room) {
         Saving::Saved(n) => {
-            say(SAVED, n);
+            say(page, SAVED, n);
             n
         }
         Saving::CannotHold => {
-            say(CANNOT_HOLD, 0);
+            say(page, CANNOT_HOLD, 0);
             0
         }
         Saving::NoRoom => {
-            say(NO_ROOM, 0);
+            say(page, NO_ROOM, 0);
             0
         }
     }
@@ -368,110 +373,112 @@ const OCTETS: [u8; DAMAGE_COUNT] = [
 ];
 
 // One octet of the sheet changed for one loading.
-fn damage(room: &mut [u8], at: usize, octet: u8) {
+fn damage(page: &mut Printout, room: &mut [u8], at: usize, octet: u8) {
     if at < room.len() {
         let old = room[at];
         room[at] = octet;
-        load(printing::part(room, 0, 224));
+        load(page, printing::part(room, 0, 224));
         room[at] = old;
     }
 }
 
-fn damages(room: &mut [u8]) {
+fn damages(page: &mut Printout, room: &mut [u8]) {
     let mut k = 0;
     while k < DAMAGE_COUNT {
-        say(DAMAGES + k, 0);
-        damage(room, PLACES[k], OCTETS[k]);
+        say(page, DAMAGES + k, 0);
+        damage(page, room, PLACES[k], OCTETS[k]);
         k += 1;
     }
 }
 
 // Octets missing at either end.
-fn cut(k: usize, s: &[u8], from: usize, count: usize) {
-    say(k, 0);
-    load(printing::part(s, from, count));
+fn cut(page: &mut Printout, k: usize, s: &[u8], from: usize, count: usize) {
+    say(page, k, 0);
+    load(page, printing::part(s, from, count));
 }
 
-fn cuts(s: &[u8]) {
-    cut(CUTS, s, 0, 0);
-    cut(CUTS + 1, s, 0, 19);
-    cut(CUTS + 2, s, 1, 224);
-    cut(CUTS + 3, s, 0, 224);
+fn cuts(page: &mut Printout, s: &[u8]) {
+    cut(page, CUTS, s, 0, 0);
+    cut(page, CUTS + 1, s, 0, 19);
+    cut(page, CUTS + 2, s, 1, 224);
+    cut(page, CUTS + 3, s, 0, 224);
 }
 
 // The class's sheet, printed, damaged and cut.
-fn lesson(class: Seated, room: &mut [u8]) {
-    let n = save(class, room);
-    dump_sheet(printing::part(room, 0, n));
-    say(DAMAGED, 0);
-    damages(room);
-    cuts(printing::part(room, 0, n));
+fn lesson(page: &mut Printout, class: Seated, room: &mut [u8]) {
+    let n = save(page, class, room);
+    dump_sheet(page, printing::part(room, 0, n));
+    say(page, DAMAGED, 0);
+    damages(page, room);
+    cuts(page, printing::part(room, 0, n));
 }
 
 // Loads a sheet, saves it again, and compares.
-fn back(s: &[u8], room: &mut [u8]) {
+fn back(page: &mut Printout, s: &[u8], room: &mut [u8]) {
     let l = loading::load(s);
     let v = l.verdict;
     let hall = l.hall;
     let names = l.names;
-    say(LOADED, 0);
-    show_verdict(v);
-    say(SAVED_AGAIN, 0);
-    let n = save(Seated { hall, names }, room);
+    say(page, LOADED, 0);
+    show_verdict(page, v);
+    say(page, SAVED_AGAIN, 0);
+    let n = save(page, Seated { hall, names }, room);
     if check::same(s, printing::part(room, 0, n)) {
-        say(SAME, 0);
+        say(page, SAME, 0);
     } else {
-        say(OTHER, 0);
+        say(page, OTHER, 0);
     }
 }
 
-fn again(s: &[u8]) {
+fn again(page: &mut Printout, s: &[u8]) {
     let mut room = [0u8; SHEET_ROOM];
-    back(s, &mut room);
+    back(page, s, &mut room);
 }
 
 // Saves into so many octets.
-fn save_into(class: Seated, room: &mut [u8], n: usize) {
+fn save_into(page: &mut Printout, class: Seated, room: &mut [u8], n: usize) {
     if room.len() < n {
         return;
     }
-    say(INTO, n);
-    save(class, &mut room[..n]);
+    say(page, INTO, n);
+    save(page, class, &mut room[..n]);
 }
 
 // A sheet saved with room enough, in one octet less than it has, and in just as many. The octet behind it was 7.
-fn saved(class: Seated, room: &mut [u8]) {
-    let n = save(class, room);
-    say(BEHIND, octet_at(room, n) as usize);
+fn saved(page: &mut Printout, class: Seated, room: &mut [u8]) {
+    let n = save(page, class, room);
+    say(page, BEHIND, octet_at(room, n) as usize);
     if n == 0 {
         return;
     }
-    save_into(class, room, n - 1);
-    save_into(class, room, n);
-    again(printing::part(room, 0, n));
+    save_into(page, class, room, n - 1);
+    save_into(page, class, room, n);
+    again(page, printing::part(room, 0, n));
 }
 
-fn rooms(title: usize, class: Seated) {
+fn rooms(page: &mut Printout, title: usize, class: Seated) {
     let mut room = [7u8; SHEET_ROOM];
-    say(title, 0);
-    saved(class, &mut room);
+    say(page, title, 0);
+    saved(page, class, &mut room);
 }
 
 // A desk that no sheet can hold, saved with room enough and with none: 48 comes before 13.
-fn unsaved(title: usize, class: Seated) {
+fn unsaved(page: &mut Printout, title: usize, class: Seated) {
     let mut room = [7u8; SHEET_ROOM];
-    say(title, 0);
-    save(class, &mut room);
-    save_into(class, &mut room, 0);
+    say(page, title, 0);
+    save(page, class, &mut room);
+    save_into(page, class, &mut room, 0);
 }
 
-fn main() {
+fn main(rt: HostRuntime) -> io::Result<()> {
+    let mut page = Page::new(rt.stdout());
     let mut room = [0u8; SHEET_ROOM];
     let class = gone(class());
-    say(CLASS, 0);
-    lesson(class, &mut room);
-    rooms(ROOMS, class);
-    rooms(NOBODY, nobody());
-    rooms(EVERYBODY, everybody());
-    unsaved(OTHER_LEVEL, nobody_at(100));
+    say(&mut page, CLASS, 0);
+    lesson(&mut page, class, &mut room);
+    rooms(&mut page, ROOMS, class);
+    rooms(&mut page, NOBODY, nobody());
+    rooms(&mut page, EVERYBODY, everybody());
+    unsaved(&mut page, OTHER_LEVEL, nobody_at(100));
+    page.close()
 }
