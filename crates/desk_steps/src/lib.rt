@@ -1,5 +1,7 @@
 // A step on the desk in lent octets: what it brought about is written unless it was refused or there is no room for its report.
 // specs/Steps.antt has what each leaves.
+#![tactic(auto)]
+
 ghost use Rattle.std.specs.Prelude.{◌≡◌, true};
 ghost use Rattle.desk_test.specs.Lent.{formed};
 ghost use Rattle.desk_steps.specs.Steps.{step_leaves, outcome_on, step_on, event_on, seat_numbered};
