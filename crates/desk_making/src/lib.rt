@@ -1,5 +1,7 @@
 // A desk that is made, loaded or joined, written into lent octets unless it was refused or the room is too short for it. specs/Making.antt has
 // what each leaves.
+#![tactic(auto)]
+
 ghost use Rattle.std.specs.Prelude.{◌≡◌, true};
 ghost use Rattle.desk_making.specs.Making.{desk_written, narrowed, in_octets, make_on, seat_taken};
 
@@ -9,7 +11,7 @@ use identities::Names;
 use steps::Core;
 
 // Settings as C programs hand them over, each a number of 32 bits.
-#[derive(Drop)]
+#[derive(Clone, Copy)]
 pub struct WideSettings {
     pub ssrc: u32,
     pub level: u32,
