@@ -1,5 +1,7 @@
 // What a function that looks something up or writes something out answers: a number of 0 or more, or minus the number of a refusal.
 // specs/Looking.antt has each answer and what is left in the lent room.
+#![tactic(auto)]
+
 ghost use Rattle.std.specs.Prelude.{◌≡◌, ◌*◌, ◌<◌, ◌≤◌, length};
 ghost use Rattle.octets.specs.Octets.{over};
 ghost use Rattle.signed.specs.Signed.{signed};
