@@ -1,6 +1,8 @@
 // The C face: the desk rests in lent octets (docs/FORMS.md), and every exported function is its rule between decoding and encoding.
 // specs/Promises.antt says what each answers and leaves, by the words of crates desk_steps, desk_making and desk_looking; every answer is
 // told as crate signed tells it. include/floor.h is the manual.
+#![tactic(auto)]
+
 ghost use Rattle.hall.specs.Seats.{settings_of};
 ghost use Rattle.floor.specs.Promises.{VersionPromise, MakePromise, JoinPromise, LeavePromise, StartPromise, StopPromise, PacketPromise, MediaPromise, TimerPromise, MessagePromise, ReadPromise, WritePromise, SavePromise, LoadPromise, ScreenPromise, PhasePromise, HolderPromise, HolderPriorityPromise, RunningPromise, SequencePromise, C7Promise, C20Promise, SeatsPromise, SeatBySsrcPromise, SeatByIdentityPromise, SeatPromise, SettingsPromise, StartsPromise, StopsPromise};
 

@@ -1,0 +1,27 @@
+-- `floor::floor_running` keeps its promise, `RunningPromise (now desk.entry) r`. Assumes nothing.
+use Rattle.signed.proofs.Signed.{passed}
+use Rattle.clocks_looking.specs.ClockSets.{timer_set}
+use Rattle.timers.specs.Timers.{running}
+use Rattle.steps.specs.declared.Core.{Core}
+use lib.IntN.{pos}
+use Rattle.desk_test.proofs.Desks.{has_room}
+use Rattle.desk_looking.proofs.Looks.{looks_so, looks-not}
+use mathlib.Core.Path.{sym, ◌∙◌, ap}
+use Rattle.floor.proofs.floor_running.Goals as goal
+
+pub core_at-core-requires : goal.core_at-core-requires
+core_at-core-requires c = has_room _ (sym c.is_desk.ensures ∙ c.if-is_desk.true)
+
+pub found-requires : goal.found-requires
+found-requires c = c.timer_set.ensures.upper_bound
+
+pub returns-then-is_desk : goal.returns-then-is_desk
+returns-then-is_desk c =
+    passed c.found.type_inv ∙ c.found.ensures
+    ∙ ap pos (c.timer_set.ensures.value ∙ ap timer_set c.running_timers.ensures
+    ∙ ap (λ (k : Core). timer_set (running k.phase)) c.core_at-core.ensures)
+    ∙ sym (looks_so _ _ (sym c.is_desk.ensures ∙ c.if-is_desk.true))
+
+pub returns-else-is_desk : goal.returns-else-is_desk
+returns-else-is_desk c =
+    passed c.refusal.type_inv ∙ c.refusal.ensures ∙ sym (looks-not _ _ (sym c.is_desk.ensures ∙ c.if-is_desk.false))

@@ -1,0 +1,8 @@
+-- `floor::floor_seat` keeps its promise, `SeatPromise (now desk.entry) seat (now room.entry) r (now room.exit)`. A seat as the
+-- sheet lays it out. Assumes nothing.
+use Rattle.signed.proofs.Signed.{passed, pair_same}
+use mathlib.Core.Path.{refl, ◌∙◌}
+use Rattle.floor.proofs.floor_seat.Goals as goal
+
+pub returns : goal.returns
+returns c = pair_same (passed c.seat_on.type_inv) refl ∙ c.seat_on.ensures

@@ -1,0 +1,10 @@
+-- `floor::floor_stop` keeps its promise, `StopPromise (now desk.entry) (now report.entry) r (now desk.exit) (now report.exit)`.
+-- Assumes nothing.
+use Rattle.signed.proofs.Signed.{passed}
+use Rattle.desk_steps.proofs.Steps.{same_leaves}
+use mathlib.Core.Path.{◌∙◌}
+use Rattle.floor.proofs.floor_stop.Goals as goal
+
+pub returns : goal.returns
+returns c =
+    same_leaves (passed c.event_on.type_inv) ∙ c.event_on.ensures
