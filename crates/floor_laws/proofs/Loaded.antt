@@ -20,7 +20,7 @@ use Rattle.joining.specs.Join.{join}
 use Rattle.events.specs.Events.{fresh}
 use Rattle.words.specs.Choice.{when◌then◌else◌, by_if}
 use Rattle.events.specs.declared.Desk.{Desk}
-use Rattle.history.specs.Doing.{made, does, after_all, Fresh, just_made, and_joined}
+use Rattle.history.specs.Doing.{joins, made, does, after, after_all, Fresh, just_made, and_joined}
 use Rattle.loading.specs.Loading.{Load, Seats, whole, fault, not_loaded, if_seated, join_all, seat_all, settled, loading, who_is, read_seat}
 use Rattle.loading.specs.Loading.{identity_length, after_seat, laid_out, seat_infront, read_seats, settings_on}
 use Rattle.words.proofs.Tests.{both, neither_left}
@@ -146,7 +146,7 @@ module _ (room sheet : List ℕ) (m : ℤ) (room' : List ℕ) (p : LoadPromise r
 -- seats that join a fresh desk leave it fresh
 joined-fresh : (d : Desk) → Fresh d → (xs : List Seat) → Fresh (after_all d (joins_of xs))
 joined-fresh d f [] = f
-joined-fresh d f (x ∷ xs) = joined-fresh _ (and_joined d x.identity x.who f) xs
+joined-fresh d f (x ∷ xs) = joined-fresh (after d (joins x.identity x.who)) (and_joined d x.identity x.who f) xs
 
 seated-fresh : (d : Desk) → Fresh d → (xs : Seats) → Fresh (after_all d (seated_from xs))
 seated-fresh d f (whole xs) = joined-fresh d f xs

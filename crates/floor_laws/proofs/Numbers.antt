@@ -297,9 +297,9 @@ module _ (s : List ℕ) (o : Octets s) where
       (λ _. by_if (λ (x : Phase). Small (holder_in x)) (eqb kind 1) (λ _. none_small)
       (λ _. by_if (λ (x : Phase). Small (holder_in x)) (eqb kind 2) (λ _. k) (λ _. k)))
 
-  core_at : NarrowCore (core_at s)
+  core_narrow : NarrowCore (core_at s)
   unfolding core_at entries_at phase_at
-  core_at =
+  core_narrow =
       record {
         line = all_column Small (entry_at s) (λ i. (o (waiting_column + i), o (priorities_column + i))) 0 15;
         holder =
@@ -308,4 +308,4 @@ module _ (s : List ℕ) (o : Octets s) where
       }
 
   pub narrow_at : NarrowDesk (desk_at s)
-  narrow_at = record { seats = seats_at; core = core_at }
+  narrow_at = record { seats = seats_at; core = core_narrow }
