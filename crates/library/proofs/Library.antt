@@ -27,7 +27,7 @@ use Rattle.desk_octets.specs.Form.{hall_at}
 use Rattle.floor.specs.Promises.{PhasePromise}
 use Rattle.floor_laws.specs.Kept.{desk_at, Holds, Call, Promised, ActFits, meant, doings, joins_on}
 use Rattle.floor_laws.proofs.Desks.{in_range_lem}
-use Rattle.floor_laws.proofs.Refusals.{not_made, not-loaded}
+use Rattle.floor_laws.proofs.Refusals.{not_made as not-made, not-loaded}
 use Rattle.floor_laws.proofs.Steps.{holds_as, step_in_form}
 use Rattle.floor_laws.proofs.Made.{made_in_form}
 use Rattle.floor_laws.proofs.Loaded.{loaded_in_form}
@@ -99,7 +99,7 @@ reached d rows (loaded room sheet n room' p z o) =
     }
 reached d rows (called {d = c} {rows = rs} r x p w) = calls_on c rs (reached c rs r) x p w
 reached d rows (not_made {d = c} {rows = rs} r g n d' p z) =
-    subst (λ (s : List ℕ). Reached s rs) (sym (not_made c g n d' p z)) (reached c rs r)
+    subst (λ (s : List ℕ). Reached s rs) (sym (not-made c g n d' p z)) (reached c rs r)
 reached d rows (not_loaded {d = c} {rows = rs} r sheet n d' p z) =
     subst (λ (s : List ℕ). Reached s rs) (sym (not-loaded c sheet n d' p z)) (reached c rs r)
 
