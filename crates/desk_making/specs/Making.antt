@@ -45,7 +45,8 @@ unfoldable pub settable : Settings → Bool
 settable s = in_octets s && in_range s
 
 abbrev pub make_on : List ℕ → Settings → ℤ × List ℕ
-make_on room s = when settable s then desk_written room 0 0 fresh (empty_hall s) no_names else answers (refused (answer_number OutsideRange)) room
+make_on room s =
+    when settable s then desk_written room 0 0 fresh (empty_hall s) no_names else answers (refused (answer_number OutsideRange)) room
 
 abbrev pub load_on : List ℕ → List ℕ → ℤ × List ℕ
 load_on room sheet = desk_written room (loading sheet).number 0 (loading sheet).core (loading sheet).hall (loading sheet).names

@@ -18,7 +18,8 @@ use Rattle.reach.specs.Sound.{AtMost}
 use Rattle.reach.proofs.InLine.{all_more}
 
 -- highest first: the next place has no higher priority
-pub sorted_from : (es : List Entry) → ((i : ℕ) → i < length es → (get_or es (suc i) empty).priority ≤ (get_or es i empty).priority) → Sorted es
+pub sorted_from : (es : List Entry) → ((i : ℕ) → i < length es → (get_or es (suc i) empty).priority ≤ (get_or es i empty).priority) →
+    Sorted es
 sorted_from [] f = tt
 sorted_from (e ∷ []) f = (tt, tt)
 sorted_from (e ∷ (x ∷ es)) f =

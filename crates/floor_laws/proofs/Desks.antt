@@ -35,7 +35,8 @@ use Rattle.seat_octets.specs.Layout.{SettingsFit}
 module _ (s : List ℕ) where
   sixty_two : (seat : ℕ) → seat < 16 → length (name_at (names_at s) seat).octets ≡ 62
   unfolding names_at name_in
-  sixty_two seat b = rw (get_d_column (name_in s) 0 16 seat no_name b) (length-column (nth_octet s) (identities_column + 62 * (0 + seat)) 62)
+  sixty_two seat b =
+      rw (get_d_column (name_in s) 0 16 seat no_name b) (length-column (nth_octet s) (identities_column + 62 * (0 + seat)) 62)
 
   typed : Octets s → Typed (desk_at s)
   unfolding core_at hall_at names_at entries_at bools_at octets_at words_at seat_flags_at column

@@ -113,7 +113,8 @@ module _ (s : List ℕ) (o : Octets s) where
   seats_fit_lem zero at = by_if (λ (x : Seats). AllFit (seated_from x)) (eqb at (settings_place s)) (λ _. tt) (λ _. tt)
   seats_fit_lem (suc n) at =
       by_if (λ (x : Seats). AllFit (seated_from x)) (laid_out s at)
-      (λ _. infront-fits (read_seat s at) (seat_fits_lem at) (read_seats n s (after_seat s at)) (seats_fit_lem n (after_seat s at))) (λ _. tt)
+      (λ _. infront-fits (read_seat s at) (seat_fits_lem at) (read_seats n s (after_seat s at)) (seats_fit_lem n (after_seat s at)))
+      (λ _. tt)
 
   settings_fit : in_range (settings_on s) ≡ true → Settable (settings_on s)
   unfolding settable

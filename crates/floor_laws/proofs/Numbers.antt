@@ -39,9 +39,12 @@ use Rattle.history.specs.Doing.{Doing, event, packet, leaves, joins, made, does,
 use Rattle.ways.proofs.Walk.{every_way}
 use Rattle.reach.specs.Sound.{Sound, cause_ok}
 use Rattle.reach.proofs.Hall.{hall_ok}
-use Rattle.desk_octets.specs.Form.{desk_letters, kind_octet, also_octet, timers_octet, holder_in, cause_in, phase_octets, entry_seat, entry_priority}
-use Rattle.desk_octets.specs.Form.{line_octets, core_octets, bool_octets, octet_column, word_column, hall_octets, length_octets, name_octets}
-use Rattle.desk_octets.specs.Form.{names_octets, octets_of_desk, phase_of, phase_at, entry_at, entries_at, core_at, octets_at, words_at, hall_at}
+use Rattle.desk_octets.specs.Form.{desk_letters, kind_octet, also_octet, timers_octet, holder_in, cause_in, phase_octets, entry_seat}
+use Rattle.desk_octets.specs.Form.{entry_priority}
+use Rattle.desk_octets.specs.Form.{line_octets, core_octets, bool_octets, octet_column, word_column, hall_octets, length_octets}
+use Rattle.desk_octets.specs.Form.{name_octets}
+use Rattle.desk_octets.specs.Form.{names_octets, octets_of_desk, phase_of, phase_at, entry_at, entries_at, core_at, octets_at, words_at}
+use Rattle.desk_octets.specs.Form.{hall_at}
 use Rattle.desk_octets.specs.Form.{name_in, names_at, seat_flags_octets}
 use Rattle.desk_octets.specs.Columns.{column, rows}
 use Rattle.desk_octets_laws.proofs.Back.{name_short}

@@ -32,7 +32,8 @@ use Rattle.line.specs.Line.{waiting}
 use Rattle.seat_octets.specs.Layout.{settings_octets}
 use Rattle.sheet.specs.Layout.{seat_at, octets_of_seat}
 use Rattle.signed.specs.Signed.{told_as, signed, answers, Refuses}
-use Rattle.desk_looking.specs.Looking.{saved_answer, packet_for, identity_in, tells, message_on, read_on, write_on, save_on, screened, screen_on}
+use Rattle.desk_looking.specs.Looking.{saved_answer, packet_for, identity_in, tells, message_on, read_on, write_on, save_on, screened}
+use Rattle.desk_looking.specs.Looking.{screen_on}
 use Rattle.seat_looking.specs.Showing.{shown, seat_shown, settings_shown}
 use Rattle.floor_laws.specs.Kept.{RoomsKept}
 use Rattle.floor_laws.proofs.Refusals.{Unwritten}

@@ -122,7 +122,8 @@ loaded_is_saved desk s m desk' p z o room n room' q l =
 
 module _ (d desk : List ℕ) (m : ℤ) (desk' : List ℕ) where
   -- what loading makes of the sheet is what the octets hold
-  taken : (s : List ℕ) → s ≡ sheet_of (hall_at d) (names_at d) → LoadPromise desk s m desk' → Octets s → desk_size ≤ length desk → Octets d →
+  taken : (s : List ℕ) → s ≡ sheet_of (hall_at d) (names_at d) → LoadPromise desk s m desk' → Octets s → desk_size ≤ length desk →
+      Octets d →
       formed d ≡ true → (hall_at d).settings.normal ≡ 0 →
       (m ≡ signed (result 0)) × IsDesk (loaded_as (desk_in desk')) (seats_of (hall_at d) (names_at d)) (hall_at d).settings
   taken s e p o l k q v =

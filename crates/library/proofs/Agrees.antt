@@ -22,7 +22,8 @@ use Rattle.report_octets_laws.specs.Reported.{report_in}
 use Rattle.report_octets_laws.proofs.Reported.{says_the_report, twenty_four}
 use Rattle.desk_test.specs.Lent.{formed}
 use Rattle.desk_steps.specs.Steps.{Leaves, step_leaves, settles, outcome_on, step_on}
-use Rattle.floor_laws.specs.Kept.{desk_at, Act, floor_join, floor_leave, floor_start, floor_stop, floor_packet, floor_media, floor_timer, Call}
+use Rattle.floor_laws.specs.Kept.{desk_at, Act, floor_join, floor_leave, floor_start, floor_stop, floor_packet, floor_media, floor_timer}
+use Rattle.floor_laws.specs.Kept.{Call}
 use Rattle.floor_laws.specs.Kept.{Promised, PromisedBy, DoingFits, meant, doings}
 use Rattle.floor_laws.proofs.Shape.{step_fits}
 use Rattle.floor_laws.proofs.Made.{first_over}

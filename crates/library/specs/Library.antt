@@ -6,7 +6,8 @@
 -- First a run and its log, then a look at the desk, then the five statements, and at the end the demand. All is proved in proofs/Library
 -- (and DoneIsARow in proofs/Rows), from the same statements of the rules' desk (demands/specs/Demands), whose counting is used here too.
 -- Assumes nothing.
-use Rattle.std.specs.Prelude.{ℕ, suc, ◌+◌, ◌*◌, ◌≤◌, ◌<◌, ◌≡◌, Bool, true, false, ◌||◌, List, [], ◌∷◌, ◌++◌, ℤ, pos, negsuc, length, get_or, take}
+use Rattle.std.specs.Prelude.{ℕ, suc, ◌+◌, ◌*◌, ◌≤◌, ◌<◌, ◌≡◌, Bool, true, false, ◌||◌, List, [], ◌∷◌, ◌++◌, ℤ, pos, negsuc, length, get_or}
+use Rattle.std.specs.Prelude.{take}
 use Rattle.report_octets.specs.Places.{report_size}
 use Rattle.words.specs.Choice.{one}
 use Rattle.octets.specs.Octets.{Octets}
@@ -26,7 +27,8 @@ use Rattle.events.specs.declared.Desk.{Desk}
 use Rattle.history.specs.Doing.{Doing, does, Fresh}
 use Rattle.history.specs.Asking.{asking}
 use Rattle.marks.specs.Marks.{is_seat}
-use Rattle.demands.specs.Demands.{History, desk_after, Row, log, is_placed, is_struck, is_given_out, is_given_any, is_ended, times, standing}
+use Rattle.demands.specs.Demands.{History, desk_after, Row, log, is_placed, is_struck, is_given_out, is_given_any, is_ended, times}
+use Rattle.demands.specs.Demands.{standing}
 use Rattle.demands.specs.Demands.{line_from, holder_from, place_of, in_line, reason, ComesFirst}
 use Rattle.desk_octets.specs.Form.{hall_at}
 use Rattle.desk_octets.specs.Columns.{column}

@@ -44,10 +44,12 @@ module _ (s : List ℕ) (octets : Octets s) where
 
   laid_flags : (at : ℕ) → laid_out s at ≡ true → get_or s at 0 ≤ flags_top
   unfolding laid_out
-  laid_flags at e = leb-true (get_or s at 0) flags_top (and_right (leb (after_seat s at) (settings_place s)) (leb (get_or s at 0) flags_top) e)
+  laid_flags at e =
+      leb-true (get_or s at 0) flags_top (and_right (leb (after_seat s at) (settings_place s)) (leb (get_or s at 0) flags_top) e)
 
   seat_run : (at : ℕ) →
-      get_or s (at + 0) 0 ∷ (who_is s at).highest ∷ octets32 (who_is s at).ssrc ++ identity_length s at ∷ part s (at + 7) (identity_length s at)
+      get_or s (at + 0) 0 ∷ (who_is s at).highest ∷ octets32 (who_is s at).ssrc
+      ++ identity_length s at ∷ part s (at + 7) (identity_length s at)
       ≡ run s at 0 7 ++ part s (at + 7) (identity_length s at)
   unfolding who_is
   seat_run at = rw (long_back s octets at 2)

@@ -179,7 +179,8 @@ all_read [] s p r at is here l =
     rw (eq-eqb at (settings_place s) (omega arith))
 all_read (x ∷ xs) s p r at is here l =
     let rest : List ℕ = seats_octets xs ++ r in
-    let is' : s ≡ p ++ (octets_of_seat x ++ rest) = is ∙ ap (λ (t : List ℕ). p ++ t) (append_assoc (octets_of_seat x) (seats_octets xs) r) in
+    let is' : s ≡ p ++ (octets_of_seat x ++ rest) =
+    is ∙ ap (λ (t : List ℕ). p ++ t) (append_assoc (octets_of_seat x) (seats_octets xs) r) in
     let k : tail_size ≤ length rest = omega (arith, length-append (seats_octets xs) r) in
     let on : read_seats (length xs) s (after_seat s at) ≡ whole xs =
     all_read xs s (p ++ octets_of_seat x) r (after_seat s at) (is' ∙ sym (append_assoc p (octets_of_seat x) rest))

@@ -35,8 +35,10 @@ two =
 -- all that loading and saving stand on, opened, so that a sheet computes
 opened : Type 0
 unfolding
-    loading framing not_loaded settings_in zeros_fit read_seats read_seat who_is flags_of laid_out join_all join seated ssrc_taken seat_named same
-    length_allowed seat_of free_seat with_seat with_name name_of octets_of no_names empty_hall in_range seats_of sheet_of sheet seats_octets octets_of_seat
+    loading framing not_loaded settings_in zeros_fit read_seats read_seat who_is flags_of laid_out join_all join seated ssrc_taken
+    seat_named same
+    length_allowed seat_of free_seat with_seat with_name name_of octets_of no_names empty_hall in_range seats_of sheet_of sheet seats_octets
+    octets_of_seat
     settings_octets trailer flags_octet saving room_after over be16 be32 octets16 octets32 part when◌then◌else◌
 opened = ℕ
 

@@ -1,7 +1,7 @@
 -- `copying::put_few` keeps its promise, `now room.exit ≡ over (now room.entry) at (part (now s.entry) from count)`. Copies a part
 -- octet by octet. Assumes nothing.
 use lib.ListN.{get_or}
-use Prim.Native.Nat.{◌+◌, ◌-◌, ◌≤◌}
+use Prim.Native.Nat.{◌+◌, ◌≤◌}
 use mathlib.Core.Path.{◌≡◌, refl, sym, ◌∙◌, ap}
 use lib.ListN.{length, length-set}
 use Rattle.octets.specs.Octets.{over, part}

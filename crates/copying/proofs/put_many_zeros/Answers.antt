@@ -1,6 +1,6 @@
 -- `copying::put_many_zeros` keeps its promise, `now room.exit ≡ over (now room.entry) at (replicate count 0)`. Assumes nothing.
 use lib.ListN.{length-replicate}
-use Prim.Native.Nat.{◌+◌, ◌-◌, ◌≤◌}
+use Prim.Native.Nat.{◌+◌, ◌≤◌}
 use mathlib.Core.Path.{◌≡◌, refl, sym, ◌∙◌, ap}
 use lib.ListN.{length, length-set, replicate}
 use Rattle.octets.specs.Octets.{over}

@@ -10,7 +10,8 @@ use mathlib.Core.Path.{◌≡◌}
 use Rattle.desk_looking.proofs.put_pairs.Given as goal
 
 abbrev pub invariant-loop-i : goal.invariant-loop-i
-invariant-loop-i l = (l.i ≤ l.n) × (length l.room ≡ length l.initial.room) × (l.room ≡ over l.initial.room 0 (rows (pair_at (waiting l.line)) 0 l.i))
+invariant-loop-i l =
+    (l.i ≤ l.n) × (length l.room ≡ length l.initial.room) × (l.room ≡ over l.initial.room 0 (rows (pair_at (waiting l.line)) 0 l.i))
 
 abbrev pub decreases-loop-i : goal.decreases-loop-i
 decreases-loop-i l = l.n - l.i
