@@ -109,25 +109,26 @@ abbrev student-marks : Marks
 student-marks = (student (desk_after student at_first one-waits) (asks_for 1 5)).report.marks
 
 -- Once test10 has asked, test1 was placed, was never given the floor or struck off, and does not wait; it waited before, and this step has
--- no mark that it went; and one stands in the line where the marks and the requests make two.
+-- no mark that it went; and one stands in the line where the marks and the requests make two. Each refutation of the student's server
+-- computes of this what it needs.
 student_evening :
     (times (is_placed 0) (log student at_first two_wait) ≡ 1) × (times (is_given_out 0) (log student at_first two_wait) ≡ 0)
     × (times (is_struck 0) (log student at_first two_wait) ≡ 0) × (waits (desk_after student at_first two_wait).core 0 ≡ false)
     × (waits (desk_after student at_first one-waits).core 0 ≡ true) × ((is_struck 0 student-marks || is_given_out 0 student-marks) ≡ false)
     × (length (waiting (desk_after student at_first two_wait).core.line) ≡ 1) × (length (line_from (log student at_first two_wait)) ≡ 2)
 unfolding student changed moves when◌then◌else◌ waiting line_of before ahead enter another_at_least without empty_hall alone effective
-    seat_of
-    free_seat with_seat octets_of name_of no_names with_name same seat_named length_allowed ssrc_taken seated join next given given_at_once
-    enters_idle
-    revokes waits priority_in priority_of full presses denied info_of holder_asks informed pressed rule6 asks_again placed request fresh
-    starts
-    caller_of step does
+    seat_of free_seat with_seat octets_of name_of no_names with_name same seat_named length_allowed ssrc_taken seated join next given
+    given_at_once enters_idle revokes waits priority_in priority_of full presses denied info_of holder_asks informed pressed rule6
+    asks_again placed request fresh starts caller_of step does
 student_evening = (refl, refl, refl, refl, refl, refl, refl, refl)
 
 pub student_drops_one : NobodyDropsOut student → ⊥
+unfolding student changed moves when◌then◌else◌ waiting line_of before ahead enter another_at_least without empty_hall alone effective
+    seat_of free_seat with_seat octets_of name_of no_names with_name same seat_named length_allowed ssrc_taken seated join next given
+    given_at_once enters_idle revokes waits priority_in priority_of full presses denied info_of holder_asks informed pressed rule6
+    asks_again placed request fresh starts caller_of step does
 student_drops_one k =
-    let c = student_evening in
-    let z = rw (c.0, c.1, c.2, c.3) at (k at_first began two_wait 0).0 in
+    let z : 1 ≡ 0 + 0 + 0 = (k at_first began two_wait 0).0 in
     omega arith
 
 -- 2. A SEAT GIVEN THE FLOOR STAYS IN LINE
@@ -145,12 +146,9 @@ handed_over = lets_go 2 ∷ one-waits
 stays_counts : (times (is_placed 0) (log stays at_first handed_over) ≡ 1) × (times (is_given_out 0) (log stays at_first handed_over) ≡ 1)
     × (times (is_struck 0) (log stays at_first handed_over) ≡ 0) × (waits (desk_after stays at_first handed_over).core 0 ≡ true)
 unfolding stays when◌then◌else◌ waiting line_of before ahead enter another_at_least without empty_hall alone effective seat_of free_seat
-    with_seat
-    octets_of name_of no_names with_name same seat_named length_allowed ssrc_taken seated join next given given_at_once given_out_of_line
-    enters_idle
-    passes_on floor_ends revokes waits priority_in priority_of full presses denied info_of holder_asks informed pressed rule6 asks_again
-    placed
-    request fresh starts caller_of struck_off releases step does
+    with_seat octets_of name_of no_names with_name same seat_named length_allowed ssrc_taken seated join next given given_at_once
+    given_out_of_line enters_idle passes_on floor_ends revokes waits priority_in priority_of full presses denied info_of holder_asks
+    informed pressed rule6 asks_again placed request fresh starts caller_of struck_off releases step does
 stays_counts = (refl, refl, refl, refl)
 
 pub stays_in_line : NobodyDropsOut stays → ⊥
@@ -210,12 +208,9 @@ sent_back :
     × (place_of 1 (log sends_back at_first asked_again_lem) ≡ in_line 5)
     × (latest 0 (log sends_back at_first asked_again_lem) ≡ 6) × (latest 1 (log sends_back at_first asked_again_lem) ≡ 7)
 unfolding sends_back place_after priority_of when◌then◌else◌ waiting line_of before ahead enter another_at_least without empty_hall alone
-    effective
-    seat_of free_seat with_seat octets_of name_of no_names with_name same seat_named length_allowed ssrc_taken seated join next given
-    given_at_once
-    given_out_of_line enters_idle passes_on floor_ends revokes waits priority_in full presses denied info_of holder_asks informed pressed
-    rule6
-    asks_again placed request fresh starts caller_of struck_off releases step does
+    effective seat_of free_seat with_seat octets_of name_of no_names with_name same seat_named length_allowed ssrc_taken seated join next
+    given given_at_once given_out_of_line enters_idle passes_on floor_ends revokes waits priority_in full presses denied info_of holder_asks
+    informed pressed rule6 asks_again placed request fresh starts caller_of struck_off releases step does
 sent_back = (refl, refl, refl, refl, refl, refl, refl)
 
 same_seat : {s t : ℕ} → OutOfLine s ≡ OutOfLine t → s ≡ t
@@ -232,12 +227,25 @@ sends_to_the_back k =
 
 -- 5. test1 goes out of the student's line without a mark, and the line can no longer be worked out from the marks
 pub student_unseen : NothingUnseen student → ⊥
-student_unseen k = let c = student_evening in clash ((k at_first began one-waits (asks_for 1 5) 0).goes c.4 c.3) c.5
+unfolding student changed moves when◌then◌else◌ waiting line_of before ahead enter another_at_least without empty_hall alone effective
+    seat_of free_seat with_seat octets_of name_of no_names with_name same seat_named length_allowed ssrc_taken seated join next given
+    given_at_once enters_idle revokes waits priority_in priority_of full presses denied info_of holder_asks informed pressed rule6
+    asks_again placed request fresh starts caller_of step does
+student_unseen k =
+    let before_it : waits (desk_after student at_first one-waits).core 0 ≡ true = refl in
+    let behind_it : waits (desk_after student at_first two_wait).core 0 ≡ false = refl in
+    let unmarked : (is_struck 0 student-marks || is_given_out 0 student-marks) ≡ false = refl in
+    clash ((k at_first began one-waits (asks_for 1 5) 0).goes before_it behind_it) unmarked
 
 pub student_line_not_worked_out : WorkedOut student → ⊥
+unfolding student changed moves when◌then◌else◌ waiting line_of before ahead enter another_at_least without empty_hall alone effective
+    seat_of free_seat with_seat octets_of name_of no_names with_name same seat_named length_allowed ssrc_taken seated join next given
+    given_at_once enters_idle revokes waits priority_in priority_of full presses denied info_of holder_asks informed pressed rule6
+    asks_again placed request fresh starts caller_of step does
 student_line_not_worked_out k =
-    let c = student_evening in
-    omega (arith, ap length (k at_first began two_wait).0, c.6, c.7)
+    let stands : length (waiting (desk_after student at_first two_wait).core.line) ≡ 1 = refl in
+    let counted : length (line_from (log student at_first two_wait)) ≡ 2 = refl in
+    omega (arith, ap length (k at_first began two_wait).0, stands, counted)
 
 -- 6. THE END OF A FLOOR IS NOT REPORTED: nobody has the ended mark
 unfoldable pub forgets : Server
@@ -257,12 +265,9 @@ let_go = lets_go 2 ∷ asks_for 2 5 ∷ opened
 forgotten : (times (is_given_any 2) (log forgets at_first let_go) ≡ 1) × (times (is_ended 2) (log forgets at_first let_go) ≡ 0)
     × (holds (desk_after forgets at_first let_go).core.phase 2 ≡ false) × (is_seat (holder_from (log forgets at_first let_go)) 2 ≡ true)
 unfolding forgets when◌then◌else◌ waiting line_of before ahead enter another_at_least without empty_hall alone effective seat_of free_seat
-    with_seat
-    octets_of name_of no_names with_name same seat_named length_allowed ssrc_taken seated join next given given_at_once given_out_of_line
-    enters_idle
-    passes_on floor_ends revokes waits priority_in priority_of full presses denied info_of holder_asks informed pressed rule6 asks_again
-    placed
-    request fresh starts caller_of struck_off releases step does
+    with_seat octets_of name_of no_names with_name same seat_named length_allowed ssrc_taken seated join next given given_at_once
+    given_out_of_line enters_idle passes_on floor_ends revokes waits priority_in priority_of full presses denied info_of holder_asks
+    informed pressed rule6 asks_again placed request fresh starts caller_of struck_off releases step does
 forgotten = (refl, refl, refl, refl)
 
 pub forgets_an_end : GivenAndEnded forgets → ⊥
