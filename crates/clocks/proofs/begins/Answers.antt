@@ -1,4 +1,4 @@
--- `clocks::begins` keeps its promise, `r ≡ (after && (not before || again))`. Assumes nothing.
+-- `clocks::begins` keeps its promise, `result ≡ (after && (not before || again))`. Assumes nothing.
 use Rattle.clocks.proofs.begins.Goals as goal
 
 pub returns-then-before : goal.returns-then-before

@@ -1,4 +1,4 @@
--- `clocks::ends` keeps its promise, `r ≡ (before && not after)`. Assumes nothing.
+-- `clocks::ends` keeps its promise, `result ≡ (before && not after)`. Assumes nothing.
 use Rattle.clocks.proofs.ends.Goals as goal
 
 pub returns-then-after : goal.returns-then-after

@@ -1,4 +1,4 @@
--- `clocks::starts_anew` keeps its promise, `r ≡ starts_anew before after fired given`. Assumes nothing.
+-- `clocks::starts_anew` keeps its promise, `result ≡ starts_anew before after fired given`. Assumes nothing.
 use Rattle.clocks.specs.Clocks.{starts_anew}
 use Rattle.clocks.proofs.starts_anew.Goals as goal
 

@@ -1,4 +1,4 @@
--- `clocks::stopped` keeps its promise, `r ≡ stopped_timers before after`. Assumes nothing.
+-- `clocks::stopped` keeps its promise, `result ≡ stopped_timers before after`. Assumes nothing.
 use Rattle.clocks.specs.Clocks.{stopped_timers}
 use Rattle.clocks.proofs.stopped.Goals as goal
 

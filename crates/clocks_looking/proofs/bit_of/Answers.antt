@@ -1,4 +1,4 @@
--- `clocks_looking::bit_of` keeps its promise, `r ≡ bit b n`. Assumes nothing.
+-- `clocks_looking::bit_of` keeps its promise, `result ≡ bit b n`. Assumes nothing.
 use Rattle.words.specs.Choice.{if_yes, if_no}
 use mathlib.Core.Path.{sym}
 use native.Mathlib.Omega.{arith}

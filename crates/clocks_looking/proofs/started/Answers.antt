@@ -1,4 +1,4 @@
--- `clocks_looking::started` keeps its promise, `r ≡ set_started before after fired given`. Assumes nothing.
+-- `clocks_looking::started` keeps its promise, `result ≡ set_started before after fired given`. Assumes nothing.
 use lib.IntN.{pos}
 use mathlib.Core.Path.{ap, ◌∙◌}
 use Rattle.clocks_looking.specs.ClockSets.{timer_set}

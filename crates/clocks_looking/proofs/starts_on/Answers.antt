@@ -1,4 +1,4 @@
--- `clocks_looking::starts_on` keeps its promise, `r ≡ starts_on before after fired (now report.entry)`. Assumes nothing.
+-- `clocks_looking::starts_on` keeps its promise, `result ≡ starts_on before after fired report.now`. Assumes nothing.
 use Prim.Native.Nat.{◌≤◌, ◌<◌}
 use native.Mathlib.Omega.{arith}
 use mathlib.Core.Path.{◌∙◌}

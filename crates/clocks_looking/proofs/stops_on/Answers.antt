@@ -1,4 +1,4 @@
--- `clocks_looking::stops_on` keeps its promise, `r ≡ stops_on before after`. Assumes nothing.
+-- `clocks_looking::stops_on` keeps its promise, `result ≡ stops_on before after`. Assumes nothing.
 use lib.IntN.{pos}
 use mathlib.Core.Path.{ap, ◌∙◌}
 use Rattle.clocks_looking.specs.ClockSets.{timer_set}

@@ -1,4 +1,4 @@
--- `clocks_looking::timer_set` keeps its promise, `r ≡ timer_set t`. Assumes nothing.
+-- `clocks_looking::timer_set` keeps its promise, `result ≡ timer_set t`. Assumes nothing.
 use Rattle.clocks_looking.specs.ClockSets.{timer_set}
 use native.Mathlib.Omega.{arith}
 use Rattle.clocks_looking.proofs.timer_set.Goals as goal

@@ -1,5 +1,5 @@
--- `copying::put_few` keeps its promise, `now room.exit ≡ over (now room.entry) at (part (now s.entry) from count)`. Copies a part
--- octet by octet. Assumes nothing.
+-- `copying::put_few` keeps its promise, `room.new ≡ over room.old at (part s.now from count)`. Copies a part octet by octet. Assumes
+-- nothing.
 use lib.ListN.{get_or}
 use Prim.Native.Nat.{◌+◌, ◌≤◌}
 use mathlib.Core.Path.{◌≡◌, refl, sym, ◌∙◌, ap}

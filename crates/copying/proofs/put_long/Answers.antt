@@ -1,5 +1,5 @@
--- `copying::put_long` keeps its promise, `now room.exit ≡ over (now room.entry) at (part (now s.entry) from count)`. Copies blocks
--- of 64 octets. Assumes nothing.
+-- `copying::put_long` keeps its promise, `room.new ≡ over room.old at (part s.now from count)`. Copies blocks of 64 octets. Assumes
+-- nothing.
 use Prim.Native.Nat.{◌+◌, ◌-◌, ◌≤◌, ◌<◌}
 use mathlib.Core.Path.{refl, sym, ◌∙◌}
 use lib.ListN.{length}

@@ -1,4 +1,4 @@
--- `copying::put_many_zeros` keeps its promise, `now room.exit ≡ over (now room.entry) at (replicate count 0)`. Assumes nothing.
+-- `copying::put_many_zeros` keeps its promise, `room.new ≡ over room.old at (replicate count 0)`. Assumes nothing.
 use Prim.Native.Nat.{◌-◌, ◌≤◌}
 use mathlib.Core.Path.{◌≡◌}
 use lib.ListN.{length, replicate}

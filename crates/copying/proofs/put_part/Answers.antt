@@ -1,5 +1,5 @@
--- `copying::put_part` keeps its promise, `now room.exit ≡ over (now room.entry) at (part (now s.entry) from count)`. Copies the
--- part of `s` that begins at `from` and has `count` octets into the room at `at`. Assumes nothing.
+-- `copying::put_part` keeps its promise, `room.new ≡ over room.old at (part s.now from count)`. Copies the part of `s` that begins at
+-- `from` and has `count` octets into the room at `at`. Assumes nothing.
 use Prim.Native.Nat.{◌-◌}
 use Rattle.octets.proofs.Over.{over_again}
 use native.Mathlib.Omega.{arith}

@@ -1,5 +1,5 @@
--- `copying::put_short` keeps its promise, `now room.exit ≡ over (now room.entry) at (part (now s.entry) from count)`. Copies two
--- blocks, one where the part starts and one where it ends. Assumes nothing.
+-- `copying::put_short` keeps its promise, `room.new ≡ over room.old at (part s.now from count)`. Copies two blocks, one where the part
+-- starts and one where it ends. Assumes nothing.
 use Prim.Native.Nat.{◌-◌}
 use Rattle.octets.proofs.Over.{over_again}
 use native.Mathlib.Omega.{arith}

@@ -1,5 +1,4 @@
--- `copying::put_sixteen` keeps its promise, `now room.exit ≡ over (now room.entry) at (part (now s.entry) from 16)`. Assumes
--- nothing.
+-- `copying::put_sixteen` keeps its promise, `room.new ≡ over room.old at (part s.now from 16)`. Assumes nothing.
 use Prim.Native.Nat.{ℕ}
 use mathlib.Core.List.{List}
 use mathlib.Core.Path.{ap, ◌∙◌}

@@ -1,5 +1,4 @@
--- `copying::put_thirty_two` keeps its promise, `now room.exit ≡ over (now room.entry) at (part (now s.entry) from 32)`. Assumes
--- nothing.
+-- `copying::put_thirty_two` keeps its promise, `room.new ≡ over room.old at (part s.now from 32)`. Assumes nothing.
 use Rattle.octets.proofs.Over.{over_again}
 use native.Mathlib.Omega.{arith}
 use Rattle.copying.proofs.put_thirty_two.Goals as goal

@@ -1,5 +1,5 @@
--- `copying::put_zeros` keeps its promise, `now room.exit ≡ over (now room.entry) at (replicate count 0)`. Writes `count` zero octets
--- at `at`: mostly a field's padding, which has at most three. Assumes nothing.
+-- `copying::put_zeros` keeps its promise, `room.new ≡ over room.old at (replicate count 0)`. Writes `count` zero octets at `at`: mostly a
+-- field's padding, which has at most three. Assumes nothing.
 use mathlib.Core.List.{[], ◌∷◌}
 use mathlib.Core.Path.{refl, sym}
 use Rattle.octets.proofs.Over.{over_none, over-one, over_turn}

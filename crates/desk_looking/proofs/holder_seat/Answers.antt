@@ -1,4 +1,4 @@
--- `desk_looking::holder_seat` keeps its promise, `r ≡ signed (holder_seat phase)`. Assumes nothing.
+-- `desk_looking::holder_seat` keeps its promise, `result ≡ signed (holder_seat phase)`. Assumes nothing.
 use Rattle.signed.proofs.Signed.{passed}
 use mathlib.Core.Path.{◌∙◌}
 use Rattle.desk_looking.proofs.holder_seat.Goals as goal

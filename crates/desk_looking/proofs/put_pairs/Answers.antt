@@ -1,5 +1,5 @@
--- `desk_looking::put_pairs` keeps its promise, `now room.exit ≡ over (now room.entry) 0 (pairs (waiting line))`. Writes the line into
--- the room, two octets an entry. Assumes nothing.
+-- `desk_looking::put_pairs` keeps its promise, `room.new ≡ over room.old 0 (pairs (waiting line))`. Writes the line into the room, two
+-- octets an entry. Assumes nothing.
 use native.Mathlib.Nat.{zero-add}
 use mathlib.Core.List.{[], ◌∷◌}
 use Rattle.desk_looking.specs.Looking.{pair_at, pairs}

@@ -1,4 +1,4 @@
--- `desk_looking::saved_number` keeps its promise, `r ≡ signed (saved_answer (saving_answer saving))`. Assumes nothing.
+-- `desk_looking::saved_number` keeps its promise, `result ≡ signed (saved_answer (saving_answer saving))`. Assumes nothing.
 use Rattle.words.specs.Choice.{when◌then◌else◌}
 use Rattle.signed.proofs.Signed.{passed}
 use mathlib.Core.Path.{◌∙◌}

@@ -1,4 +1,4 @@
--- `desk_looking::seat_number` keeps its promise, `r ≡ signed (seat_answer seat)`. Assumes nothing.
+-- `desk_looking::seat_number` keeps its promise, `result ≡ signed (seat_answer seat)`. Assumes nothing.
 use Rattle.signed.proofs.Signed.{passed}
 use mathlib.Core.Path.{◌∙◌}
 use Rattle.desk_looking.proofs.seat_number.Goals as goal

@@ -1,4 +1,4 @@
--- `desk_looking::show` keeps its promise, `(r, now room.exit) ≡ screened (waiting line) (now room.entry)`. Assumes nothing.
+-- `desk_looking::show` keeps its promise, `(result, room.new) ≡ screened (waiting line) room.old`. Assumes nothing.
 use Rattle.line.specs.Line.{waiting}
 use lib.IntN.{pos}
 use lib.ListN.{length}

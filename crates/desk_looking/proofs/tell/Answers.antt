@@ -1,5 +1,4 @@
--- `desk_looking::tell` keeps its promise, `(r, now room.exit) ≡ tells (now desk.entry) (now room.entry) (Says kind)`. Assumes
--- nothing.
+-- `desk_looking::tell` keeps its promise, `(result, room.new) ≡ tells desk.now room.old (Says kind)`. Assumes nothing.
 use Rattle.outgoing.specs.Outgoing.{outgoing}
 use lib.ListN.{length}
 use Rattle.signed.specs.Signed.{signed}

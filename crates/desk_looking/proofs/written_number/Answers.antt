@@ -1,4 +1,5 @@
--- `desk_looking::written_number` keeps its promise, `r ≡ signed (writing_answer answer)`. A packet has at most 440 octets. Assumes nothing.
+-- `desk_looking::written_number` keeps its promise, `result ≡ signed (writing_answer answer)`. A packet has at most 440 octets. Assumes
+-- nothing.
 use lib.IntN.{pos, neg_ℤ}
 use Prim.Native.Nat.{ℕ}
 use Rattle.signed.proofs.Signed.{passed}

@@ -1,5 +1,5 @@
--- `desk_making::make_desk` keeps its promise, `(r, now desk.exit) ≡ make_on (now desk.entry) (narrowed wide)`. A fresh desk with
--- these settings, unless they are outside their ranges. Assumes nothing.
+-- `desk_making::make_desk` keeps its promise, `(result, desk.new) ≡ make_on desk.old (narrowed wide)`. A fresh desk with these settings,
+-- unless they are outside their ranges. Assumes nothing.
 use Rattle.signed.proofs.Signed.{passed, pair_same}
 use Rattle.desk_making.proofs.Making.{made_so, not_made}
 use Prim.Native.Nat.{ℕ}

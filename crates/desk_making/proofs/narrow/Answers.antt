@@ -1,4 +1,4 @@
--- `desk_making::narrow` keeps its promise, `r ≡ narrowed wide`. Assumes nothing.
+-- `desk_making::narrow` keeps its promise, `result ≡ narrowed wide`. Assumes nothing.
 use Rattle.desk_making.specs.Making.{narrowed}
 use Rattle.desk_making.proofs.Making.{octets_hold}
 use native.Mathlib.Omega.{arith}

@@ -1,4 +1,4 @@
--- `desk_making::seat_taken` keeps its promise, `r ≡ seat_taken seat`. The seat that a join took. Assumes nothing.
+-- `desk_making::seat_taken` keeps its promise, `result ≡ seat_taken seat`. The seat that a join took. Assumes nothing.
 use Rattle.desk_making.proofs.seat_taken.Goals as goal
 
 pub returns-in-At : goal.returns-in-At

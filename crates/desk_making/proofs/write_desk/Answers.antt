@@ -1,5 +1,5 @@
--- `desk_making::write_desk` keeps its promise, `(r, now desk.exit) ≡ written (now desk.entry) n done core hall names`. Writes a desk,
--- unless its number refuses it or the room is too short for it. Assumes nothing.
+-- `desk_making::write_desk` keeps its promise, `(result, desk.new) ≡ desk_written desk.old n done core hall names`. Writes a desk, unless
+-- its number refuses it or the room is too short for it. Assumes nothing.
 use Rattle.signed.proofs.Signed.{passed, pair_same}
 use Rattle.desk_making.proofs.Making.{unwritten, too_short, written_so}
 use borrow.Author.Tests.{ne_eqb, eq-eqb, lt-leb, le-leb}

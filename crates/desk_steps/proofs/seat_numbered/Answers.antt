@@ -1,5 +1,5 @@
--- `desk_steps::seat_numbered` keeps its promise, `r ≡ seat_numbered seat`. A number that no seat has stands for every such number. Assumes
--- nothing.
+-- `desk_steps::seat_numbered` keeps its promise, `result ≡ seat_numbered seat`. A number that no seat has stands for every such number.
+-- Assumes nothing.
 use Rattle.desk_steps.specs.Steps.{seat_numbered}
 use Rattle.words.specs.Choice.{when◌then◌else◌}
 use borrow.Author.Tests.{lt-ltb, le-ltb}

@@ -1,5 +1,5 @@
--- `field::cut_at` keeps its promise, `r ≡ step_at (now s.entry) at`. A padded field has at least four octets, so one of which fewer are
--- left runs past the end. Assumes nothing.
+-- `field::cut_at` keeps its promise, `result ≡ step_at s.now at`. A padded field has at least four octets, so one of which fewer are left
+-- runs past the end. Assumes nothing.
 use Prim.Native.Nat.{◌<◌}
 use mathlib.Core.Path.{sym}
 use lib.ListN.{length}

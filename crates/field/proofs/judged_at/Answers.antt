@@ -1,4 +1,4 @@
--- `field::judged_at` keeps its promise, `r ≡ step_at (now s.entry) at`. Judges a field of which four octets are there. Assumes nothing.
+-- `field::judged_at` keeps its promise, `result ≡ step_at s.now at`. Judges a field of which four octets are there. Assumes nothing.
 use mathlib.Core.Path.{sym, ap, ◌∙◌}
 use Rattle.message.specs.Table.{against}
 use Rattle.field.specs.Fields.{id_at, length_at}

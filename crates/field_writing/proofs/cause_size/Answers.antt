@@ -1,4 +1,4 @@
--- `field_writing::cause_size` keeps its promise, `r ≡ cause_size c`. Assumes nothing.
+-- `field_writing::cause_size` keeps its promise, `result ≡ cause_size c`. Assumes nothing.
 use native.Mathlib.Omega.{arith}
 use Rattle.field_writing.proofs.cause_size.Goals as goal
 

@@ -1,4 +1,4 @@
--- `field_writing::part_size` keeps its promise, `r ≡ part_size p`. Assumes nothing.
+-- `field_writing::part_size` keeps its promise, `result ≡ part_size p`. Assumes nothing.
 use native.Mathlib.Omega.{arith}
 use Rattle.field_writing.proofs.part_size.Goals as goal
 

@@ -1,5 +1,5 @@
--- `field_writing::put_cause` keeps its promise, `Laid (now room.entry) at (optional 2 (of_cause (now src.entry) c)) (now room.exit)
--- r`. Lays Reject Cause: the cause, and the phrase behind it. Assumes nothing.
+-- `field_writing::put_cause` keeps its promise, `Laid room.old at (optional 2 (of_cause src.now c)) room.new result`. Lays Reject Cause:
+-- the cause, and the phrase behind it. Assumes nothing.
 use Prim.Native.Nat.{ℕ, ◌+◌, ◌≤◌}
 use mathlib.Core.List.{List, [], ◌∷◌, ◌++◌}
 use mathlib.Core.Path.{ap, refl}

@@ -1,5 +1,5 @@
--- `field_writing::put_identity` keeps its promise, `Laid (now room.entry) at (optional id (of_part (now src.entry) p)) (now (room
--- .exit)) r`. Lays the field of an identity. Assumes nothing.
+-- `field_writing::put_identity` keeps its promise, `Laid room.old at (optional id (of_part src.now p)) room.new result`. Lays the field of
+-- an identity. Assumes nothing.
 use Prim.Native.Nat.{◌+◌, ◌≤◌}
 use mathlib.Core.List.{[], ◌∷◌, ◌++◌}
 use mathlib.Core.Path.{ap, refl}

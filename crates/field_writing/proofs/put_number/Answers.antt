@@ -1,5 +1,5 @@
--- `field_writing::put_number` keeps its promise, `Laid (now room.entry) at (optional 14 (of_number n)) (now room.exit) r`. Lays the
--- field SSRC, with the two spare octets behind it. Assumes nothing.
+-- `field_writing::put_number` keeps its promise, `Laid room.old at (optional 14 (of_number n)) room.new result`. Lays the field SSRC, with
+-- the two spare octets behind it. Assumes nothing.
 use Rattle.octets.proofs.Lays.{lay_rest, lay_join, lay_as, lay_none}
 use Prim.Native.Nat.{◌+◌, ◌≤◌}
 use mathlib.Core.List.{[], ◌∷◌, ◌++◌}

@@ -1,5 +1,5 @@
--- `field_writing::put_octet` keeps its promise, `Laid (now room.entry) at (optional id (of_octet o)) (now room.exit) r`. Lays the
--- field of an octet, with the spare octet behind it. Assumes nothing.
+-- `field_writing::put_octet` keeps its promise, `Laid room.old at (optional id (of_octet o)) room.new result`. Lays the field of an octet,
+-- with the spare octet behind it. Assumes nothing.
 use mathlib.Core.Path.{ap}
 use lib.ListN.{length}
 use Rattle.field_writing.specs.Wire.{optional}

@@ -1,5 +1,5 @@
--- `field_writing::put_text` keeps its promise, `Laid (now room.entry) at (part (now src.entry) from count ++ replicate (padding len)
--- 0) (now room.exit) r`. Lays a part of the source, with the padding of a field of length `len` behind it. Assumes nothing.
+-- `field_writing::put_text` keeps its promise, `Laid room.old at (part src.now from count ++ replicate (padding len) 0) room.new result`.
+-- Lays a part of the source, with the padding of a field of length `len` behind it. Assumes nothing.
 use Prim.Native.Nat.{ℕ, ◌+◌, ◌%◌, ◌≤◌}
 use native.Mathlib.Omega.{arith}
 use mathlib.Core.List.{List, ◌++◌}

@@ -1,5 +1,5 @@
--- `field_writing::put_two` keeps its promise, `Laid (now room.entry) at (id ∷ 2 ∷ first ∷ second ∷ []) (now room.exit) r`. Lays a
--- field of length 2 at `at`. Assumes nothing.
+-- `field_writing::put_two` keeps its promise, `Laid room.old at (id ∷ 2 ∷ first ∷ second ∷ []) room.new result`. Lays a field of length 2
+-- at `at`. Assumes nothing.
 use Prim.Native.Nat.{ℕ, ◌+◌}
 use mathlib.Core.List.{List, [], ◌∷◌}
 use mathlib.Core.Path.{ap, ◌∙◌}

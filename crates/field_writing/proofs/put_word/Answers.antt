@@ -1,5 +1,5 @@
--- `field_writing::put_word` keeps its promise, `Laid (now room.entry) at (optional id (of_word w)) (now room.exit) r`. Lays the field
--- of a number of 16 bits. Assumes nothing.
+-- `field_writing::put_word` keeps its promise, `Laid room.old at (optional id (of_word w)) room.new result`. Lays the field of a number of
+-- 16 bits. Assumes nothing.
 use mathlib.Core.Path.{ap}
 use lib.ListN.{length}
 use Rattle.field_writing.specs.Wire.{optional}

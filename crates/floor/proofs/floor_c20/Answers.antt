@@ -1,4 +1,4 @@
--- `floor::floor_c20` keeps its promise, `C20Promise (now desk.entry) r`. Assumes nothing.
+-- `floor::floor_c20` keeps its promise, `C20Promise desk.now result`. Assumes nothing.
 use Rattle.signed.proofs.Signed.{passed}
 use Rattle.steps.specs.declared.Core.{Core}
 use lib.IntN.{pos}

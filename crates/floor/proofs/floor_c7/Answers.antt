@@ -1,4 +1,4 @@
--- `floor::floor_c7` keeps its promise, `C7Promise (now desk.entry) r`. Assumes nothing.
+-- `floor::floor_c7` keeps its promise, `C7Promise desk.now result`. Assumes nothing.
 use Rattle.signed.proofs.Signed.{passed}
 use Rattle.steps.specs.declared.Core.{Core}
 use lib.IntN.{pos}

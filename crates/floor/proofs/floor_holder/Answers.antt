@@ -1,4 +1,4 @@
--- `floor::floor_holder` keeps its promise, `HolderPromise (now desk.entry) r`. Assumes nothing.
+-- `floor::floor_holder` keeps its promise, `HolderPromise desk.now result`. Assumes nothing.
 use Rattle.signed.proofs.Signed.{passed}
 use Rattle.signed.specs.Signed.{signed}
 use Rattle.desk_looking.specs.Looking.{holder_seat}

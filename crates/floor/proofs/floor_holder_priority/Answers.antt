@@ -1,4 +1,4 @@
--- `floor::floor_holder_priority` keeps its promise, `HolderPriorityPromise (now desk.entry) r`. Assumes nothing.
+-- `floor::floor_holder_priority` keeps its promise, `HolderPriorityPromise desk.now result`. Assumes nothing.
 use Rattle.signed.proofs.Signed.{passed}
 use Rattle.signed.specs.Signed.{signed}
 use Rattle.desk_looking.specs.Looking.{holder_priority}

@@ -1,5 +1,5 @@
--- `floor::floor_join` keeps its promise, `JoinPromise (now desk.entry) (now identity.entry) ssrc highest queueing «receive_only» r
--- (now desk.exit)`. Takes the lowest free seat. Assumes nothing.
+-- `floor::floor_join` keeps its promise, `JoinPromise desk.old identity.now ssrc highest queueing receive_only result desk.new`. Takes the
+-- lowest free seat. Assumes nothing.
 use Rattle.desk_test.proofs.Desks.{has_room}
 use Rattle.words.specs.Choice.{if_yes, if_no}
 use Rattle.signed.proofs.Signed.{passed, pair_same}

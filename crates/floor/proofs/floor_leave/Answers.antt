@@ -1,5 +1,5 @@
--- `floor::floor_leave` keeps its promise, `LeavePromise (now desk.entry) seat (now report.entry) r (now desk.exit) (now (report
--- .exit))`. A seat leaves. Assumes nothing.
+-- `floor::floor_leave` keeps its promise, `LeavePromise desk.old seat report.old result desk.new report.new`. A seat leaves. Assumes
+-- nothing.
 use Rattle.signed.proofs.Signed.{passed}
 use Rattle.desk_test.proofs.Desks.{has_room}
 use Rattle.desk_steps.proofs.Steps.{same_leaves, no_desk_so}

@@ -1,5 +1,5 @@
--- `floor::floor_load` keeps its promise, `LoadPromise (now desk.entry) (now sheet.entry) r (now desk.exit)`. Makes a fresh desk
--- from a sheet. Assumes nothing.
+-- `floor::floor_load` keeps its promise, `LoadPromise desk.old sheet.now result desk.new`. Makes a fresh desk from a sheet. Assumes
+-- nothing.
 use Rattle.signed.proofs.Signed.{passed, pair_same}
 use mathlib.Core.Path.{refl, ◌∙◌}
 use Rattle.floor.proofs.floor_load.Goals as goal

@@ -1,5 +1,5 @@
--- `floor::floor_make` keeps its promise, `MakePromise (now desk.entry) (settings_of ssrc level limit c7 c20 duration normal) r (now
--- desk.exit)`. Makes a fresh desk. Assumes nothing.
+-- `floor::floor_make` keeps its promise, `MakePromise desk.old (settings_of ssrc level limit c7 c20 duration normal) result desk.new`.
+-- Makes a fresh desk. Assumes nothing.
 use Rattle.signed.proofs.Signed.{passed, pair_same}
 use mathlib.Core.Path.{refl, ◌∙◌}
 use Rattle.floor.proofs.floor_make.Goals as goal

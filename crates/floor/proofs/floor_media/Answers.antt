@@ -1,5 +1,4 @@
--- `floor::floor_media` keeps its promise, `MediaPromise (now desk.entry) ssrc (now report.entry) r (now desk.exit) (now (report
--- .exit))`. Assumes nothing.
+-- `floor::floor_media` keeps its promise, `MediaPromise desk.old ssrc report.old result desk.new report.new`. Assumes nothing.
 use Rattle.signed.proofs.Signed.{passed}
 use Rattle.desk_steps.proofs.Steps.{same_leaves}
 use mathlib.Core.Path.{◌∙◌}

@@ -1,5 +1,5 @@
--- `floor::floor_message` keeps its promise, `MessagePromise (now desk.entry) (now report.entry) which (now room.entry) r (now
--- room.exit)`. A report's message as its packet. Assumes nothing.
+-- `floor::floor_message` keeps its promise, `MessagePromise desk.now report.now which room.old result room.new`. A report's message as its
+-- packet. Assumes nothing.
 use Rattle.desk_test.proofs.Desks.{has_room}
 use Rattle.signed.proofs.Signed.{passed, pair_same}
 use Rattle.words.specs.Choice.{if_yes, if_no}

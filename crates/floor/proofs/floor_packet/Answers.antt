@@ -1,5 +1,5 @@
--- `floor::floor_packet` keeps its promise, `PacketPromise (now desk.entry) (now packet.entry) (now report.entry) r (now (desk
--- .exit)) (now report.exit)`. A packet came in. Assumes nothing.
+-- `floor::floor_packet` keeps its promise, `PacketPromise desk.old packet.now report.old result desk.new report.new`. A packet came in.
+-- Assumes nothing.
 use Rattle.signed.proofs.Signed.{passed}
 use Rattle.desk_test.proofs.Desks.{has_room}
 use Rattle.desk_steps.proofs.Steps.{same_leaves, no_desk_so}

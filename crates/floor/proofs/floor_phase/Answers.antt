@@ -1,4 +1,4 @@
--- `floor::floor_phase` keeps its promise, `PhasePromise (now desk.entry) r`. Assumes nothing.
+-- `floor::floor_phase` keeps its promise, `PhasePromise desk.now result`. Assumes nothing.
 use Rattle.signed.proofs.Signed.{passed}
 use Rattle.steps.specs.declared.Core.{Core}
 use Rattle.desk_octets.specs.Form.{kind_octet}

@@ -1,5 +1,5 @@
--- `floor::floor_read` keeps its promise, `ReadPromise (now packet.entry) (now message.entry) r (now message.exit)`. Reads a packet
--- into a message's 40 octets. Assumes nothing.
+-- `floor::floor_read` keeps its promise, `ReadPromise packet.now message.old result message.new`. Reads a packet into a message's 40
+-- octets. Assumes nothing.
 use Rattle.signed.proofs.Signed.{passed, pair_same}
 use Rattle.signed.specs.Signed.{told_as}
 use mathlib.Core.Path.{◌∙◌, ap}

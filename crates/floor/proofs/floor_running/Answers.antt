@@ -1,4 +1,4 @@
--- `floor::floor_running` keeps its promise, `RunningPromise (now desk.entry) r`. Assumes nothing.
+-- `floor::floor_running` keeps its promise, `RunningPromise desk.now result`. Assumes nothing.
 use Rattle.signed.proofs.Signed.{passed}
 use Rattle.clocks_looking.specs.ClockSets.{timer_set}
 use Rattle.timers.specs.Timers.{running}

@@ -1,5 +1,4 @@
--- `floor::floor_save` keeps its promise, `SavePromise (now desk.entry) (now room.entry) r (now room.exit)`. Saves seats and
--- settings. Assumes nothing.
+-- `floor::floor_save` keeps its promise, `SavePromise desk.now room.old result room.new`. Saves seats and settings. Assumes nothing.
 use Rattle.desk_test.proofs.Desks.{has_room}
 use Rattle.signed.proofs.Signed.{passed, pair_same}
 use Rattle.words.specs.Choice.{if_yes, if_no}

@@ -1,5 +1,5 @@
--- `floor::floor_screen` keeps its promise, `ScreenPromise (now desk.entry) (now room.entry) r (now room.exit)`. The line for the
--- wall screen. Assumes nothing.
+-- `floor::floor_screen` keeps its promise, `ScreenPromise desk.now room.old result room.new`. The line for the wall screen. Assumes
+-- nothing.
 use Rattle.desk_test.proofs.Desks.{has_room}
 use Rattle.signed.proofs.Signed.{passed, pair_same}
 use Rattle.words.specs.Choice.{if_yes, if_no}

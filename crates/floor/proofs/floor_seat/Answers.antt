@@ -1,5 +1,5 @@
--- `floor::floor_seat` keeps its promise, `SeatPromise (now desk.entry) seat (now room.entry) r (now room.exit)`. A seat as the
--- sheet lays it out. Assumes nothing.
+-- `floor::floor_seat` keeps its promise, `SeatPromise desk.now seat room.old result room.new`. A seat as the sheet lays it out. Assumes
+-- nothing.
 use Rattle.signed.proofs.Signed.{passed, pair_same}
 use mathlib.Core.Path.{refl, ◌∙◌}
 use Rattle.floor.proofs.floor_seat.Goals as goal

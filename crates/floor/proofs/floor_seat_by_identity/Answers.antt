@@ -1,5 +1,4 @@
--- `floor::floor_seat_by_identity` keeps its promise, `SeatByIdentityPromise (now desk.entry) (now identity.entry) r`. Assumes
--- nothing.
+-- `floor::floor_seat_by_identity` keeps its promise, `SeatByIdentityPromise desk.now identity.now result`. Assumes nothing.
 use Rattle.signed.proofs.Signed.{passed}
 use Rattle.desk_test.proofs.Desks.{has_room}
 use Rattle.desk_looking.proofs.Looks.{looks_so, looks-not}

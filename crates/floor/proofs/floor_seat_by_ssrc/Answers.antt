@@ -1,4 +1,4 @@
--- `floor::floor_seat_by_ssrc` keeps its promise, `SeatBySsrcPromise (now desk.entry) ssrc r`. Assumes nothing.
+-- `floor::floor_seat_by_ssrc` keeps its promise, `SeatBySsrcPromise desk.now ssrc result`. Assumes nothing.
 use Rattle.signed.proofs.Signed.{passed}
 use Rattle.desk_test.proofs.Desks.{has_room}
 use Rattle.desk_looking.proofs.Looks.{looks_so, looks-not}

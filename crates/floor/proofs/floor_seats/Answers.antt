@@ -1,4 +1,4 @@
--- `floor::floor_seats` keeps its promise, `SeatsPromise (now desk.entry) r`. Assumes nothing.
+-- `floor::floor_seats` keeps its promise, `SeatsPromise desk.now result`. Assumes nothing.
 use Rattle.signed.proofs.Signed.{passed}
 use Rattle.report_octets.specs.Report.{mask_of}
 use Rattle.hall.specs.declared.Hall.{Hall}

@@ -1,4 +1,4 @@
--- `floor::floor_sequence` keeps its promise, `SequencePromise (now desk.entry) r`. Assumes nothing.
+-- `floor::floor_sequence` keeps its promise, `SequencePromise desk.now result`. Assumes nothing.
 use Rattle.signed.proofs.Signed.{passed}
 use Rattle.steps.specs.declared.Core.{Core}
 use lib.IntN.{pos}

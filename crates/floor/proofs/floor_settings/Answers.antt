@@ -1,5 +1,5 @@
--- `floor::floor_settings` keeps its promise, `SettingsPromise (now desk.entry) (now room.entry) r (now room.exit)`. The settings
--- as the sheet lays them out. Assumes nothing.
+-- `floor::floor_settings` keeps its promise, `SettingsPromise desk.now room.old result room.new`. The settings as the sheet lays them out.
+-- Assumes nothing.
 use Rattle.signed.proofs.Signed.{passed, pair_same}
 use mathlib.Core.Path.{refl, ◌∙◌}
 use Rattle.floor.proofs.floor_settings.Goals as goal

@@ -1,5 +1,4 @@
--- `floor::floor_start` keeps its promise, `StartPromise (now desk.entry) (now report.entry) r (now desk.exit) (now (report
--- .exit))`. Assumes nothing.
+-- `floor::floor_start` keeps its promise, `StartPromise desk.old report.old result desk.new report.new`. Assumes nothing.
 use Rattle.signed.proofs.Signed.{passed}
 use Rattle.desk_steps.proofs.Steps.{same_leaves}
 use mathlib.Core.Path.{◌∙◌}

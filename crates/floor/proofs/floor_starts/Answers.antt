@@ -1,5 +1,5 @@
--- `floor::floor_starts` keeps its promise, `StartsPromise before after fired (now report.entry) r`. The clocks to start anew after a
--- step. Assumes nothing.
+-- `floor::floor_starts` keeps its promise, `StartsPromise before after fired report.now result`. The clocks to start anew after a step.
+-- Assumes nothing.
 use Rattle.signed.proofs.Signed.{passed}
 use mathlib.Core.Path.{◌∙◌}
 use Rattle.floor.proofs.floor_starts.Goals as goal

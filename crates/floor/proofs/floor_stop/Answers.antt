@@ -1,5 +1,4 @@
--- `floor::floor_stop` keeps its promise, `StopPromise (now desk.entry) (now report.entry) r (now desk.exit) (now report.exit)`.
--- Assumes nothing.
+-- `floor::floor_stop` keeps its promise, `StopPromise desk.old report.old result desk.new report.new`. Assumes nothing.
 use Rattle.signed.proofs.Signed.{passed}
 use Rattle.desk_steps.proofs.Steps.{same_leaves}
 use mathlib.Core.Path.{◌∙◌}

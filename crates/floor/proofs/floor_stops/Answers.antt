@@ -1,5 +1,4 @@
--- `floor::floor_stops` keeps its promise, `StopsPromise before after r`. The clocks to stop.
--- Assumes nothing.
+-- `floor::floor_stops` keeps its promise, `StopsPromise before after result`. The clocks to stop. Assumes nothing.
 use Rattle.signed.proofs.Signed.{passed}
 use mathlib.Core.Path.{◌∙◌}
 use Rattle.floor.proofs.floor_stops.Goals as goal

@@ -1,5 +1,5 @@
--- `floor::floor_write` keeps its promise, `WritePromise (now message.entry) (now source.entry) (now room.entry) r (now (room
--- .exit))`. Writes a message as a packet. Assumes nothing.
+-- `floor::floor_write` keeps its promise, `WritePromise message.now source.now room.old result room.new`. Writes a message as a packet.
+-- Assumes nothing.
 use Rattle.message_octets.specs.Held.{held_at}
 use lib.ListN.{length}
 use Rattle.signed.specs.Signed.{signed}

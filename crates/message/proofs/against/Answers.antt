@@ -1,5 +1,5 @@
--- `message::against` keeps its promise, `r ≡ against id len number`. Whether the length of a field of the table, or the number that its
--- content begins with, is against the table. Assumes nothing.
+-- `message::against` keeps its promise, `result ≡ against id len number`. Whether the length of a field of the table, or the number that
+-- its content begins with, is against the table. Assumes nothing.
 use mathlib.Core.Path.{sym, ◌∙◌}
 use native.Mathlib.Omega.{arith}
 use Rattle.message.proofs.Rows.{least_is, greatest_listed, listed_below, long, short, content_left}

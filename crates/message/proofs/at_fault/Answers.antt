@@ -1,5 +1,5 @@
--- `message::at_fault` keeps its promise, `r ≡ at_fault id number`. Whether a field's content is at fault: only IDs 5 and 10 can be. Assumes
--- nothing.
+-- `message::at_fault` keeps its promise, `result ≡ at_fault id number`. Whether a field's content is at fault: only IDs 5 and 10 can be.
+-- Assumes nothing.
 use borrow.Author.Tests.{eq-eqb, ne_eqb}
 use Rattle.words.specs.Choice.{when◌then◌else◌}
 use Rattle.message.specs.Table.{at_fault}

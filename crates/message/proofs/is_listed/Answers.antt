@@ -1,4 +1,4 @@
--- `message::is_listed` keeps its promise, `r ≡ listed id`. Whether the table has an ID. Assumes nothing.
+-- `message::is_listed` keeps its promise, `result ≡ listed id`. Whether the table has an ID. Assumes nothing.
 use mathlib.Core.Path.{sym}
 use Rattle.message.proofs.Rows.{mark-tells, unlisted_above}
 use Rattle.message.proofs.is_listed.Goals as goal

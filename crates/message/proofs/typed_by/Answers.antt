@@ -1,4 +1,5 @@
--- `message::typed_by` keeps its promise, `r ≡ typed low`. The type that a number names: 7 and 11 to 15 are not listed. Assumes nothing.
+-- `message::typed_by` keeps its promise, `result ≡ typed low`. The type that a number names: 7 and 11 to 15 are not listed. Assumes
+-- nothing.
 use Prim.Native.Nat.{ℕ, zero, suc}
 use mathlib.Core.Path.{◌≡◌, refl}
 use Rattle.message.specs.Types.{typed}

@@ -1,5 +1,5 @@
--- `message_octets::lay_cause` keeps its promise, `Lays (now room.entry) to (octets16 (reject_cause_in (reads.cause_at (now s.entry)
--- at))) (now room.exit)`. Assumes nothing.
+-- `message_octets::lay_cause` keeps its promise, `Lays room.old to (octets16 (reject_cause_in (reads.cause_at s.now at))) room.new`.
+-- Assumes nothing.
 use mathlib.Core.Path.{refl, sym}
 use native.Mathlib.Nat.{add-zero}
 use borrow.Author.Tests.{eq-eqb, ne_eqb}

@@ -1,5 +1,5 @@
--- `message_octets::lay_next` keeps its promise, `((k : Kind) → Lays (now room.entry) permission_place (next_octets (reads.message_at k (now
--- s.entry) (λ i. getD (now starts.entry) i 0))) (now room.exit))`. Assumes nothing.
+-- `message_octets::lay_next` keeps its promise, `(k : MessageType) → Lays room.old permission_place (next_octets (reads.message_at k s.now
+-- (λ i. get_or starts.now i 0))) room.new`. Assumes nothing.
 use mathlib.Core.Path.{refl}
 use Rattle.octets.specs.Octets.{octets16, octets32}
 use Rattle.reading.specs.Reading.{message_at}

@@ -1,5 +1,5 @@
--- `message_octets::lay_parts` keeps its promise, `((k : Kind) → Lays (now room.entry) phrase_place (part_octets (reads.message_at k (now (s
--- .entry)) (λ i. getD (now starts.entry) i 0))) (now room.exit))`. Assumes nothing.
+-- `message_octets::lay_parts` keeps its promise, `(k : MessageType) → Lays room.old phrase_place (part_octets (reads.message_at k s.now (λ
+-- i. get_or starts.now i 0))) room.new`. Assumes nothing.
 use mathlib.Core.Path.{refl}
 use Rattle.octets.specs.Octets.{octets16}
 use Rattle.reading.specs.Reading.{message_at}

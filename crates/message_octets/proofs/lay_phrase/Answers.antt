@@ -1,5 +1,5 @@
--- `message_octets::lay_phrase` keeps its promise, `Lays (now room.entry) to (place_octets (phrase_in (reads.cause_at (now s.entry) at)))
--- (now room.exit)`. Where a cause's phrase stands; the bit of its field is added where the cause is laid. Assumes nothing.
+-- `message_octets::lay_phrase` keeps its promise, `Lays room.old to (place_octets (phrase_in (reads.cause_at s.now at))) room.new`. Where a
+-- cause's phrase stands; the bit of its field is added where the cause is laid. Assumes nothing.
 use mathlib.Core.Path.{refl}
 use borrow.Author.Tests.{eq-eqb, ne_eqb}
 use Rattle.words.specs.Choice.{when◌then◌else◌}

@@ -1,5 +1,4 @@
--- `message_octets::lay_word` keeps its promise, `Lays (now room.entry) to (octets16 (wordIn (reads.word_at (now s.entry) at))) (now
--- room.exit)`. Assumes nothing.
+-- `message_octets::lay_word` keeps its promise, `Lays room.old to (octets16 (word_in (reads.word_at s.now at))) room.new`. Assumes nothing.
 use mathlib.Core.Path.{refl, sym}
 use native.Mathlib.Nat.{add-zero}
 use borrow.Author.Tests.{eq-eqb, ne_eqb}

@@ -1,5 +1,4 @@
--- `message_octets::put_head` keeps its promise, `now room.exit ≡ over (now room.entry) 0 (head_by kind (now s.entry) fields)`.
--- Assumes nothing.
+-- `message_octets::put_head` keeps its promise, `room.new ≡ over room.old 0 (head_by kind s.now fields)`. Assumes nothing.
 use Prim.Native.Nat.{◌+◌, zero-le}
 use mathlib.Core.List.{[], ◌∷◌}
 use mathlib.Core.Path.{◌≡◌, refl}

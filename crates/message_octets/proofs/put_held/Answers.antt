@@ -1,5 +1,5 @@
--- `message_octets::put_held` keeps its promise, `now room.exit ≡ over (now room.entry) 0 (held_octets (reads.message_at kind (now (s
--- .entry)) (λ i. get_or (now starts.entry) i 0)))`. Writes a packet's message into the first 40 octets of a room. Assumes nothing.
+-- `message_octets::put_held` keeps its promise, `room.new ≡ over room.old 0 (held_octets (reads.message_at kind s.now (λ i. get_or
+-- starts.now i 0)))`. Writes a packet's message into the first 40 octets of a room. Assumes nothing.
 use Prim.Native.Nat.{ℕ}
 use mathlib.Core.Path.{◌≡◌}
 use lib.ListN.{get_or}

@@ -1,5 +1,5 @@
--- `message_octets::put_place` keeps its promise, `now room.exit ≡ over (now room.entry) at (place_octets (part.At from count))`. A
--- place in a packet fits 16 bits: a packet has at most 1,024 octets. Assumes nothing.
+-- `message_octets::put_place` keeps its promise, `room.new ≡ over room.old at (place_octets (part.At from count))`. A place in a packet
+-- fits 16 bits: a packet has at most 1,024 octets. Assumes nothing.
 use Prim.Native.Nat.{◌≤◌}
 use mathlib.Core.Path.{refl}
 use lib.ListN.{length}

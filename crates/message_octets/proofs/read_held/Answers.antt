@@ -1,5 +1,5 @@
--- `message_octets::read_held` keeps its promise, `r ≡ read_held (now packet.entry) (length (now room.entry))`. Reads a packet into a
--- room for a message: 0, or the number of a refusal, 1 to 11 or 14 before 13. Assumes nothing.
+-- `message_octets::read_held` keeps its promise, `result ≡ read_held packet.now (length room.old)`. Reads a packet into a room for a
+-- message: 0, or the number of a refusal, 1 to 11 or 14 before 13. Assumes nothing.
 use mathlib.Core.Path.{subst}
 use Rattle.header.specs.declared.Opening.{Opening}
 use Rattle.reading.specs.Judging.{Judges}

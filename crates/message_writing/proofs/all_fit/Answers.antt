@@ -1,5 +1,5 @@
--- `message_writing::all_fit` keeps its promise, `r ≡ (lies (message_in (now s.entry) fields) (now src.entry) && fitting (message_in
--- (now s.entry) fields))`. Whether the identities and the phrase are in the source, and no field is against the table. Assumes nothing.
+-- `message_writing::all_fit` keeps its promise, `result ≡ (lies (message_in s.now fields) src.now && fitting (message_in s.now fields))`.
+-- Whether the identities and the phrase are in the source, and no field is against the table. Assumes nothing.
 use native.Mathlib.Omega.{arith}
 use Rattle.message_writing.proofs.all_fit.Goals as goal
 

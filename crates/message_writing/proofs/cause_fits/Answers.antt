@@ -1,5 +1,5 @@
--- `message_writing::cause_fits` keeps its promise, `r ≡ (phrase_lies (now src.entry) (cause_at (now s.entry) fields) && phrase_fits
--- (cause_at (now s.entry) fields))`. Assumes nothing.
+-- `message_writing::cause_fits` keeps its promise, `result ≡ (phrase_lies src.now (cause_held s.now fields) && phrase_fits (cause_held
+-- s.now fields))`. Assumes nothing.
 use Rattle.readable.proofs.Chains.{and_yes, and_no}
 use Rattle.message_writing.proofs.cause_fits.Goals as goal
 

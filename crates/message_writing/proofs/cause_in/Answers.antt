@@ -1,5 +1,5 @@
--- `message_writing::cause_in` keeps its promise, `r ≡ cause_if (bitOf fields worth) (be16 (now s.entry) at) (be16 (now s.entry)
--- phrase) (be16 (now s.entry) (phrase + 2))`. The cause stands at one place, where its phrase is at another. Assumes nothing.
+-- `message_writing::cause_in` keeps its promise, `result ≡ cause_if (bit_of fields worth) (be16 s.now at) (be16 s.now phrase) (be16 s.now
+-- (phrase + 2))`. The cause stands at one place, where its phrase is at another. Assumes nothing.
 use mathlib.Core.Path.{sym, ◌∙◌}
 use Rattle.message_writing.proofs.cause_in.Goals as goal
 

@@ -1,4 +1,4 @@
--- `message_writing::cause_size` keeps its promise, `r ≡ cause_size (cause_at (now s.entry) fields)`. Assumes nothing.
+-- `message_writing::cause_size` keeps its promise, `result ≡ cause_size (cause_held s.now fields)`. Assumes nothing.
 use Rattle.message_writing.proofs.cause_size.Goals as goal
 
 pub cause_size-requires : goal.cause_size-requires

@@ -1,5 +1,5 @@
--- `message_writing::has_required` keeps its promise, `r ≡ has_required (typed number) fields`. Whether a type is listed, and has what it
--- requires. Assumes nothing.
+-- `message_writing::has_required` keeps its promise, `result ≡ has_required (typed number) fields`. Whether a type is listed, and has what
+-- it requires. Assumes nothing.
 use mathlib.Core.Path.{sym, ◌∙◌}
 use Rattle.message_writing.proofs.has_required.Goals as goal
 

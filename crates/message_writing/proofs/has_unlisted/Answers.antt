@@ -1,5 +1,5 @@
--- `message_writing::has_unlisted` keeps its promise, `r ≡ unlisted_field fields`. Whether a bit is set for an ID that is not in the table:
--- 7, 9, 11 or 15. Assumes nothing.
+-- `message_writing::has_unlisted` keeps its promise, `result ≡ unlisted_field fields`. Whether a bit is set for an ID that is not in the
+-- table: 7, 9, 11 or 15. Assumes nothing.
 use Rattle.message_octets.specs.Held.{unlisted_field}
 use Rattle.message_writing.proofs.has_unlisted.Goals as goal
 

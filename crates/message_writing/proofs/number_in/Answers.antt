@@ -1,4 +1,4 @@
--- `message_writing::number_in` keeps its promise, `r ≡ number_if (bit_of fields worth) (be32 (now s.entry) at)`. Assumes nothing.
+-- `message_writing::number_in` keeps its promise, `result ≡ number_if (bit_of fields worth) (be32 s.now at)`. Assumes nothing.
 use mathlib.Core.Path.{sym, ◌∙◌}
 use Rattle.message_writing.proofs.number_in.Goals as goal
 

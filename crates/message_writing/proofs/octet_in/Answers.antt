@@ -1,4 +1,4 @@
--- `message_writing::octet_in` keeps its promise, `r ≡ octet_if (bit_of fields worth) (get_or (now s.entry) at 0)`. Assumes nothing.
+-- `message_writing::octet_in` keeps its promise, `result ≡ octet_if (bit_of fields worth) (get_or s.now at 0)`. Assumes nothing.
 use mathlib.Core.Path.{sym, ◌∙◌}
 use Rattle.message_writing.proofs.octet_in.Goals as goal
 

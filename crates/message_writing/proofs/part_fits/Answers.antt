@@ -1,5 +1,5 @@
--- `message_writing::part_fits` keeps its promise, `r ≡ (part_lies (now src.entry) (partAt (now s.entry) fields worth at) &&
--- identity_fits (partAt (now s.entry) fields worth at))`. Assumes nothing.
+-- `message_writing::part_fits` keeps its promise, `result ≡ (part_lies src.now (part_held s.now fields worth at) && identity_fits
+-- (part_held s.now fields worth at))`. Assumes nothing.
 use Rattle.readable.proofs.Chains.{and_yes, and_no}
 use Rattle.message_writing.proofs.part_fits.Goals as goal
 

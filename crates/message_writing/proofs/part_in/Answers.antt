@@ -1,4 +1,4 @@
--- `message_writing::part_in` keeps its promise, `r ≡ part_at (now s.entry) fields worth at`. Assumes nothing.
+-- `message_writing::part_in` keeps its promise, `result ≡ part_held s.now fields worth at`. Assumes nothing.
 use mathlib.Core.Path.{sym, ◌∙◌}
 use Rattle.message_writing.proofs.part_in.Goals as goal
 

@@ -1,4 +1,4 @@
--- `message_writing::part_size` keeps its promise, `r ≡ part_size (part_at (now s.entry) fields worth at)`. Assumes nothing.
+-- `message_writing::part_size` keeps its promise, `result ≡ part_size (part_held s.now fields worth at)`. Assumes nothing.
 use Rattle.message_writing.proofs.part_size.Goals as goal
 
 pub part_in-p-requires : goal.part_in-p-requires

@@ -1,5 +1,5 @@
--- `message_writing::put_cause` keeps its promise, `Laid (now room.entry) at (optional 2 (of_cause (now src.entry) (cause_at (now (s
--- .entry)) fields))) (now room.exit) r`. Assumes nothing.
+-- `message_writing::put_cause` keeps its promise, `Laid room.old at (optional 2 (of_cause src.now (cause_held s.now fields))) room.new
+-- result`. Assumes nothing.
 use Rattle.message_writing.proofs.put_cause.Goals as goal
 
 pub put_cause-requires : goal.put_cause-requires

@@ -1,5 +1,5 @@
--- `message_writing::put_identity` keeps its promise, `Laid (now room.entry) at (optional id (of_part (now src.entry) (partAt (now (s
--- .entry)) fields worth place))) (now room.exit) r`. Assumes nothing.
+-- `message_writing::put_identity` keeps its promise, `Laid room.old at (optional id (of_part src.now (part_held s.now fields worth place)))
+-- room.new result`. Assumes nothing.
 use Rattle.message_writing.proofs.put_identity.Goals as goal
 
 pub put_identity-requires : goal.put_identity-requires

@@ -1,5 +1,5 @@
--- `message_writing::put_number` keeps its promise, `Laid (now room.entry) at (optional 14 (of_number (number_if (bitOf fields 16384) (be32
--- (now s.entry) ssrc_field_place)))) (now room.exit) r`. Assumes nothing.
+-- `message_writing::put_number` keeps its promise, `Laid room.old at (optional 14 (of_number (number_if (bit_of fields 16384) (be32 s.now
+-- ssrc_field_place)))) room.new result`. Assumes nothing.
 use Rattle.message_writing.proofs.put_number.Goals as goal
 
 pub put_number-requires : goal.put_number-requires

@@ -1,5 +1,5 @@
--- `message_writing::put_octet` keeps its promise, `Laid (now room.entry) at (optional id (of_octet (octet_if (bitOf fields worth) (getD
--- (now s.entry) place 0)))) (now room.exit) r`. Assumes nothing.
+-- `message_writing::put_octet` keeps its promise, `Laid room.old at (optional id (of_octet (octet_if (bit_of fields worth) (get_or s.now
+-- place 0)))) room.new result`. Assumes nothing.
 use Rattle.message_writing.proofs.put_octet.Goals as goal
 
 pub put_octet-requires : goal.put_octet-requires

@@ -1,5 +1,5 @@
--- `message_writing::put_queue` keeps its promise, `Laid (now room.entry) at (optional 3 (of_queue (queue_if (bitOf fields 8) (getD (now (s
--- .entry)) queue_place 0) (getD (now s.entry) (queue_place + 1) 0)))) (now room.exit) r`. Assumes nothing.
+-- `message_writing::put_queue` keeps its promise, `Laid room.old at (optional 3 (of_queue (queue_if (bit_of fields 8) (get_or s.now
+-- queue_place 0) (get_or s.now (queue_place + 1) 0)))) room.new result`. Assumes nothing.
 use Rattle.message_writing.proofs.put_queue.Goals as goal
 
 pub put_queue-requires : goal.put_queue-requires

@@ -1,5 +1,5 @@
--- `message_writing::put_word` keeps its promise, `Laid (now room.entry) at (optional id (of_word (word_if (bitOf fields worth) (be16 (now
--- s.entry) place)))) (now room.exit) r`. Assumes nothing.
+-- `message_writing::put_word` keeps its promise, `Laid room.old at (optional id (of_word (word_if (bit_of fields worth) (be16 s.now
+-- place)))) room.new result`. Assumes nothing.
 use Rattle.message_writing.proofs.put_word.Goals as goal
 
 pub put_word-requires : goal.put_word-requires

@@ -1,5 +1,5 @@
--- `message_writing::queue_in` keeps its promise, `r ≡ queue_if (bitOf fields worth) (getD (now s.entry) at 0) (getD (now s.entry) (at
--- + 1) 0)`. Assumes nothing.
+-- `message_writing::queue_in` keeps its promise, `result ≡ queue_if (bit_of fields worth) (get_or s.now at 0) (get_or s.now (at + 1) 0)`.
+-- Assumes nothing.
 use mathlib.Core.Path.{sym, ◌∙◌}
 use Rattle.message_writing.proofs.queue_in.Goals as goal
 

@@ -1,5 +1,5 @@
--- `message_writing::readable_in` keeps its promise, `r ≡ readable_in (held_at (now s.entry)) (now src.entry)`. Whether 40 octets hold a
--- message that a reader would accept. Assumes nothing.
+-- `message_writing::readable_in` keeps its promise, `result ≡ readable_in (held_at s.now) src.now`. Whether 40 octets hold a message that a
+-- reader would accept. Assumes nothing.
 use mathlib.Core.Path.{sym, ap, ◌∙◌}
 use Rattle.readable.proofs.Chains.{and_yes, and_no}
 use Rattle.message_octets.specs.Held.{unlisted_field}

@@ -1,4 +1,5 @@
--- `message_writing::short_size` keeps its promise, `r ≡ short_size fields`. How many octets all fields of one length take. Assumes nothing.
+-- `message_writing::short_size` keeps its promise, `result ≡ short_size fields`. How many octets all fields of one length take. Assumes
+-- nothing.
 use Rattle.message_writing.specs.Writes.{short_size}
 use native.Mathlib.Omega.{arith}
 use Rattle.message_writing.proofs.short_size.Goals as goal

@@ -1,5 +1,5 @@
--- `message_writing::size_in` keeps its promise, `r ≡ header_size + (front_size (message_in (now s.entry) fields) + rest_size (message_in
--- (now s.entry) fields))`. The octets of the whole packet. Assumes nothing.
+-- `message_writing::size_in` keeps its promise, `result ≡ header_size + (front_size (message_in s.now fields) + rest_size (message_in s.now
+-- fields))`. The octets of the whole packet. Assumes nothing.
 use Rattle.message_octets.specs.Held.{message_with}
 use Rattle.message_writing.specs.Writes.{message_in}
 use Rattle.message_writing.proofs.Laws.{size_is, size_none}

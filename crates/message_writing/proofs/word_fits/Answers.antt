@@ -1,4 +1,4 @@
--- `message_writing::word_fits` keeps its promise, `r ≡ content_fits id (word_if (bit_of fields worth) (be16 (now s.entry) at))`. Assumes
+-- `message_writing::word_fits` keeps its promise, `result ≡ content_fits id (word_if (bit_of fields worth) (be16 s.now at))`. Assumes
 -- nothing.
 use Rattle.message_writing.proofs.word_fits.Goals as goal
 

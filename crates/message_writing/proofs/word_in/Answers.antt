@@ -1,4 +1,4 @@
--- `message_writing::word_in` keeps its promise, `r ≡ word_if (bit_of fields worth) (be16 (now s.entry) at)`. Assumes nothing.
+-- `message_writing::word_in` keeps its promise, `result ≡ word_if (bit_of fields worth) (be16 s.now at)`. Assumes nothing.
 use mathlib.Core.Path.{sym, ◌∙◌}
 use Rattle.message_writing.proofs.word_in.Goals as goal
 

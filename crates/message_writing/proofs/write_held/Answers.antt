@@ -1,5 +1,5 @@
--- `message_writing::write_held` keeps its promise, `WritesOf (held_at (now held.entry)) (now source.entry) (now room.entry) r (now
--- room.exit)`. Writes the message that octets hold as a packet, its identities and its phrase out of the lent source. Assumes nothing.
+-- `message_writing::write_held` keeps its promise, `WritesOf (held_at held.now) source.now room.old result room.new`. Writes the message
+-- that octets hold as a packet, its identities and its phrase out of the lent source. Assumes nothing.
 use Rattle.header.specs.Header.{headed, first_octet}
 use Rattle.message_octets.specs.Held.{message_with, held_at}
 use Rattle.message_writing.specs.Writes.{message_in}

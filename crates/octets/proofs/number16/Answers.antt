@@ -1,4 +1,4 @@
--- `octets::number16` keeps its promise, `r ≡ be16 (now s.entry) at`. The number in the two octets from `at` on. Assumes nothing.
+-- `octets::number16` keeps its promise, `result ≡ be16 s.now at`. The number in the two octets from `at` on. Assumes nothing.
 use Rattle.octets.specs.Octets.{be16}
 use native.Mathlib.Omega.{arith}
 use Rattle.octets.proofs.number16.Goals as goal

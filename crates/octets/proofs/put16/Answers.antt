@@ -1,5 +1,4 @@
--- `octets::put16` keeps its promise, `now room.exit ≡ over (now room.entry) at (octets16 n)`. Writes a number as two octets at `at`.
--- Assumes nothing.
+-- `octets::put16` keeps its promise, `room.new ≡ over room.old at (octets16 n)`. Writes a number as two octets at `at`. Assumes nothing.
 use Rattle.octets.specs.Octets.{octets16}
 use borrow.Author.Rules.{rules}
 use Rattle.octets.proofs.put16.Goals as goal

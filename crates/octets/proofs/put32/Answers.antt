@@ -1,5 +1,4 @@
--- `octets::put32` keeps its promise, `now room.exit ≡ over (now room.entry) at (octets32 n)`. Writes a number as four octets at `at`.
--- Assumes nothing.
+-- `octets::put32` keeps its promise, `room.new ≡ over room.old at (octets32 n)`. Writes a number as four octets at `at`. Assumes nothing.
 use Prim.Native.Nat.{ℕ, ◌+◌, ◌/◌, ◌%◌, ◌≤◌}
 use mathlib.Core.Path.{◌∙◌, ap}
 use mathlib.Core.List.{List}

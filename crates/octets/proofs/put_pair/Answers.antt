@@ -1,5 +1,4 @@
--- `octets::put_pair` keeps its promise, `now room.exit ≡ over (now room.entry) at (first ∷ second ∷ [])`. Writes two octets at `at`.
--- Assumes nothing.
+-- `octets::put_pair` keeps its promise, `room.new ≡ over room.old at (first ∷ second ∷ [])`. Writes two octets at `at`. Assumes nothing.
 use native.Mathlib.Numerals.{add-one}
 use mathlib.Core.List.{[], ◌∷◌}
 use lib.ListN.{length-set}

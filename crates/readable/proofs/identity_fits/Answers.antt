@@ -1,4 +1,4 @@
--- `readable::identity_fits` keeps its promise, `r ≡ identity_fits p`. L of an identity is 1 to 62. Assumes nothing.
+-- `readable::identity_fits` keeps its promise, `result ≡ identity_fits p`. L of an identity is 1 to 62. Assumes nothing.
 use borrow.Author.Tests.{le-leb, lt-leb}
 use Rattle.readable.proofs.identity_fits.Goals as goal
 

@@ -1,4 +1,4 @@
--- `readable::phrase_lies` keeps its promise, `r ≡ phrase_lies (now src.entry) c`. Assumes nothing.
+-- `readable::phrase_lies` keeps its promise, `result ≡ phrase_lies src.now c`. Assumes nothing.
 use Rattle.readable.proofs.phrase_lies.Goals as goal
 
 pub returns-in-Is : goal.returns-in-Is

@@ -1,4 +1,4 @@
--- `readable::within` keeps its promise, `r ≡ leb (from + count) len`. Whether a part lies within `len` octets. Assumes nothing.
+-- `readable::within` keeps its promise, `result ≡ leb (from + count) len`. Whether a part lies within `len` octets. Assumes nothing.
 use Prim.Native.Nat.{◌+◌, ◌-◌}
 use mathlib.Core.Path.{sym, ◌∙◌}
 use lib.Dec.{leb}

@@ -1,4 +1,4 @@
--- `reader::place_behind` keeps its promise, `r ≡ behind step at`. The place behind what stands at a place, once that is known. Assumes
+-- `reader::place_behind` keeps its promise, `result ≡ behind step at`. The place behind what stands at a place, once that is known. Assumes
 -- nothing.
 use mathlib.Core.Path.{refl}
 use Rattle.reader.proofs.place_behind.Goals as goal

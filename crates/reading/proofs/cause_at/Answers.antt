@@ -1,4 +1,4 @@
--- `reading::cause_at` keeps its promise, `r ≡ cause_at (now s.entry) at`. Assumes nothing.
+-- `reading::cause_at` keeps its promise, `result ≡ cause_at s.now at`. Assumes nothing.
 use borrow.Author.Tests.{eq-eqb, ne_eqb}
 use Rattle.words.specs.Choice.{when◌then◌else◌}
 use Rattle.reading.specs.Reading.{cause_at}

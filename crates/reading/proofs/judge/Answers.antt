@@ -1,5 +1,5 @@
--- `reading::judge` keeps its promise, `Judges r (now s.entry) (now starts.exit)`. Judges a packet, and notes where its fields'
--- contents start: with its type they are its message, of which a caller makes what it needs. Assumes nothing.
+-- `reading::judge` keeps its promise, `Judges result s.now starts.new`. Judges a packet, and notes where its fields' contents start: with
+-- its type they are its message, of which a caller makes what it needs. Assumes nothing.
 use mathlib.Core.Path.{sym, ap, ◌∙◌}
 use Rattle.header.specs.Opening.{opening_answer}
 use Rattle.reading.specs.Reading.{reading}

@@ -1,5 +1,5 @@
--- `reading::message_at` keeps its promise, `r ≡ message_at kind (now s.entry) (λ i. get_or (now starts.entry) i 0)`. The message of a
--- packet of this type, from the starts of its fields' contents. Assumes nothing.
+-- `reading::message_at` keeps its promise, `result ≡ message_at kind s.now (λ i. get_or starts.now i 0)`. The message of a packet of this
+-- type, from the starts of its fields' contents. Assumes nothing.
 use Rattle.reading.specs.Reading.{message_at}
 use Rattle.reading.proofs.message_at.Goals as goal
 

@@ -1,4 +1,4 @@
--- `reading::number_at` keeps its promise, `r ≡ number_at (now s.entry) at`. Assumes nothing.
+-- `reading::number_at` keeps its promise, `result ≡ number_at s.now at`. Assumes nothing.
 use borrow.Author.Tests.{eq-eqb, ne_eqb}
 use Rattle.words.specs.Choice.{when◌then◌else◌}
 use Rattle.reading.specs.Reading.{number_at}

@@ -1,5 +1,5 @@
--- `reading::octet_at` keeps its promise, `r ≡ octet_at (now s.entry) at`. What a message has of a field whose content starts at `at`;
--- nothing where that is 0. Assumes nothing.
+-- `reading::octet_at` keeps its promise, `result ≡ octet_at s.now at`. What a message has of a field whose content starts at `at`; nothing
+-- where that is 0. Assumes nothing.
 use borrow.Author.Tests.{eq-eqb, ne_eqb}
 use Rattle.words.specs.Choice.{when◌then◌else◌}
 use Rattle.reading.specs.Reading.{octet_at}

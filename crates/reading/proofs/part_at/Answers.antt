@@ -1,4 +1,4 @@
--- `reading::part_at` keeps its promise, `r ≡ part_at (now s.entry) at`. Assumes nothing.
+-- `reading::part_at` keeps its promise, `result ≡ part_at s.now at`. Assumes nothing.
 use borrow.Author.Tests.{eq-eqb, ne_eqb}
 use Rattle.words.specs.Choice.{when◌then◌else◌}
 use Rattle.reading.specs.Reading.{part_at}

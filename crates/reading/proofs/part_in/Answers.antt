@@ -1,5 +1,5 @@
--- `reading::part_in` keeps its promise, `now r ≡ part_in (now s.entry) p`. The part of the packet that holds an identity or a phrase,
--- itself and no copy of it; an empty part where the packet has none there. Assumes nothing.
+-- `reading::part_in` keeps its promise, `result.now ≡ part_in s.now p`. The part of the packet that holds an identity or a phrase, itself
+-- and no copy of it; an empty part where the packet has none there. Assumes nothing.
 use Prim.Native.Nat.{ℕ, ◌+◌, ◌≤◌, ◌<◌}
 use native.Mathlib.Nat.{add-sub_cancel_left}
 use mathlib.Core.Path.{ap, refl}

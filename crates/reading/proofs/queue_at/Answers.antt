@@ -1,4 +1,4 @@
--- `reading::queue_at` keeps its promise, `r ≡ queue_at (now s.entry) at`. Assumes nothing.
+-- `reading::queue_at` keeps its promise, `result ≡ queue_at s.now at`. Assumes nothing.
 use borrow.Author.Tests.{eq-eqb, ne_eqb}
 use Rattle.words.specs.Choice.{when◌then◌else◌}
 use Rattle.reading.specs.Reading.{queue_at}

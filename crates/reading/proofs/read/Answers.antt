@@ -1,5 +1,4 @@
--- `reading::read` keeps its promise, `Reads (now s.entry) r`. Reads a packet: its message, or the first refusal that applies. Assumes
--- nothing.
+-- `reading::read` keeps its promise, `Reads s.now result`. Reads a packet: its message, or the first refusal that applies. Assumes nothing.
 use mathlib.Core.Path.{sym, ap, subst, ◌∙◌}
 use Rattle.message.specs.Answers.{result}
 use Rattle.header.specs.declared.Opening.{Opening}

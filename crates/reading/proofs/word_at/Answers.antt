@@ -1,4 +1,4 @@
--- `reading::word_at` keeps its promise, `r ≡ word_at (now s.entry) at`. Assumes nothing.
+-- `reading::word_at` keeps its promise, `result ≡ word_at s.now at`. Assumes nothing.
 use borrow.Author.Tests.{eq-eqb, ne_eqb}
 use Rattle.words.specs.Choice.{when◌then◌else◌}
 use Rattle.reading.specs.Reading.{word_at}

@@ -1,4 +1,4 @@
--- `report_octets::kind_of` keeps its promise, `r ≡ kind_of q`. Assumes nothing.
+-- `report_octets::kind_of` keeps its promise, `result ≡ kind_of q`. Assumes nothing.
 use Rattle.report_octets.specs.Report.{kind_of}
 use borrow.Author.Tests.{ne_eqb}
 use Rattle.std.proofs.Common.{◌≡◌, arith}

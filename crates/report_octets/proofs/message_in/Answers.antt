@@ -1,4 +1,4 @@
--- `report_octets::message_in` keeps its promise, `t ≡ told_in (now r.entry) which`. Message 0 or 1 of a report. Assumes nothing.
+-- `report_octets::message_in` keeps its promise, `result ≡ told_in r.now which`. Message 0 or 1 of a report. Assumes nothing.
 use Rattle.report_octets.specs.Report.{told_in}
 use borrow.Author.Tests.{ne_eqb, eq-eqb}
 use Rattle.words.specs.Choice.{when◌then◌else◌}

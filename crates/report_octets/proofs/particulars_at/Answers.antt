@@ -1,4 +1,4 @@
--- `report_octets::particulars_at` keeps its promise, `q ≡ particulars_at (now r.entry) at`. Assumes nothing.
+-- `report_octets::particulars_at` keeps its promise, `result ≡ particulars_at r.now at`. Assumes nothing.
 use Rattle.report_octets.specs.Report.{particulars_at}
 use Rattle.report_octets.proofs.particulars_at.Goals as goal
 

@@ -1,4 +1,4 @@
--- `report_octets::particulars_of` keeps its promise, `r ≡ particulars kind`. Assumes nothing.
+-- `report_octets::particulars_of` keeps its promise, `result ≡ particulars kind`. Assumes nothing.
 use Rattle.report_octets.specs.Report.{particulars}
 use Rattle.report_octets.proofs.particulars_of.Goals as goal
 

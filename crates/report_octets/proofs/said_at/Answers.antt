@@ -1,4 +1,4 @@
--- `report_octets::said_at` keeps its promise, `t ≡ said_at (now r.entry) at`. Assumes nothing.
+-- `report_octets::said_at` keeps its promise, `result ≡ said_at r.now at`. Assumes nothing.
 use Rattle.report_octets.proofs.said_at.Goals as goal
 
 pub returns : goal.returns

@@ -1,5 +1,5 @@
--- `report_octets::said_by` keeps its promise, `r ≡ said_by q behind`. A message is taken only if its octets are those that would be written
--- for it. Assumes nothing.
+-- `report_octets::said_by` keeps its promise, `result ≡ said_by q behind`. A message is taken only if its octets are those that would be
+-- written for it. Assumes nothing.
 use Rattle.report_octets.specs.Report.{said_by}
 use Rattle.words.specs.Choice.{when◌then◌else◌, if_yes, if_no}
 use mathlib.Core.Path.{sym}

@@ -1,4 +1,4 @@
--- `seat_looking::is_taken` keeps its promise, `r ≡ is_present hall seat`. Assumes nothing.
+-- `seat_looking::is_taken` keeps its promise, `result ≡ is_present hall seat`. Assumes nothing.
 use Prim.Native.Nat.{◌≤◌}
 use mathlib.Core.Bool.{false, false≢true}
 use mathlib.Core.Path.{sym}

@@ -1,5 +1,5 @@
--- `seat_looking::seat_on` keeps its promise, `(r, now room.exit) ≡ seat_shown (now desk.entry) seat (now room.entry)`. Writes a
--- seat: 7 octets and its identity. Assumes nothing.
+-- `seat_looking::seat_on` keeps its promise, `(result, room.new) ≡ seat_shown desk.now seat room.old`. Writes a seat: 7 octets and its
+-- identity. Assumes nothing.
 use Rattle.desk_test.proofs.Desks.{has_room}
 use Rattle.signed.proofs.Signed.{passed, pair_same}
 use Rattle.words.specs.Choice.{if_yes, if_no}

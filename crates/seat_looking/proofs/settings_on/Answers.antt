@@ -1,5 +1,5 @@
--- `seat_looking::settings_on` keeps its promise, `(r, now room.exit) ≡ settings_shown (now desk.entry) (now room.entry)`. Writes
--- the settings: 12 octets. Assumes nothing.
+-- `seat_looking::settings_on` keeps its promise, `(result, room.new) ≡ settings_shown desk.now room.old`. Writes the settings: 12 octets.
+-- Assumes nothing.
 use Rattle.desk_test.proofs.Desks.{has_room}
 use Rattle.signed.proofs.Signed.{passed, pair_same}
 use Rattle.words.specs.Choice.{if_yes, if_no}

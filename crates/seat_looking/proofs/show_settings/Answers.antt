@@ -1,5 +1,4 @@
--- `seat_looking::show_settings` keeps its promise, `(r, now room.exit) ≡ shown (settings_octets settings) (now room.entry)`. Assumes
--- nothing.
+-- `seat_looking::show_settings` keeps its promise, `(result, room.new) ≡ shown (settings_octets settings) room.old`. Assumes nothing.
 use lib.IntN.{pos}
 use lib.ListN.{length}
 use mathlib.Core.Path.{refl, sym, ap, ◌∙◌}

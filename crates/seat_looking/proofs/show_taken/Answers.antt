@@ -1,5 +1,5 @@
--- `seat_looking::show_taken` keeps its promise, `(r, now room.exit) ≡ shown (octets_of_seat (seat_at hall names seat)) (now room.entry)`.
--- Assumes nothing.
+-- `seat_looking::show_taken` keeps its promise, `(result, room.new) ≡ shown (octets_of_seat (seat_at hall names seat)) room.old`. Assumes
+-- nothing.
 use lib.IntN.{pos}
 use lib.ListN.{length}
 use mathlib.Core.Path.{refl, sym, ap, ◌∙◌}

@@ -1,4 +1,4 @@
--- `signed::found` keeps its promise, `r ≡ signed (result n)`. Assumes nothing.
+-- `signed::found` keeps its promise, `result ≡ signed (Answer.result n)`. Assumes nothing.
 use Rattle.signed.proofs.Signed.{as_it_is}
 use Rattle.signed.proofs.found.Goals as goal
 

@@ -1,4 +1,4 @@
--- `signed::refusal` keeps its promise, `r ≡ told_as n`. Assumes nothing.
+-- `signed::refusal` keeps its promise, `result ≡ told_as n`. Assumes nothing.
 use Rattle.signed.proofs.Signed.{minus_is}
 use native.Mathlib.Omega.{arith}
 use Rattle.signed.proofs.refusal.Goals as goal

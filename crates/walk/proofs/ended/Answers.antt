@@ -1,5 +1,5 @@
--- `walk::ended` keeps its promise, `r ≡ ended_by (now starts.entry) step`. How a walk ended, by what was handed out last and by what was
--- noted before it. Assumes nothing.
+-- `walk::ended` keeps its promise, `result ≡ ended_by starts.now step`. How a walk ended, by what was handed out last and by what was noted
+-- before it. Assumes nothing.
 use mathlib.Core.Path.{refl, sym, ◌∙◌}
 use Rattle.words.specs.Choice.{if_yes, if_no}
 use Rattle.walk.proofs.ended.Goals as goal

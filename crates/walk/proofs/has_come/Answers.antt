@@ -1,4 +1,4 @@
--- `walk::has_come` keeps its promise, `r ≡ has_come (now starts.entry) id`. Whether a field with this ID has been noted. Assumes nothing.
+-- `walk::has_come` keeps its promise, `result ≡ has_come starts.now id`. Whether a field with this ID has been noted. Assumes nothing.
 use borrow.Author.Tests.{lt-ltb, le-ltb}
 use Rattle.walk.proofs.has_come.Goals as goal
 

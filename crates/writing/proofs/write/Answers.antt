@@ -1,5 +1,5 @@
--- `writing::write` keeps its promise, `Writes m (now src.entry) (now room.entry) r (now room.exit)`. Writes a message into the
--- lent room, its identities and its phrase out of the lent source, and answers how many octets it has. Assumes nothing.
+-- `writing::write` keeps its promise, `Writes m src.now room.old result room.new`. Writes a message into the lent room, its identities and
+-- its phrase out of the lent source, and answers how many octets it has. Assumes nothing.
 use Prim.Native.Nat.{ℕ}
 use mathlib.Core.Bool.{true}
 use mathlib.Core.Path.{◌≡◌, ap, sym, ◌∙◌}
