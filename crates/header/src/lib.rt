@@ -6,14 +6,7 @@ ghost use Rattle.octets.specs.Octets.{over};
 ghost use Rattle.header.specs.Header.{header_size, longest_packet, ends, first_octet, headed};
 ghost use Rattle.header.specs.Opening.{Opens};
 
-use message::{MessageType, Refusal, Typed};
-
-// What a packet is judged to be: one of a type, or refused.
-#[derive(Clone, Copy)]
-pub enum Opening {
-    Of(MessageType),
-    Refused(Refusal),
-}
+use message::{MessageType, Refusal};
 
 // Where the length, SSRC and the name stand; the fields stand behind them.
 const LENGTH: usize = 2;
@@ -28,6 +21,7 @@ pub const HEADER: usize = 12;
 const MCPT: u32 = 0x4D43_5054;
 
 // Where a packet ends, by what its length says.
+#[tactic(auto, unfolding(crate::specs::Header::ends))]
 pub fn packet_end(s: &[u8]) -> usize
     requires { 4 ≤ length s.now }
     ensures { result ≡ ends s.now }
@@ -35,45 +29,43 @@ pub fn packet_end(s: &[u8]) -> usize
     4 * (octets::number16(s, LENGTH) as usize + 1)
 }
 
-// Checks 1 to 8, in that order.
-pub fn opened(s: &[u8]) -> Opening
+// Checks 1 to 8, in that order; then the packet is one of a type.
+#[tactic(auto, using(std::proofs::lemmas::Bool::Decides::nat_tests), unfolding(crate::proofs::Openings::checks))]
+pub fn opened(s: &[u8]) -> Result<MessageType, Refusal>
     ensures { Opens s.now result }
 {
     if s.len() < HEADER {
-        return Opening::Refused(Refusal::TooShort);
+        return Err(Refusal::TooShort);
     }
     if 1024 < s.len() {
-        return Opening::Refused(Refusal::TooLong);
+        return Err(Refusal::TooLong);
     }
     let first = s[0];
     if first / 64 != 2 {
-        return Opening::Refused(Refusal::NotVersion2);
+        return Err(Refusal::NotVersion2);
     }
     let second = s[1];
     if first / 32 % 2 == 1 {
-        return Opening::Refused(Refusal::Padded);
+        return Err(Refusal::Padded);
     }
     if second != 204 {
-        return Opening::Refused(Refusal::NotApplication);
+        return Err(Refusal::NotApplication);
     }
     if packet_end(s) != s.len() {
-        return Opening::Refused(Refusal::WrongLength);
+        return Err(Refusal::WrongLength);
     }
     if octets::number32(s, NAME) != MCPT {
-        return Opening::Refused(Refusal::NotNamed);
+        return Err(Refusal::NotNamed);
     }
-    match message::typed_by(first % 16) {
-        Typed::Listed(kind) => Opening::Of(kind),
-        Typed::Unlisted => Opening::Refused(Refusal::UnlistedType),
-    }
+    MessageType::try_from(first % 16)
 }
 
 // Version 2, P not set, the Ack bit and the type.
+#[tactic(auto, unfolding(crate::proofs::Headers::laying))]
 pub fn first_octet(kind: MessageType, ack: bool) -> u8
     ensures { result ≡ first_octet kind ack }
 {
-    let number = message::type_number(kind);
-    if ack { 128 + 16 + number } else { 128 + number }
+    128 + 16 * u8::from(ack) + message::type_number(kind)
 }
 
 // Lays the header of a packet that has this first octet and `size` octets in all: its length is told in 32-bit words less one.

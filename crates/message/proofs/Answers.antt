@@ -4,7 +4,8 @@ use native.Mathlib.Omega.{arith}
 use mathlib.Core.List.{List, [], ◌∷◌}
 use mathlib.Core.Path.{◌≡◌, refl, sym, ap, ◌∙◌}
 use lib.ListN.{get_or}
-use Rattle.message.specs.Answers.{Answer, refused, result, refusal_number}
+use Rattle.std.specs.Prelude.{Result, Ok, Err}
+use Rattle.message.specs.Answers.{Answer, refused, result, refusal_number, in_numbers}
 use Rattle.message.specs.declared.Refusal.{Refusal}
 use Rattle.message.specs.declared.Refusal.TheVariants.{TooShort, TooLong, NotVersion2, Padded, NotApplication, WrongLength, NotNamed}
 use Rattle.message.specs.declared.Refusal.TheVariants.{UnlistedType, PastTheEnd, AgainstTheTable, Missing, Unreadable, NoRoom}
@@ -42,3 +43,10 @@ never e = let z : ◌≡◌ {A = ℕ} 0 1 = cc in absurd (omega arith)
 -- the same of two answers that are refusals
 pub refusal-one : {A : Type 0} (a b : Refusal) → ◌≡◌ {A = Answer A} (refused (refusal_number a)) (refused (refusal_number b)) → a ≡ b
 refusal-one a b e = number_one a b (cc)
+
+-- answers that say the same in the paper's numbers are one answer
+pub told_one : {A : Type 0} (a b : Result A Refusal) → in_numbers a ≡ in_numbers b → a ≡ b
+told_one (Ok x) (Ok y) e = ap Ok (cc)
+told_one (Ok x) (Err r) e = cc
+told_one (Err r) (Ok y) e = cc
+told_one (Err r) (Err q) e = ap Err (refusal-one r q e)

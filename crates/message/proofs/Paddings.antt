@@ -4,6 +4,11 @@ use native.Mathlib.Omega.{arith}
 use mathlib.Core.Path.{◌≡◌}
 use Rattle.message.specs.Table.{padding, padded}
 
+-- what a proof about a field's octets opens
+unfoldable pub filling : Type 0
+unfolding padded padding
+filling = ℕ
+
 -- whole words of 4 octets
 pub padded_whole : (l : ℕ) → padded l % 4 ≡ 0
 unfolding padded padding

@@ -6,12 +6,13 @@ use mathlib.Core.Path.{◌≡◌}
 use lib.ListN.{length}
 use borrow.Author.Tests.{leb-true}
 use Rattle.message.specs.Message.{part_lies, phrase_lies}
+use Rattle.std.specs.Prelude.{Option, Some}
 use Rattle.message.specs.declared.Part.{Part}
-use Rattle.message.specs.declared.Cause.{Cause}
+use Rattle.message.specs.declared.RejectCause.{RejectCause}
 
-pub part_lies_lem : (src : List ℕ) {p : Part} {from count : ℕ} → p ≡ Part.At from count → part_lies src p ≡ true → from + count ≤ length src
-part_lies_lem src {p} {from} {count} e h = leb-true (from + count) (length src) (rw e at h)
+pub part_lies_lem : (src : List ℕ) {o : Option Part} {p : Part} → o ≡ Some p → part_lies src o ≡ true → p.from + p.count ≤ length src
+part_lies_lem src {o} {p} e h = leb-true (p.from + p.count) (length src) (rw e at h)
 
-pub phrase_lies_lem : (src : List ℕ) {x : Cause} {n from count : ℕ} → x ≡ Cause.Is n from count → phrase_lies src x ≡ true →
-    from + count ≤ length src
-phrase_lies_lem src {x} {n} {from} {count} e h = leb-true (from + count) (length src) (rw e at h)
+pub phrase_lies_lem : (src : List ℕ) {o : Option RejectCause} {c : RejectCause} → o ≡ Some c → phrase_lies src o ≡ true →
+    c.phrase.from + c.phrase.count ≤ length src
+phrase_lies_lem src {o} {c} e h = leb-true (c.phrase.from + c.phrase.count) (length src) (rw e at h)

@@ -12,6 +12,11 @@ use Rattle.message.specs.declared.MessageType.TheVariants.{Request, Granted, Tak
 use Rattle.message.specs.declared.MessageType.TheVariants.{QueuePositionRequest}
 use Rattle.message.specs.declared.MessageType.TheVariants.{QueuePositionInfo, Ack}
 
+-- what a proof about the required fields opens
+unfoldable pub requiring : Type 0
+unfolding has_all has_id when◌then◌else◌
+requiring = ℕ
+
 -- each answer is that of its field
 pub record Tells (h : Has) (f : ℕ → Bool) : Type 0 where
   pub duration : h.duration ≡ f 1

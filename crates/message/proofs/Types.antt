@@ -13,8 +13,7 @@ use Rattle.message.specs.declared.MessageType.{MessageType}
 use Rattle.message.specs.declared.MessageType.TheVariants.{Request, Granted, Taken, Deny, Release, Idle, Revoke}
 use Rattle.message.specs.declared.MessageType.TheVariants.{QueuePositionRequest}
 use Rattle.message.specs.declared.MessageType.TheVariants.{QueuePositionInfo, Ack}
-use Rattle.message.specs.declared.Typed.{Typed}
-use Rattle.message.specs.declared.Typed.TheVariants.{Listed, Unlisted}
+use Rattle.std.specs.Prelude.{Option, None, Some}
 
 pub type_small : (k : MessageType) → type_number k ≤ 10
 type_small Request = omega arith
@@ -29,7 +28,7 @@ type_small QueuePositionInfo = omega arith
 type_small Ack = omega arith
 
 -- the number names the type
-pub type_back : (k : MessageType) → typed (type_number k) ≡ Listed k
+pub type_back : (k : MessageType) → typed (type_number k) ≡ Some k
 type_back Request = refl
 type_back Granted = refl
 type_back Taken = refl
@@ -42,14 +41,14 @@ type_back QueuePositionInfo = refl
 type_back Ack = refl
 
 -- and a listed type has the number that names it
-abbrev named : Typed → ℕ → Bool
-named Unlisted n = true
-named (Listed k) n = eqb (type_number k) n
+abbrev named : Option MessageType → ℕ → Bool
+named None n = true
+named (Some k) n = eqb (type_number k) n
 
 all_named : (n : ℕ) → named (typed n) n ≡ true
 all_named n =
     by_test (ltb n 11) (λ t. below (λ i. named (typed i) i) 11 refl n (ltb-true n 11 t))
-    (λ t. rw (get_or-eq_default types Unlisted (ltb-false n 11 t)))
+    (λ t. rw (get_or-eq_default types None (ltb-false n 11 t)))
 
-pub type_named : (n : ℕ) (k : MessageType) → typed n ≡ Listed k → type_number k ≡ n
+pub type_named : (n : ℕ) (k : MessageType) → typed n ≡ Some k → type_number k ≡ n
 type_named n k e = eqb-true (type_number k) n (rw e at (all_named n))

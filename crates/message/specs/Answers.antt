@@ -1,6 +1,6 @@
 -- The answers (document 01, "What is answered to packets"; 14: document 02, #107): the number of each refusal, and an answer as the paper
 -- has it, a refusal's number or a result. Assumes nothing.
-use Rattle.std.specs.Prelude.{ℕ}
+use Rattle.std.specs.Prelude.{ℕ, Result, Ok, Err}
 use Rattle.message.specs.declared.Refusal.{Refusal}
 use Rattle.message.specs.declared.Refusal.TheVariants.{TooShort, TooLong, NotVersion2, Padded, NotApplication, WrongLength, NotNamed}
 use Rattle.message.specs.declared.Refusal.TheVariants.{UnlistedType, PastTheEnd, AgainstTheTable, Missing, Unreadable, NoRoom}
@@ -25,3 +25,8 @@ refusal_number Missing = 11
 refusal_number Unreadable = 12
 refusal_number NoRoom = 13
 refusal_number Repeated = 14
+
+-- the code's answer in the paper's numbers
+abbrev pub in_numbers : {A : Type 0} → Result A Refusal → Answer A
+in_numbers (Ok a) = result a
+in_numbers (Err r) = refused (refusal_number r)

@@ -1,20 +1,17 @@
 -- What a message is (document 01, "The packet": "A message is its type, Ack bit, SSRC and the table's fields it has, without spare,
 -- padding or skipped fields"). The struct `Message` holds one beside a source; `said` is the message that it holds, if its parts lie in
 -- that source (`lies`): else it holds none, and the writer answers 12. Assumes nothing.
-use Rattle.std.specs.Prelude.{ℕ, ◌+◌, Bool, true, false, ◌&&◌, List, [], ◌∷◌, ◌++◌, eqb, leb, length}
-use Rattle.std.proofs.Math.Option.{Option, none, some}
+use Rattle.std.specs.Prelude.{ℕ, ◌+◌, Bool, true, false, ◌&&◌, List, [], ◌∷◌, ◌++◌, eqb, leb, length, Option, None, Some, is_some}
+use Rattle.std.specs.Prelude.{option_map}
 use Rattle.words.specs.Choice.{when◌then◌else◌}
 use Rattle.octets.specs.Octets.{octets16, octets32, part}
 use Rattle.message.specs.declared.MessageType.{MessageType}
 use Rattle.message.specs.declared.MessageType.TheVariants.{Request, Granted, Taken, Deny, Release, Idle, Revoke}
 use Rattle.message.specs.declared.MessageType.TheVariants.{QueuePositionRequest}
 use Rattle.message.specs.declared.MessageType.TheVariants.{QueuePositionInfo, Ack}
-use Rattle.message.specs.declared.Octet.{Octet}
-use Rattle.message.specs.declared.Word.{Word}
-use Rattle.message.specs.declared.Number.{Number}
-use Rattle.message.specs.declared.Queue.{Queue}
 use Rattle.message.specs.declared.Part.{Part}
-use Rattle.message.specs.declared.Cause.{Cause}
+use Rattle.message.specs.declared.QueueInfo.{QueueInfo}
+use Rattle.message.specs.declared.RejectCause.{RejectCause}
 use Rattle.message.specs.declared.Message.{Message}
 
 -- a field of the table, by its ID, and what a message has there: nothing, or its content as octets without the spare ones
@@ -31,29 +28,23 @@ pub record Said : Type 0 where
   pub ssrc : ℕ
   pub fields : List Field
 
-abbrev pub of_octet : Octet → Option (List ℕ)
-of_octet Octet.Absent = none
-of_octet (Octet.Is n) = some (n ∷ [])
+abbrev pub of_octet : Option ℕ → Option (List ℕ)
+of_octet o = option_map (λ n. n ∷ []) o
 
-abbrev pub of_word : Word → Option (List ℕ)
-of_word Word.Absent = none
-of_word (Word.Is n) = some (octets16 n)
+abbrev pub of_word : Option ℕ → Option (List ℕ)
+of_word o = option_map octets16 o
 
-abbrev pub of_number : Number → Option (List ℕ)
-of_number Number.Absent = none
-of_number (Number.Is n) = some (octets32 n)
+abbrev pub of_number : Option ℕ → Option (List ℕ)
+of_number o = option_map octets32 o
 
-abbrev pub of_queue : Queue → Option (List ℕ)
-of_queue Queue.Absent = none
-of_queue (Queue.Is position priority) = some (position ∷ priority ∷ [])
+abbrev pub of_queue : Option QueueInfo → Option (List ℕ)
+of_queue o = option_map (λ q. q.place ∷ q.priority ∷ []) o
 
-abbrev pub of_part : List ℕ → Part → Option (List ℕ)
-of_part src Part.Absent = none
-of_part src (Part.At from count) = some (part src from count)
+abbrev pub of_part : List ℕ → Option Part → Option (List ℕ)
+of_part src o = option_map (λ p. part src p.from p.count) o
 
-abbrev pub of_cause : List ℕ → Cause → Option (List ℕ)
-of_cause src Cause.Absent = none
-of_cause src (Cause.Is cause from count) = some (octets16 cause ++ part src from count)
+abbrev pub of_cause : List ℕ → Option RejectCause → Option (List ℕ)
+of_cause src o = option_map (λ c. octets16 c.cause ++ part src c.phrase.from c.phrase.count) o
 
 -- the fields in the table's order
 abbrev pub fields_of : Message → List ℕ → List Field
@@ -76,22 +67,22 @@ unfoldable pub said : Message → List ℕ → Said
 said m src = record { kind = m.kind; ack = m.ack; ssrc = m.ssrc; fields = fields_of m src }
 
 -- how many octets of the source a field takes
-abbrev pub count_of : Part → ℕ
-count_of Part.Absent = 0
-count_of (Part.At from count) = count
+abbrev pub count_of : Option Part → ℕ
+count_of None = 0
+count_of (Some p) = p.count
 
-abbrev pub phrase_count : Cause → ℕ
-phrase_count Cause.Absent = 0
-phrase_count (Cause.Is cause from count) = count
+abbrev pub phrase_count : Option RejectCause → ℕ
+phrase_count None = 0
+phrase_count (Some c) = c.phrase.count
 
 -- the identities and the phrase lie in the source
-abbrev pub part_lies : List ℕ → Part → Bool
-part_lies src Part.Absent = true
-part_lies src (Part.At from count) = leb (from + count) (length src)
+abbrev pub part_lies : List ℕ → Option Part → Bool
+part_lies src None = true
+part_lies src (Some p) = leb (p.from + p.count) (length src)
 
-abbrev pub phrase_lies : List ℕ → Cause → Bool
-phrase_lies src Cause.Absent = true
-phrase_lies src (Cause.Is cause from count) = leb (from + count) (length src)
+abbrev pub phrase_lies : List ℕ → Option RejectCause → Bool
+phrase_lies src None = true
+phrase_lies src (Some c) = leb (c.phrase.from + c.phrase.count) (length src)
 
 unfoldable pub lies : Message → List ℕ → Bool
 lies m src = part_lies src m.granted && part_lies src m.user && phrase_lies src m.cause
@@ -110,8 +101,7 @@ required QueuePositionInfo = 3 ∷ []
 required Ack = 10 ∷ 12 ∷ []
 
 abbrev pub is_there : Option (List ℕ) → Bool
-is_there none = false
-is_there (some xs) = true
+is_there content = is_some content
 
 -- whether the fields have this ID; whether all of these are given
 unfoldable pub has : List Field → ℕ → Bool

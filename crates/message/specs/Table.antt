@@ -2,6 +2,7 @@
 -- Assumes nothing.
 use Rattle.std.specs.Prelude.{ℕ, ◌+◌, ◌-◌, ◌*◌, ◌/◌, Bool, true, false, ◌||◌, List, [], ◌∷◌, ltb, eqb, length}
 use Rattle.words.specs.Choice.{when◌then◌else◌}
+use Rattle.message.specs.declared.Lengths.{Lengths}
 
 pub record FieldRow : Type 0 where
   pub id : ℕ
@@ -47,6 +48,10 @@ listed_in (r ∷ rows) i = when eqb i r.id then true else listed_in rows i
 
 abbrev pub listed : ℕ → Bool
 listed i = listed_in table i
+
+-- the least and the greatest L of an ID, as the code holds them
+abbrev pub row_lengths : ℕ → Lengths
+row_lengths i = record { least = (row_of i).least; greatest = (row_of i).greatest }
 
 -- "Content can be at fault only at IDs 5 and 10": the number that it is
 unfoldable pub at_fault : ℕ → ℕ → Bool

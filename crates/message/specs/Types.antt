@@ -1,20 +1,18 @@
 -- The types (document 01, "The packet": "The low four bits of the subtype name the type"). Assumes nothing.
-use Rattle.std.specs.Prelude.{ℕ, List, [], ◌∷◌, get_or}
+use Rattle.std.specs.Prelude.{ℕ, List, [], ◌∷◌, get_or, Option, None, Some}
 use Rattle.message.specs.declared.MessageType.{MessageType}
-use Rattle.message.specs.declared.Typed.{Typed}
 use Rattle.message.specs.declared.MessageType.TheVariants.{Request, Granted, Taken, Deny, Release, Idle, Revoke}
 use Rattle.message.specs.declared.MessageType.TheVariants.{QueuePositionRequest}
 use Rattle.message.specs.declared.MessageType.TheVariants.{QueuePositionInfo, Ack}
-use Rattle.message.specs.declared.Typed.TheVariants.{Listed, Unlisted}
 
 -- the types from 0 on; 7 and all from 11 on are not listed
-abbrev pub types : List Typed
+abbrev pub types : List (Option MessageType)
 types =
-    Listed Request ∷ Listed Granted ∷ Listed Taken ∷ Listed Deny ∷ Listed Release ∷ Listed Idle ∷ Listed Revoke ∷ Unlisted
-    ∷ Listed QueuePositionRequest ∷ Listed QueuePositionInfo ∷ Listed Ack ∷ []
+    Some Request ∷ Some Granted ∷ Some Taken ∷ Some Deny ∷ Some Release ∷ Some Idle ∷ Some Revoke ∷ None
+    ∷ Some QueuePositionRequest ∷ Some QueuePositionInfo ∷ Some Ack ∷ []
 
-abbrev pub typed : ℕ → Typed
-typed n = get_or types n Unlisted
+abbrev pub typed : ℕ → Option MessageType
+typed n = get_or types n None
 
 -- the number that names a type
 abbrev pub type_number : MessageType → ℕ

@@ -1,5 +1,6 @@
 -- Octets written over a room, one run after the other.
 --     over-two     two runs, the second where the first ends, are one run
+--     over_more    the same, as grind applies it
 --     run          the same, for a room that is known by equations
 --     over-before  the same again, where the first is written last
 --     over-next    one octet more, stored where a run ends
@@ -44,6 +45,10 @@ over-two room at xs ys h =
     let e : length p ≡ at + length xs = head_length room at xs h in
     rw (take_at p q (at + length xs) e, behind p q (at + length xs) (length ys) e, drop-drop)
     (simp (length-append, append_assoc, add_assoc))
+
+pub over_more : (room xs ys : List ℕ) (at n : ℕ) → n ≡ at + length xs → at ≤ length room →
+    over (over room at xs) n ys ≡ over room at (xs ++ ys)
+over_more room xs ys at n e h = rw e (over-two room at xs ys h)
 
 pub run : (room r r' : List ℕ) (at n : ℕ) (xs ys : List ℕ) → at ≤ length room → length xs ≡ n → r ≡ over room at xs →
     r' ≡ over r (at + n) ys

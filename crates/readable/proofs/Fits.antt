@@ -7,10 +7,10 @@ use native.Mathlib.Nat.{add-zero}
 use native.Mathlib.Omega.{arith}
 use mathlib.Core.Bool.{Bool, true, false, not, ◌&&◌, ◌||◌, and-true, and_assoc}
 use mathlib.Core.List.{List, [], ◌∷◌, ◌++◌}
-use mathlib.Core.Option.{some}
 use mathlib.Core.Path.{◌≡◌, refl, ◌∙◌}
 use lib.Dec.{ltb, leb}
 use borrow.Author.Tests.{ltb-true, ltb-false, leb-true, leb-false, lt-leb, le-leb}
+use Rattle.std.specs.Prelude.{Option, None, Some}
 use Rattle.words.specs.Choice.{when◌then◌else◌, by_test}
 use Rattle.words.specs.Below.{and_left, and_right}
 use Rattle.octets.specs.Octets.{be16, octets16, octets32, part}
@@ -20,43 +20,40 @@ use Rattle.message.specs.Table.{against, at_fault, row_of, row_in, length_of}
 use Rattle.message.specs.Message.{of_octet, of_word, of_number, of_queue, of_part, of_cause, said, fields_of, complete, part_lies}
 use Rattle.message.specs.Message.{phrase_lies, lies}
 use Rattle.message.specs.Message.{count_of, phrase_count}
-use Rattle.message.specs.declared.Octet.{Octet}
-use Rattle.message.specs.declared.Word.{Word}
-use Rattle.message.specs.declared.Number.{Number}
-use Rattle.message.specs.declared.Queue.{Queue}
 use Rattle.message.specs.declared.Part.{Part}
-use Rattle.message.specs.declared.Cause.{Cause}
+use Rattle.message.specs.declared.QueueInfo.{QueueInfo}
+use Rattle.message.specs.declared.RejectCause.{RejectCause}
 use Rattle.message.specs.declared.Message.{Message}
 use Rattle.readable.specs.Readable.{fits, all_fit, readable}
 use Rattle.readable.specs.Fitting.{Short, FieldsFit, phrase_fits, identity_fits, content_fits, fitting}
 use Rattle.message.proofs.Parts.{part_lies_lem, phrase_lies_lem}
 
 -- a field of one length and of any content is never against the table
-octet_free : (i : ℕ) → (row_of i).spare ≡ 1 → ((x : ℕ) → against i 2 x ≡ false) → (o : Octet) → fits i (of_octet o) ≡ true
-octet_free i s f Octet.Absent = refl
-octet_free i s f (Octet.Is n) = rw (s, f (be16 (n ∷ []) 0))
+octet_free : (i : ℕ) → (row_of i).spare ≡ 1 → ((x : ℕ) → against i 2 x ≡ false) → (o : Option ℕ) → fits i (of_octet o) ≡ true
+octet_free i s f None = refl
+octet_free i s f (Some n) = rw (s, f (be16 (n ∷ []) 0))
 
-word_free : (i : ℕ) → (row_of i).spare ≡ 0 → ((x : ℕ) → against i 2 x ≡ false) → (w : Word) → fits i (of_word w) ≡ true
+word_free : (i : ℕ) → (row_of i).spare ≡ 0 → ((x : ℕ) → against i 2 x ≡ false) → (w : Option ℕ) → fits i (of_word w) ≡ true
 unfolding octets16
-word_free i s f Word.Absent = refl
-word_free i s f (Word.Is n) = rw (s, f (be16 (octets16 n) 0))
+word_free i s f None = refl
+word_free i s f (Some n) = rw (s, f (be16 (octets16 n) 0))
 
-queue_free : (q : Queue) → fits 3 (of_queue q) ≡ true
+queue_free : (q : Option QueueInfo) → fits 3 (of_queue q) ≡ true
 unfolding against at_fault row_in when◌then◌else◌
-queue_free Queue.Absent = refl
-queue_free (Queue.Is position priority) = refl
+queue_free None = refl
+queue_free (Some q) = refl
 
-number_free : (x : Number) → fits 14 (of_number x) ≡ true
+number_free : (x : Option ℕ) → fits 14 (of_number x) ≡ true
 unfolding against at_fault row_in when◌then◌else◌ octets16 octets32
-number_free Number.Absent = refl
-number_free (Number.Is n) = refl
+number_free None = refl
+number_free (Some n) = refl
 
 -- a number that the table limits
-word_limited : (i : ℕ) → (row_of i).spare ≡ 0 → ((x : ℕ) → against i 2 x ≡ at_fault i x) → (w : Word) →
+word_limited : (i : ℕ) → (row_of i).spare ≡ 0 → ((x : ℕ) → against i 2 x ≡ at_fault i x) → (w : Option ℕ) →
     fits i (of_word w) ≡ content_fits i w
 unfolding octets16
-word_limited i s f Word.Absent = refl
-word_limited i s f (Word.Is n) = rw (s, f (be16 (octets16 n) 0), be16_of n)
+word_limited i s f None = refl
+word_limited i s f (Some n) = rw (s, f (be16 (octets16 n) 0), be16_of n)
 
 -- a length that the table limits
 between : (l g n : ℕ) → not (ltb n l || ltb g n || false) ≡ (leb l n && leb n g)
@@ -66,21 +63,24 @@ between l g n =
     rw (t, le-leb l n (ltb-false n l t))
     (by_test (ltb g n) (λ u. rw (u, lt-leb n g (ltb-true g n u))) (λ u. rw (u, le-leb n g (ltb-false g n u)))))
 
-identity_limited : (i : ℕ) → (row_of i).spare ≡ 0 → ((l x : ℕ) → against i l x ≡ (ltb l 1 || ltb 62 l || false)) → (src : List ℕ) (p : Part)
+identity_limited : (i : ℕ) → (row_of i).spare ≡ 0 → ((l x : ℕ) → against i l x ≡ (ltb l 1 || ltb 62 l || false)) →
+    (src : List ℕ) (p : Option Part)
     → part_lies src p ≡ true → fits i (of_part src p) ≡ identity_fits p
-identity_limited i s f src Part.Absent h = refl
-identity_limited i s f src (Part.At from count) h =
-    rw (s, add-zero, length_part src from count (part_lies_lem src refl h), f count (be16 (part src from count) 0)) (between 1 62 count)
+identity_limited i s f src None h = refl
+identity_limited i s f src (Some p) h =
+    rw (s, add-zero, length_part src p.from p.count (part_lies_lem src refl h), f p.count (be16 (part src p.from p.count) 0))
+    (between 1 62 p.count)
 
-fits_by : (i l : ℕ) (content : List ℕ) → length_of i content ≡ l → fits i (some content) ≡ not (against i l (be16 content 0))
+fits_by : (i l : ℕ) (content : List ℕ) → length_of i content ≡ l → fits i (Some content) ≡ not (against i l (be16 content 0))
 fits_by i l content e = rw e
 
-phrase_limited : (src : List ℕ) (x : Cause) → phrase_lies src x ≡ true → fits 2 (of_cause src x) ≡ phrase_fits x
+phrase_limited : (src : List ℕ) (x : Option RejectCause) → phrase_lies src x ≡ true → fits 2 (of_cause src x) ≡ phrase_fits x
 unfolding against at_fault row_in when◌then◌else◌ octets16
-phrase_limited src Cause.Absent h = refl
-phrase_limited src (Cause.Is n from count) h =
-    let e = length_part src from count (phrase_lies_lem src {n = n} refl h) in
-    fits_by 2 (count + 2) (octets16 n ++ part src from count) (omega arith)
+phrase_limited src None h = refl
+phrase_limited src (Some c) h =
+    let count = c.phrase.count in
+    let e = length_part src c.phrase.from count (phrase_lies_lem src {c = c} refl h) in
+    fits_by 2 (count + 2) (octets16 c.cause ++ part src c.phrase.from count) (omega arith)
     ∙ between 2 255 (count + 2)
     ∙ rw (le-leb 2 (count + 2) (omega arith))
     (by_test (leb count 253)
@@ -130,13 +130,13 @@ unfolding readable said
 readable_by m src =
     by_test (lies m src) (λ t. rw (t, all_fitting m src t)) (λ t. rw t)
 
-identity_short : (p : Part) → identity_fits p ≡ true → count_of p ≤ 62
-identity_short Part.Absent h = omega arith
-identity_short (Part.At from count) h = leb-true count 62 (and_right (leb 1 count) (leb count 62) h)
+identity_short : (p : Option Part) → identity_fits p ≡ true → count_of p ≤ 62
+identity_short None h = omega arith
+identity_short (Some p) h = leb-true p.count 62 (and_right (leb 1 p.count) (leb p.count 62) h)
 
-phrase_short : (x : Cause) → phrase_fits x ≡ true → phrase_count x ≤ 253
-phrase_short Cause.Absent h = omega arith
-phrase_short (Cause.Is n from count) h = leb-true count 253 h
+phrase_short : (x : Option RejectCause) → phrase_fits x ≡ true → phrase_count x ≤ 253
+phrase_short None h = omega arith
+phrase_short (Some c) h = leb-true c.phrase.count 253 h
 
 short_by : (m : Message) → fitting m ≡ true → Short m
 unfolding fitting

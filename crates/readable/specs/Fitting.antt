@@ -1,11 +1,10 @@
 -- How the code tells whether a message is readable, and what a readable one gives to the functions that lay its fields; document 01 needs
 -- none of it. Assumes nothing.
-use Rattle.std.specs.Prelude.{ℕ, ◌≤◌, Bool, true, not, ◌&&◌, List, ◌≡◌, leb}
+use Rattle.std.specs.Prelude.{ℕ, ◌≤◌, Bool, true, not, ◌&&◌, List, ◌≡◌, leb, Option, None, Some}
 use Rattle.message.specs.Table.{at_fault}
 use Rattle.message.specs.Message.{count_of, phrase_count, part_lies, phrase_lies}
-use Rattle.message.specs.declared.Word.{Word}
 use Rattle.message.specs.declared.Part.{Part}
-use Rattle.message.specs.declared.Cause.{Cause}
+use Rattle.message.specs.declared.RejectCause.{RejectCause}
 use Rattle.message.specs.declared.Message.{Message}
 
 -- the parts are short enough for the table, so that a length fits an octet and no sum of lengths wraps
@@ -23,17 +22,17 @@ pub record FieldsFit (m : Message) (src : List ℕ) : Type 0 where
 
 -- no field is against the table, by the numbers that the fields hold: a phrase is short enough, an identity has a length of the table,
 -- a number that the table limits is not at fault
-abbrev pub phrase_fits : Cause → Bool
-phrase_fits Cause.Absent = true
-phrase_fits (Cause.Is cause from count) = leb count 253
+abbrev pub phrase_fits : Option RejectCause → Bool
+phrase_fits None = true
+phrase_fits (Some c) = leb c.phrase.count 253
 
-abbrev pub identity_fits : Part → Bool
-identity_fits Part.Absent = true
-identity_fits (Part.At from count) = leb 1 count && leb count 62
+abbrev pub identity_fits : Option Part → Bool
+identity_fits None = true
+identity_fits (Some p) = leb 1 p.count && leb p.count 62
 
-abbrev pub content_fits : ℕ → Word → Bool
-content_fits i Word.Absent = true
-content_fits i (Word.Is n) = not (at_fault i n)
+abbrev pub content_fits : ℕ → Option ℕ → Bool
+content_fits i None = true
+content_fits i (Some n) = not (at_fault i n)
 
 unfoldable pub fitting : Message → Bool
 fitting m =

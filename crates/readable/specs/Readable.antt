@@ -1,7 +1,6 @@
 -- Which messages a reader would accept (document 01, "What is answered to packets": "12 (writer) a message that no reader would accept").
 -- Assumes nothing.
-use Rattle.std.specs.Prelude.{ℕ, Bool, true, not, ◌&&◌, List, [], ◌∷◌}
-use Rattle.std.proofs.Math.Option.{Option, none, some}
+use Rattle.std.specs.Prelude.{ℕ, Bool, true, not, ◌&&◌, List, [], ◌∷◌, Option, None, Some}
 use Rattle.octets.specs.Octets.{be16}
 use Rattle.message.specs.Table.{length_of, against}
 use Rattle.message.specs.Message.{Field, said, lies, complete}
@@ -9,8 +8,8 @@ use Rattle.message.specs.declared.Message.{Message}
 
 -- no field is against the table, by the reader's own test
 abbrev pub fits : ℕ → Option (List ℕ) → Bool
-fits i none = true
-fits i (some content) = not (against i (length_of i content) (be16 content 0))
+fits i None = true
+fits i (Some content) = not (against i (length_of i content) (be16 content 0))
 
 unfoldable pub all_fit : List Field → Bool
 all_fit [] = true

@@ -1,43 +1,42 @@
 -- What the reader answers (document 01, "What is answered to packets", 1 to 11, in that order, with 14 of document 02, #107, among the
 -- checks of a field), and the message that a packet is (document 01, "The packet"). Assumes nothing.
-use Rattle.std.specs.Prelude.{ℕ, ◌+◌, ◌-◌, List, ◌≡◌, eqb, get_or}
+use Rattle.std.specs.Prelude.{ℕ, ◌+◌, ◌-◌, List, ◌≡◌, eqb, get_or, Option, None, Some, Result}
 use Rattle.words.specs.Choice.{when◌then◌else◌}
 use Rattle.octets.specs.Octets.{be16, be32}
 use Rattle.message.specs.Message.{said, complete}
-use Rattle.message.specs.Answers.{Answer, refused, result, refusal_number}
+use Rattle.message.specs.Answers.{Answer, refused, result, in_numbers}
 use Rattle.message.specs.declared.MessageType.{MessageType}
-use Rattle.message.specs.declared.Octet.{Octet}
-use Rattle.message.specs.declared.Word.{Word}
-use Rattle.message.specs.declared.Number.{Number}
-use Rattle.message.specs.declared.Queue.{Queue}
 use Rattle.message.specs.declared.Part.{Part}
-use Rattle.message.specs.declared.Cause.{Cause}
+use Rattle.message.specs.declared.QueueInfo.{QueueInfo}
+use Rattle.message.specs.declared.Refusal.{Refusal}
+use Rattle.message.specs.declared.RejectCause.{RejectCause}
 use Rattle.message.specs.declared.Message.{Message}
 use Rattle.header.specs.Header.{ssrc_place, ack_bit}
 use Rattle.header.specs.Opening.{opening}
 use Rattle.field.specs.Fields.{Fields, whole, fault, fields_in}
 use Rattle.walk.specs.Starts.{start_of}
-use Rattle.reading.specs.declared.Reading.{Reading}
-use Rattle.reading.specs.declared.Reading.TheVariants.{Read, Refused}
 
 -- what a message has of a field whose content starts at a place; nothing where that is 0. L stands before the content.
-unfoldable pub octet_at : List ℕ → ℕ → Octet
-octet_at s at = when eqb at 0 then Octet.Absent else Octet.Is (get_or s at 0)
+abbrev pub there : {A : Type 0} → ℕ → A → Option A
+there at content = when eqb at 0 then None else Some content
 
-unfoldable pub word_at : List ℕ → ℕ → Word
-word_at s at = when eqb at 0 then Word.Absent else Word.Is (be16 s at)
+unfoldable pub octet_at : List ℕ → ℕ → Option ℕ
+octet_at s at = there at (get_or s at 0)
 
-unfoldable pub number_at : List ℕ → ℕ → Number
-number_at s at = when eqb at 0 then Number.Absent else Number.Is (be32 s at)
+unfoldable pub word_at : List ℕ → ℕ → Option ℕ
+word_at s at = there at (be16 s at)
 
-unfoldable pub queue_at : List ℕ → ℕ → Queue
-queue_at s at = when eqb at 0 then Queue.Absent else Queue.Is (get_or s at 0) (get_or s (at + 1) 0)
+unfoldable pub number_at : List ℕ → ℕ → Option ℕ
+number_at s at = there at (be32 s at)
 
-unfoldable pub part_at : List ℕ → ℕ → Part
-part_at s at = when eqb at 0 then Part.Absent else Part.At at (get_or s (at - 1) 0)
+unfoldable pub queue_at : List ℕ → ℕ → Option QueueInfo
+queue_at s at = there at (record { place = get_or s at 0; priority = get_or s (at + 1) 0 })
 
-unfoldable pub cause_at : List ℕ → ℕ → Cause
-cause_at s at = when eqb at 0 then Cause.Absent else Cause.Is (be16 s at) (at + 2) (get_or s (at - 1) 0 - 2)
+unfoldable pub part_at : List ℕ → ℕ → Option Part
+part_at s at = there at (record { from = at; count = get_or s (at - 1) 0 })
+
+unfoldable pub cause_at : List ℕ → ℕ → Option RejectCause
+cause_at s at = there at (record { cause = be16 s at; phrase = record { from = at + 2; count = get_or s (at - 1) 0 - 2 } })
 
 -- the message of a packet of this type, by the starts of its fields' contents
 unfoldable pub message_at : MessageType → List ℕ → (ℕ → ℕ) → Message
@@ -75,10 +74,9 @@ unfoldable pub reading : List ℕ → Answer Message
 reading s = opened (opening s) s
 
 -- the reader's answer in the paper's numbers
-abbrev pub reading_answer : Reading → Answer Message
-reading_answer (Read m) = result m
-reading_answer (Refused r) = refused (refusal_number r)
+abbrev pub reading_answer : Result Message Refusal → Answer Message
+reading_answer answer = in_numbers answer
 
 -- what a reader promises of its answer to a packet; of two such answers `packet_laws` proves that they are one
-abbrev pub Reads : List ℕ → Reading → Type 0
+abbrev pub Reads : List ℕ → Result Message Refusal → Type 0
 Reads s answer = reading_answer answer ≡ reading s

@@ -2,86 +2,82 @@
 // that rests on the packet hands them out, and then the message.
 #![tactic(auto)]
 
-ghost use Rattle.std.specs.Prelude.{◌≡◌, List, ℕ, ◌+◌, ◌-◌, ◌≤◌, length, get_or, replicate};
-ghost use Rattle.message.specs.Answers.{result};
+ghost use Rattle.std.specs.Prelude.{◌≡◌, List, ℕ, ◌+◌, ◌-◌, ◌≤◌, length, get_or};
 ghost use Rattle.message.specs.Message.{said, complete};
-ghost use Rattle.header.specs.Opening.{opening};
 ghost use Rattle.walk.specs.Walk.{Reach};
 ghost use Rattle.reading.specs.Reading.{octet_at, word_at, number_at, queue_at, part_at, cause_at, message_at, Reads};
 ghost use Rattle.reading.specs.Judging.{Judges};
 ghost use Rattle.reading.specs.Parts.{part_in, start_in, further};
 
-use header::Opening;
-use message::{Cause, Has, Message, MessageType, Number, Octet, Part, Queue, Refusal, Word};
-use walk::Walk;
+use message::{Has, Message, MessageType, Part, QueueInfo, Refusal, RejectCause};
 
-// The answer of reading.
+// A packet that is read: its type, and where its fields' contents start.
 #[derive(Clone, Copy)]
-pub enum Reading {
-    Read(Message),
-    Refused(Refusal),
+pub struct Judged {
+    pub kind: MessageType,
+    pub starts: [usize; 16],
 }
 
-// What a message has of a field whose content starts at `at`; nothing where that is 0.
-fn octet_at(s: &[u8], at: usize) -> Octet
+// What a message has of a field whose content starts at `at`; nothing where that is 0. A line each, for contents of six kinds.
+#[tactic(auto, using(std::proofs::lemmas::Bool::Decides::nat_tests), unfolding(crate::proofs::Judges::placing))]
+pub fn octet_at(s: &[u8], at: usize) -> Option<u8>
     requires { at + 2 ≤ length s.now }
     ensures { result ≡ octet_at s.now at }
 {
-    if at == 0 {
-        return Octet::Absent;
-    }
-    Octet::Is(s[at])
+    (at != 0).then(|| s[at])
 }
 
-fn word_at(s: &[u8], at: usize) -> Word
+#[tactic(auto, using(std::proofs::lemmas::Bool::Decides::nat_tests), unfolding(crate::proofs::Judges::placing))]
+pub fn word_at(s: &[u8], at: usize) -> Option<u16>
     requires { at + 2 ≤ length s.now }
     ensures { result ≡ word_at s.now at }
 {
-    if at == 0 {
-        return Word::Absent;
-    }
-    Word::Is(octets::number16(s, at))
+    (at != 0).then(|| octets::number16(s, at))
 }
 
-fn number_at(s: &[u8], at: usize) -> Number
+#[tactic(auto, using(std::proofs::lemmas::Bool::Decides::nat_tests), unfolding(crate::proofs::Judges::placing))]
+pub fn number_at(s: &[u8], at: usize) -> Option<u32>
     requires { at + 4 ≤ length s.now }
     ensures { result ≡ number_at s.now at }
 {
-    if at == 0 {
-        return Number::Absent;
-    }
-    Number::Is(octets::number32(s, at))
+    (at != 0).then(|| octets::number32(s, at))
 }
 
-fn queue_at(s: &[u8], at: usize) -> Queue
+#[tactic(auto, using(std::proofs::lemmas::Bool::Decides::nat_tests), unfolding(crate::proofs::Judges::placing))]
+pub fn queue_at(s: &[u8], at: usize) -> Option<QueueInfo>
     requires { at + 2 ≤ length s.now }
     ensures { result ≡ queue_at s.now at }
 {
-    if at == 0 {
-        return Queue::Absent;
-    }
-    Queue::Is(s[at], s[at + 1])
+    (at != 0).then(|| QueueInfo {
+        place: s[at],
+        priority: s[at + 1],
+    })
 }
 
-fn part_at(s: &[u8], at: usize) -> Part
+#[tactic(auto, using(std::proofs::lemmas::Bool::Decides::nat_tests), unfolding(crate::proofs::Judges::placing))]
+pub fn part_at(s: &[u8], at: usize) -> Option<Part>
     requires { at + 2 ≤ length s.now }
     ensures { result ≡ part_at s.now at }
 {
-    if at == 0 {
-        return Part::Absent;
-    }
-    Part::At(at, s[at - 1] as usize)
+    (at != 0).then(|| Part {
+        from: at,
+        count: s[at - 1] as usize,
+    })
 }
 
-fn cause_at(s: &[u8], at: usize) -> Cause
+#[tactic(auto, using(std::proofs::lemmas::Bool::Decides::nat_tests), unfolding(crate::proofs::Judges::placing))]
+pub fn cause_at(s: &[u8], at: usize) -> Option<RejectCause>
     requires at_in_bounds { at + 2 ≤ length s.now }
     requires bound { (at ≡ 0 → ⊥) → 2 ≤ get_or s.now (at - 1) 0 }
     ensures { result ≡ cause_at s.now at }
 {
-    if at == 0 {
-        return Cause::Absent;
-    }
-    Cause::Is(octets::number16(s, at), at + 2, s[at - 1] as usize - 2)
+    (at != 0).then(|| RejectCause {
+        cause: octets::number16(s, at),
+        phrase: Part {
+            from: at + 2,
+            count: s[at - 1] as usize - 2,
+        },
+    })
 }
 
 // The message of a packet of this type, from the starts of its fields' contents.
@@ -124,63 +120,35 @@ fn has_all(kind: MessageType, starts: &[usize; 16]) -> bool
     message::has_required(kind, has)
 }
 
-// Checks 9, 14 and 10 of each field, then 11.
-fn judge_fields(s: &[u8], kind: MessageType, starts: &mut [usize; 16]) -> Opening
-    requires starts_value { starts.old ≡ replicate 16 0 }
-    requires s_value { opening s.now ≡ result kind }
-    ensures { Judges result s.now starts.new }
+// Judges a packet: checks 1 to 8 of its first twelve octets, 9, 14 and 10 of each field, then 11. With their starts its fields are its
+// message, of which a caller makes what it needs.
+pub fn judge(s: &[u8]) -> Result<Judged, Refusal>
+    ensures { Judges s.now result }
 {
-    match walk::all_starts(s, starts) {
-        Walk::Whole => {
-            if has_all(kind, starts) {
-                return Opening::Of(kind);
-            }
-            walk::forget(starts);
-            Opening::Refused(Refusal::Missing)
-        }
-        Walk::PastTheEnd => Opening::Refused(Refusal::PastTheEnd),
-        Walk::AgainstTheTable => Opening::Refused(Refusal::AgainstTheTable),
-        Walk::Repeated => Opening::Refused(Refusal::Repeated),
+    let kind = header::opened(s)?;
+    let starts = walk::all_starts(s)?;
+    if !has_all(kind, &starts) {
+        return Err(Refusal::Missing);
     }
-}
-
-// Judges a packet, and notes where its fields' contents start: with its type they are its message, of which a caller makes what it needs.
-pub fn judge(s: &[u8], starts: &mut [usize; 16]) -> Opening
-    requires { starts.old ≡ replicate 16 0 }
-    ensures { Judges result s.now starts.new }
-{
-    match header::opened(s) {
-        Opening::Of(kind) => judge_fields(s, kind, starts),
-        Opening::Refused(r) => Opening::Refused(r),
-    }
+    Ok(Judged { kind, starts })
 }
 
 // Reads a packet: its message, or the first refusal that applies.
-pub fn read(s: &[u8]) -> Reading
+pub fn read(s: &[u8]) -> Result<Message, Refusal>
     ensures { Reads s.now result }
 {
-    let mut starts = [0usize; 16];
-    match judge(s, &mut starts) {
-        Opening::Of(kind) => {
-            let m = message_at(s, kind, &starts);
-            Reading::Read(m)
-        }
-        Opening::Refused(r) => Reading::Refused(r),
-    }
+    let judged = judge(s)?;
+    Ok(message_at(s, judged.kind, &judged.starts))
 }
 
 // The part of the packet that holds an identity or a phrase, itself and no copy of it; an empty part where the packet has none there.
-pub fn part_in(s: &[u8], p: Part) -> &[u8]
+pub fn part_in(s: &[u8], p: Option<Part>) -> &[u8]
     ensures value { result.now ≡ part_in s.now p }
     ensures place { result.ref_ptr ≡ further (start_in s.now p) s.entry.ref_ptr }
 {
-    let Part::At(from, count) = p else {
-        return &s[0..0];
-    };
-    if from <= s.len() {
-        if count <= s.len() - from {
-            return &s[from..from + count];
-        }
+    match p {
+        Some(part) if part.from <= s.len() && part.count <= s.len() - part.from =>
+            &s[part.from..part.from + part.count],
+        _ => &s[0..0],
     }
-    &s[0..0]
 }

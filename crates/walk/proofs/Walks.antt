@@ -2,27 +2,34 @@
 -- each way out reads the answer off it. Assumes nothing.
 use Prim.Native.Nat.{ℕ, zero, suc, ◌+◌, ◌-◌, ◌<◌, ◌≤◌}
 use native.Mathlib.Omega.{arith}
-use mathlib.Core.Bool.{Bool, true, false, not, ◌&&◌}
+use mathlib.Core.Bool.{true, false, ◌&&◌}
 use mathlib.Core.List.{List, [], ◌∷◌, ◌++◌}
 use mathlib.Core.Path.{◌≡◌, refl, sym, ap, ◌∙◌}
-use lib.Dec.{T as Holds, ltb, leb, eqb}
+use lib.Dec.{ltb, leb, eqb}
 use lib.ListN.{length, get_or, replicate, length-set, get_or-replicate}
 use lib.Seq.{get_or-set_same, get_or-set_other}
 use borrow.Author.Tests.{ltb-true, lt-ltb, leb-true, leb-false, eqb-true, eqb-false, eq-eqb, ne_eqb, not-true, not-false}
 use Rattle.words.specs.Choice.{when◌then◌else◌, by_test}
+use Rattle.words.proofs.Tests.{clash}
 use Rattle.message.specs.Table.{padded}
 use Rattle.field.specs.declared.FieldFound.{FieldFound}
 use Rattle.field.specs.declared.FieldStep.{FieldStep}
 use Rattle.field.specs.declared.FieldStep.TheVariants.{Field, Skipped, End, PastTheEnd, AgainstTheTable}
-use Rattle.walk.specs.declared.Walk.{Walk}
-use Rattle.walk.specs.declared.Walk.TheVariants.{Whole, PastTheEnd as Past, AgainstTheTable as Against, Repeated}
+use Rattle.std.specs.Prelude.{Result, Ok, Err}
+use Rattle.message.specs.Answers.{refusal_number}
+use Rattle.message.specs.declared.Refusal.{Refusal}
 use Rattle.field.specs.Fields.{id_at, length_at, step_at, among, Fields, whole, fault, infront, step_then, fields_from, fields_in}
 use Rattle.walk.specs.Starts.{start_of}
-use Rattle.walk.specs.Walk.{has_come, noted, is_passed, noted_step, ended_by, Notes, fault_number, Walked, WholeAnswer}
+use Rattle.walk.specs.Walk.{has_come, noted, is_passed, noted_step, ended_by, Notes, Walked}
 use Rattle.reader.specs.Reader.{behind}
 use Rattle.message.proofs.Paddings.{padded_least}
 use Rattle.message.proofs.Rows.{listed_below}
 use Rattle.field.proofs.Steps.{step_end, Inside, next_there, Sound, step_sound, step_inside}
+
+-- what a proof about one noted start opens
+unfoldable pub noting : Type 0
+unfolding noted when◌then◌else◌
+noting = ℕ
 
 -- fields found before the others
 abbrev all_infront : List FieldFound → Fields → Fields
@@ -194,51 +201,39 @@ unfolding fields_from
 ends_whole s at zero before e = refl
 ends_whole s at (suc fewer) before e = rw e
 
-walked_whole : (s starts : List ℕ) (at : ℕ) → step_at s at ≡ End → Walking s starts at → Walked (fields_in s) Whole starts
+walked_whole : (s starts : List ℕ) (at : ℕ) → step_at s at ≡ End → Walking s starts at → Walked (fields_in s) (Ok starts)
 walked_whole s starts at e w =
-    rw (w.same ∙ ap (all_infront w.seen) (ends_whole s at w.steps w.before e) ∙ to_the_end w.seen) (refl, w.notes)
+    rw (w.same ∙ ap (all_infront w.seen) (ends_whole s at w.steps w.before e) ∙ to_the_end w.seen) w.notes
 
 -- a fault: the step is no end, and adds no field
-walked_fault : (s starts : List ℕ) (at : ℕ) (r : Walk) → (step_at s at ≡ End → ⊥) → (r ≡ Whole → ⊥) → (w : Walking s starts at)
-    → ((rest : List ℕ → ℕ → Fields) → step_then w.before (step_at s at) rest ≡ fault (fault_number r))
-    → (after : List ℕ) → Walked (fields_in s) r after
-walked_fault s starts at r not_end not-whole w faulty after =
+walked_fault : (s starts : List ℕ) (at : ℕ) (r : Refusal) → (step_at s at ≡ End → ⊥) → (w : Walking s starts at)
+    → ((rest : List ℕ → ℕ → Fields) → step_then w.before (step_at s at) rest ≡ fault (refusal_number r))
+    → Walked (fields_in s) (Err r)
+walked_fault s starts at r not_end w faulty =
     by_test (leb (length s) at) (λ t. absurd (not_end (step_end s at (leb-true (length s) at t))))
     (λ t.
     let a : Ahead s at w.steps w.before = ahead s at w.steps w.before (leb-false (length s) at t) w.enough in
     rw (w.same ∙ ap (all_infront w.seen) (a.goes ∙ faulty (λ past next. fields_from a.fewer past s next))
-    ∙ to_a_fault w.seen (fault_number r))
-    (refl, not-whole))
+    ∙ to_a_fault w.seen (refusal_number r))
+    (refl, refl))
 
 differ : ◌≡◌ {A = ℕ} 0 1 → ⊥
 differ z = omega arith
 
--- the four ends of a walk differ
-pub past_not_whole : Past ≡ Whole → ⊥
-past_not_whole q = differ (cc)
-
-pub against_not_whole : Against ≡ Whole → ⊥
-against_not_whole q = differ (cc)
-
-pub repeated_not_whole : Repeated ≡ Whole → ⊥
-repeated_not_whole q = differ (cc)
-
 -- at a field that came before, by itself sound or against the table, the walk ends with 14
 walked_repeated : (s starts : List ℕ) (at : ℕ) (f : FieldFound) → step_at s at ≡ Field f → has_come starts f.id ≡ true
-    → Walking s starts at → (after : List ℕ) → Walked (fields_in s) Repeated after
+    → Walking s starts at → Walked (fields_in s) (Err Refusal.Repeated)
 unfolding when◌then◌else◌
-walked_repeated s starts at f e come w after =
-    walked_fault s starts at Repeated (λ q. differ (cc)) repeated_not_whole w (λ rest. rw (e, w.come f.id ∙ come)) after
+walked_repeated s starts at f e come w =
+    walked_fault s starts at Refusal.Repeated (λ q. differ (cc)) w (λ rest. rw (e, w.come f.id ∙ come))
 
 walked_against : (s starts : List ℕ) (at i : ℕ) → step_at s at ≡ AgainstTheTable i → Walking s starts at
-    → Walked (fields_in s) (when has_come starts i then Repeated else Against) starts
+    → Walked (fields_in s) (Err (when has_come starts i then Refusal.Repeated else Refusal.AgainstTheTable))
 unfolding when◌then◌else◌
 walked_against s starts at i e w =
     by_test (has_come starts i)
-    (λ t.
-    rw t (walked_fault s starts at Repeated (λ q. differ (cc)) repeated_not_whole w (λ rest. rw (e, w.come i ∙ t)) starts))
-    (λ t.
-    rw t (walked_fault s starts at Against (λ q. differ (cc)) against_not_whole w (λ rest. rw (e, w.come i ∙ t)) starts))
+    (λ t. rw t (walked_fault s starts at Refusal.Repeated (λ q. differ (cc)) w (λ rest. rw (e, w.come i ∙ t))))
+    (λ t. rw t (walked_fault s starts at Refusal.AgainstTheTable (λ q. differ (cc)) w (λ rest. rw (e, w.come i ∙ t))))
 
 -- a turn goes on towards the end
 walking_less : (s : List ℕ) (at : ℕ) (f : FieldFound) → Inside s at f → length s - f.next < length s - at
@@ -246,62 +241,37 @@ walking_less s at f k =
     let n : f.next ≡ at + padded (length_at s at) = next_there s at f k in
     omega (arith, padded_least (length_at s at), k.inside)
 
-holds_true : (t : Bool) → Holds t → t ≡ true
-holds_true true h = refl
-holds_true false h = absurd h
+-- the walk's answer, by how it ended and by what it noted
+abbrev pub answered : Result (Unit {0}) Refusal → List ℕ → Result (List ℕ) Refusal
+answered (Ok u) starts = Ok starts
+answered (Err r) starts = Err r
 
 -- the same by what the reader handed out, whatever it was
 module _ (s starts : List ℕ) (at : ℕ) where
-  pub walking_by : (x : FieldStep) → step_at s at ≡ x → Holds (is_passed starts x) → Walking s starts at →
+  pub walking_by : (x : FieldStep) → step_at s at ≡ x → is_passed starts x ≡ true → Walking s starts at →
       Walking s (noted_step starts x) (behind x at)
-  walking_by (Field f) e h w = walking_on s starts at f e (not-true _ (holds_true _ h)) w
+  walking_by (Field f) e h w = walking_on s starts at f e (not-true _ h) w
   walking_by (Skipped f) e h w = walking_past s starts at f e w
-  walking_by End e h w = absurd h
-  walking_by PastTheEnd e h w = absurd h
-  walking_by (AgainstTheTable i) e h w = absurd h
+  walking_by End e h w = clash h refl
+  walking_by PastTheEnd e h w = clash h refl
+  walking_by (AgainstTheTable i) e h w = clash h refl
 
-  pub nearer_by : (x : FieldStep) → step_at s at ≡ x → Holds (is_passed starts x) → length s - behind x at < length s - at
+  pub nearer_by : (x : FieldStep) → step_at s at ≡ x → is_passed starts x ≡ true → length s - behind x at < length s - at
   nearer_by (Field f) e h = walking_less s at f (step_sound s at f e).lies
   nearer_by (Skipped f) e h = walking_less s at f (step_inside s at f e)
-  nearer_by End e h = absurd h
-  nearer_by PastTheEnd e h = absurd h
-  nearer_by (AgainstTheTable i) e h = absurd h
+  nearer_by End e h = clash h refl
+  nearer_by PastTheEnd e h = clash h refl
+  nearer_by (AgainstTheTable i) e h = clash h refl
 
-  pub walked_by : (x : FieldStep) → step_at s at ≡ x → Holds (not (is_passed starts x)) → Walking s starts at →
-      Walked (fields_in s) (ended_by (noted_step starts x) x) (noted_step starts x)
-  walked_by (Field f) e h w = walked_repeated s starts at f e (not-false _ (not-true _ (holds_true _ h))) w (noted_step starts (Field f))
-  walked_by (Skipped f) e h w = absurd h
+  walked_by : (x : FieldStep) → step_at s at ≡ x → is_passed starts x ≡ false → Walking s starts at →
+      Walked (fields_in s) (answered (ended_by (noted_step starts x) x) (noted_step starts x))
+  walked_by (Field f) e h w = walked_repeated s starts at f e (not-false _ h) w
+  walked_by (Skipped f) e h w = clash refl h
   walked_by End e h w = walked_whole s starts at e w
-  walked_by PastTheEnd e h w = walked_fault s starts at Past (λ q. differ (cc)) past_not_whole w (λ rest. rw e) starts
+  walked_by PastTheEnd e h w = walked_fault s starts at Refusal.PastTheEnd (λ q. differ (cc)) w (λ rest. rw e)
   walked_by (AgainstTheTable i) e h w = walked_against s starts at i e w
 
--- what is left once a fault's starts are forgotten, and back
-module _ (fields : Fields) (w : Walk) (starts : List ℕ) where
-  pub leaves_whole : w ≡ Whole → Walked fields w starts → WholeAnswer fields Whole starts
-  leaves_whole e v = go fields v
-    where
-      go : (fs : Fields) → Walked fs w starts → WholeAnswer fs Whole starts
-      go (whole fs) v = (refl, v.1)
-      go (fault n) v = absurd (v.1 e)
-
-  pub leaves_fault : (r : Walk) → w ≡ r → (r ≡ Whole → ⊥) → Walked fields w starts → (after : List ℕ) → after ≡ replicate 16 0
-      → WholeAnswer fields r after
-  leaves_fault r e not-whole v after none = go fields v
-    where
-      go : (fs : Fields) → Walked fs w starts → WholeAnswer fs r after
-      go (whole fs) v = absurd (not-whole (sym e ∙ v.0))
-      go (fault n) v = (sym (ap fault_number e) ∙ v.0, not-whole, none)
-
-  pub walked_of : WholeAnswer fields w starts → Walked fields w starts
-  walked_of v = go fields v
-    where
-      go : (fs : Fields) → WholeAnswer fs w starts → Walked fs w starts
-      go (whole fs) v = v
-      go (fault n) v = (v.0, v.1)
-
-  pub none_left : (w ≡ Whole → ⊥) → WholeAnswer fields w starts → starts ≡ replicate 16 0
-  none_left not-whole v = go fields v
-    where
-      go : (fs : Fields) → WholeAnswer fs w starts → starts ≡ replicate 16 0
-      go (whole fs) v = absurd (not-whole v.0)
-      go (fault n) v = v.2
+  -- and by what the code knows where it goes out
+  pub answers_by : (x : FieldStep) (after : List ℕ) (end : Result (Unit {0}) Refusal) → step_at s at ≡ x → is_passed starts x ≡ false →
+      after ≡ noted_step starts x → end ≡ ended_by after x → Walking s starts at → Walked (fields_in s) (answered end after)
+  answers_by x after end e h a d w = rw (d, a) (walked_by x e h w)

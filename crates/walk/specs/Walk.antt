@@ -1,6 +1,7 @@
 -- How the walk is held in the code: the starts of the table's fields found so far, in an array of 16, one for each ID below 16. What the
 -- walk is stands in field/specs/Fields. Assumes nothing.
-use Rattle.std.specs.Prelude.{ℕ, ◌<◌, ◌≤◌, ◌+◌, ◌-◌, Bool, true, false, not, ◌&&◌, List, ◌≡◌, ltb, eqb, length, get_or, set, replicate}
+use Rattle.std.specs.Prelude.{ℕ, ◌<◌, ◌≤◌, ◌+◌, ◌-◌, Bool, true, false, not, ◌&&◌, List, ◌≡◌, ltb, eqb, length, get_or, set}
+use Rattle.std.specs.Prelude.{Result, Ok, Err, IsErr}
 use Rattle.words.specs.Choice.{when◌then◌else◌}
 use Rattle.message.specs.Answers.{refusal_number}
 use Rattle.message.specs.declared.Refusal.{Refusal}
@@ -8,8 +9,6 @@ use Rattle.header.specs.Header.{header_size}
 use Rattle.field.specs.declared.FieldFound.{FieldFound}
 use Rattle.field.specs.declared.FieldStep.{FieldStep}
 use Rattle.field.specs.Fields.{Fields, whole, fault}
-use Rattle.walk.specs.declared.Walk.{Walk}
-use Rattle.walk.specs.declared.Walk.TheVariants.{Whole, PastTheEnd, AgainstTheTable, Repeated}
 use Rattle.walk.specs.Starts.{start_of}
 
 -- whether a field with this ID has been noted: the array is the memory of what came before
@@ -36,12 +35,12 @@ noted_step starts FieldStep.PastTheEnd = starts
 noted_step starts (FieldStep.AgainstTheTable i) = starts
 
 -- how a walk ended, by what was handed out last
-abbrev pub ended_by : List ℕ → FieldStep → Walk
-ended_by starts (FieldStep.Field f) = Repeated
-ended_by starts (FieldStep.Skipped f) = Whole
-ended_by starts FieldStep.End = Whole
-ended_by starts FieldStep.PastTheEnd = PastTheEnd
-ended_by starts (FieldStep.AgainstTheTable i) = when has_come starts i then Repeated else AgainstTheTable
+abbrev pub ended_by : List ℕ → FieldStep → Result (Unit {0}) Refusal
+ended_by starts (FieldStep.Field f) = Err Refusal.Repeated
+ended_by starts (FieldStep.Skipped f) = Ok tt
+ended_by starts FieldStep.End = Ok tt
+ended_by starts FieldStep.PastTheEnd = Err Refusal.PastTheEnd
+ended_by starts (FieldStep.AgainstTheTable i) = Err (when has_come starts i then Refusal.Repeated else Refusal.AgainstTheTable)
 
 -- the array has the start of each ID below 16
 pub record Notes (starts : List ℕ) (fs : List FieldFound) : Type 0 where
@@ -49,21 +48,15 @@ pub record Notes (starts : List ℕ) (fs : List FieldFound) : Type 0 where
   pub has : (i : ℕ) → i < 16 → get_or starts i 0 ≡ start_of fs i
 
 -- the paper's number for a walk that ended at a fault
-abbrev pub fault_number : Walk → ℕ
-fault_number Whole = 0
-fault_number PastTheEnd = refusal_number Refusal.PastTheEnd
-fault_number AgainstTheTable = refusal_number Refusal.AgainstTheTable
-fault_number Repeated = refusal_number Refusal.Repeated
+abbrev pub fault_number : Result (List ℕ) Refusal → ℕ
+fault_number (Ok starts) = 0
+fault_number (Err r) = refusal_number r
 
--- what the walk's end and its array say of the fields
-abbrev pub Walked : Fields → Walk → List ℕ → Type 0
-Walked (whole fs) w starts = (w ≡ Whole) × Notes starts fs
-Walked (fault n) w starts = (fault_number w ≡ n) × (w ≡ Whole → ⊥)
-
--- the same once a fault has left no start: the whole answer
-abbrev pub WholeAnswer : Fields → Walk → List ℕ → Type 0
-WholeAnswer (whole fs) w starts = (w ≡ Whole) × Notes starts fs
-WholeAnswer (fault n) w starts = (fault_number w ≡ n) × (w ≡ Whole → ⊥) × (starts ≡ replicate 16 0)
+-- what the walk's answer says of the fields: the array of their starts, or the refusal of the first that is at fault
+abbrev pub Walked : Fields → Result (List ℕ) Refusal → Type 0
+Walked (whole fs) (Ok starts) = Notes starts fs
+Walked (whole fs) (Err r) = ⊥
+Walked (fault n) answer = (fault_number answer ≡ n) × IsErr answer
 
 -- the starts lie in the packet, with as much behind them as is read there
 pub record Reach (s : List ℕ) (start : ℕ → ℕ) : Type 0 where

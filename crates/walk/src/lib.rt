@@ -3,43 +3,30 @@
 // The array is also the memory of what came before: no walk looks back over the packet.
 #![tactic(auto)]
 
-ghost use Rattle.std.specs.Prelude.{◌≡◌, not, replicate};
+ghost use Rattle.std.specs.Prelude.{◌≡◌, not};
 ghost use Rattle.field.specs.Fields.{fields_in};
-ghost use Rattle.walk.specs.Walk.{has_come, noted, is_passed, noted_step, ended_by, Walked, WholeAnswer};
+ghost use Rattle.walk.specs.Walk.{has_come, noted, is_passed, noted_step, ended_by, Walked};
 
 use field::FieldStep;
-
-// How a walk over all fields ended.
-#[derive(Clone, Copy)]
-pub enum Walk {
-    Whole,
-    PastTheEnd,
-    AgainstTheTable,
-    Repeated,
-}
+use message::Refusal;
 
 // Whether a field with this ID has been noted. From 16 on the table has none.
 fn has_come(starts: &[usize; 16], id: u8) -> bool
     ensures { result ≡ has_come starts.now id }
 {
-    if id < 16 {
-        let i = id as usize;
-        return starts[i] != 0;
-    }
-    false
+    id < 16 && starts[id as usize] != 0
 }
 
 // Notes where the content of a field starts, if none with its ID came before; whether that is so.
+#[tactic(auto, using(std::proofs::lemmas::Bool::Decides::nat_tests), unfolding(crate::proofs::Walks::noting))]
 fn note(starts: &mut [usize; 16], id: u8, start: usize) -> bool
     ensures { (result ≡ not (has_come starts.old id)) × (starts.new ≡ noted starts.old id start) }
 {
-    if id < 16 {
-        let i = id as usize;
-        if starts[i] == 0 {
-            starts[i] = start;
-            return true;
-        }
+    if has_come(starts, id) {
         return false;
+    }
+    if id < 16 {
+        starts[id as usize] = start;
     }
     true
 }
@@ -60,66 +47,32 @@ pub fn noted_field(starts: &mut [usize; 16], step: FieldStep) -> bool
 
 // How a walk ended, by what was handed out last and by what was noted before it. A field that could not be noted is a second one; at one
 // that is skipped no walk ends.
-pub fn ended(starts: &[usize; 16], step: FieldStep) -> Walk
+#[tactic(auto, using(words::specs::Choice::if_yes, words::specs::Choice::if_no))]
+pub fn ended(starts: &[usize; 16], step: FieldStep) -> Result<(), Refusal>
     ensures { result ≡ ended_by starts.now step }
 {
     match step {
-        FieldStep::Field(_) => Walk::Repeated,
-        FieldStep::Skipped(_) => Walk::Whole,
-        FieldStep::End => Walk::Whole,
-        FieldStep::PastTheEnd => Walk::PastTheEnd,
-        FieldStep::AgainstTheTable(id) => {
-            if has_come(starts, id) {
-                return Walk::Repeated;
-            }
-            Walk::AgainstTheTable
-        }
+        FieldStep::Field(_) => Err(Refusal::Repeated),
+        FieldStep::Skipped(_) | FieldStep::End => Ok(()),
+        FieldStep::PastTheEnd => Err(Refusal::PastTheEnd),
+        FieldStep::AgainstTheTable(id) if has_come(starts, id) => Err(Refusal::Repeated),
+        FieldStep::AgainstTheTable(_) => Err(Refusal::AgainstTheTable),
     }
 }
 
 // Walks over all fields, as the reader that rests on the packet hands them out, and notes where their contents start. What was handed out
-// last tells how the walk ended.
-fn note_all(s: &[u8], starts: &mut [usize; 16]) -> FieldStep
-    requires { starts.old ≡ replicate 16 0 }
-    ensures { Walked (fields_in s.now) (ended_by starts.new result) starts.new }
+// last tells how the walk ended: so this is no `for`, which would keep it.
+pub fn all_starts(s: &[u8]) -> Result<[usize; 16], Refusal>
+    ensures { Walked (fields_in s.now) result }
 {
+    let mut starts = [0usize; 16];
     let mut r = reader::rest(s);
     loop {
         let step = reader::next(r);
-        if noted_field(starts, step) {
-            r = reader::moved(r, step);
-        } else {
-            return step;
+        if !noted_field(&mut starts, step) {
+            ended(&starts, step)?;
+            return Ok(starts);
         }
-    }
-}
-
-// Forgets all starts.
-pub fn forget(starts: &mut [usize; 16])
-    ensures { starts.new ≡ replicate 16 0 }
-{
-    *starts = [0usize; 16];
-}
-
-// Where the contents of a packet's fields start; none, where a field is at fault.
-pub fn all_starts(s: &[u8], starts: &mut [usize; 16]) -> Walk
-    requires { starts.old ≡ replicate 16 0 }
-    ensures { WholeAnswer (fields_in s.now) result starts.new }
-{
-    let last = note_all(s, starts);
-    match ended(starts, last) {
-        Walk::Whole => Walk::Whole,
-        Walk::PastTheEnd => {
-            forget(starts);
-            Walk::PastTheEnd
-        }
-        Walk::AgainstTheTable => {
-            forget(starts);
-            Walk::AgainstTheTable
-        }
-        Walk::Repeated => {
-            forget(starts);
-            Walk::Repeated
-        }
+        r = reader::moved(r, step);
     }
 }

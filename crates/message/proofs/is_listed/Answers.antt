@@ -1,10 +1,11 @@
--- `message::is_listed` keeps its promise, `result ≡ listed id`. Whether the table has an ID. Assumes nothing.
-use mathlib.Core.Path.{sym}
-use Rattle.message.proofs.Rows.{mark-tells, unlisted_above}
+-- The mark tells.
+use mathlib.Core.Bool.{not, ◌&&◌}
+use mathlib.Core.Path.{ap, ◌∙◌}
+use lib.Dec.{eqb}
+use Rattle.message.specs.declared.Lengths.{Lengths}
+use Rattle.message.proofs.Rows.{mark-tells}
 use Rattle.message.proofs.is_listed.Goals as goal
 
-pub returns-then-id-lt16 : goal.returns-then-id-lt16
-returns-then-id-lt16 c = mark-tells c.args.id c.if-id-lt16.true
-
 pub returns : goal.returns
-returns c = sym (unlisted_above c.args.id c.if-id-lt16.false)
+returns c =
+    c.ne.ensures ∙ ap (λ (r : Lengths). not (eqb r.least 0 && eqb r.greatest 255)) c.lengths_of.ensures ∙ mark-tells c.args.id

@@ -1,35 +1,54 @@
--- `reading::part_in` keeps its promise, `result.now ≡ part_in s.now p`. The part of the packet that holds an identity or a phrase, itself
--- and no copy of it; an empty part where the packet has none there. Assumes nothing.
-use Prim.Native.Nat.{ℕ, ◌+◌, ◌≤◌, ◌<◌}
+-- Where the part lies in the packet, it is those octets of it; else it is empty.
+use Prim.Native.Nat.{ℕ, ◌+◌, ◌<◌}
 use native.Mathlib.Nat.{add-sub_cancel_left}
-use mathlib.Core.Path.{ap, refl}
+use native.Mathlib.Omega.{arith}
+use mathlib.Core.List.{List, []}
+use mathlib.Core.Path.{◌≡◌, ap, refl}
 use lib.ListN.{length, take, drop}
 use borrow.Author.Tests.{le-leb, lt-leb}
+use Rattle.std.specs.Prelude.{Option, Some}
 use Rattle.words.specs.Choice.{when◌then◌else◌}
 use Rattle.octets.specs.Octets.{part}
-use native.Mathlib.Omega.{arith}
-use Rattle.reading.proofs.part_in.Goals.{else-from-s, then-from-s+else-count-s}
+use Rattle.message.specs.declared.Part.{Part}
+use Rattle.reading.specs.Parts.{part_in, start_in}
+use Rattle.reading.proofs.part_in.Goals.{in_default-via-in-Some+then-part-s+else-part-s-2, in_default-via-in-Some+else-part-s}
+use Rattle.reading.proofs.part_in.Goals.{in_default-via-in_default}
 use Rattle.reading.proofs.part_in.Goals as goal
 
-pub returns-in_default : goal.returns-in_default
-returns-in_default c = rw c.in_default.is (record { value = refl; place = refl })
-
-pub returns-then-count-s : goal.returns-then-count-s
+pub returns-in-Some-clause-value : goal.returns-in-Some-clause-value
 unfolding part when◌then◌else◌
-returns-then-count-s c =
-    let s = c.args.s.now in
-    let from = c.in-At.from in
-    let count = c.in-At.count in
-    let h : from + count ≤ length s = omega (arith, c.if-from-s.true, c.if-count-s.true) in
-    rw (c.in-At.is, le-leb (from + count) (length s) h)
-    (record { value = ap (λ (k : ℕ). take k (drop from s)) (add-sub_cancel_left from count); place = refl })
+returns-in-Some-clause-value c =
+    let p = c.in-Some.part in
+    rw (c.in-Some.is, le-leb (p.from + p.count) (length c.args.s.now) (omega (arith, c.if-part-s.true, c.if-part-s-2.true)))
+    (ap (λ (k : ℕ). take k (drop p.from c.args.s.now)) (add-sub_cancel_left p.from p.count))
 
-pub returns : goal.returns
+pub returns-in-Some-clause-place : goal.returns-in-Some-clause-place
 unfolding when◌then◌else◌
-returns c =
-    let s = c.args.s.now in
-    let from = c.in-At.from in
-    let count = c.in-At.count in
-    let h : length s < from + count =
-    (elim c.if-from-s.branch [ then-from-s+else-count-s w ↦ omega arith | else-from-s w ↦ omega arith ]) in
-    rw (c.in-At.is, lt-leb (from + count) (length s) h) (record { value = refl; place = refl })
+returns-in-Some-clause-place c =
+    let p = c.in-Some.part in
+    rw (c.in-Some.is, le-leb (p.from + p.count) (length c.args.s.now) (omega (arith, c.if-part-s.true, c.if-part-s-2.true))) refl
+
+-- a part of which the packet has fewer octets
+outside : (s : List ℕ) (o : Option Part) (p : Part) → o ≡ Some p → length s < p.from + p.count → (part_in s o ≡ []) × (start_in s o ≡ 0)
+unfolding when◌then◌else◌
+outside s o p e h = rw (e, lt-leb (p.from + p.count) (length s) h) (refl, refl)
+
+pub returns-in_default-clause-value : goal.returns-in_default-clause-value
+returns-in_default-clause-value c =
+    elim c.in_default.branch [
+      | in_default-via-in-Some+then-part-s+else-part-s-2 w ↦ rw
+          (outside c.args.s.now c.args.p w.in-Some.part w.in-Some.is (omega (arith, w.if-part-s.true, w.if-part-s-2.false))).0
+      | in_default-via-in-Some+else-part-s w ↦ rw
+          (outside c.args.s.now c.args.p w.in-Some.part w.in-Some.is (omega (arith, w.if-part-s.false))).0
+      | in_default-via-in_default w ↦ rw w.in_default.is
+    ]
+
+pub returns-in_default-clause-place : goal.returns-in_default-clause-place
+returns-in_default-clause-place c =
+    elim c.in_default.branch [
+      | in_default-via-in-Some+then-part-s+else-part-s-2 w ↦ rw
+          (outside c.args.s.now c.args.p w.in-Some.part w.in-Some.is (omega (arith, w.if-part-s.true, w.if-part-s-2.false))).1
+      | in_default-via-in-Some+else-part-s w ↦ rw
+          (outside c.args.s.now c.args.p w.in-Some.part w.in-Some.is (omega (arith, w.if-part-s.false))).1
+      | in_default-via-in_default w ↦ rw w.in_default.is
+    ]

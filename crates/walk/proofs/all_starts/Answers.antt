@@ -1,37 +1,51 @@
--- A whole walk leaves what it noted, and one that ends at a fault leaves nothing. Assumes nothing.
-use mathlib.Core.Path.{sym, ◌∙◌}
-use Rattle.walk.specs.declared.Walk.TheVariants.{PastTheEnd, AgainstTheTable, Repeated}
-use Rattle.field.specs.Fields.{fields_in}
-use Rattle.walk.specs.Walk.{ended_by}
-use Rattle.walk.proofs.Walks.{leaves_whole, leaves_fault, past_not_whole, against_not_whole, repeated_not_whole}
+-- Each turn keeps what was noted and goes on towards the end; the way out tells how the walk ended. The decisions are the callees': the one
+-- branch here asks whether a field was noted.
+use mathlib.Core.Path.{◌≡◌, refl, sym, ◌∙◌}
+use Rattle.std.specs.Prelude.{Ok, Err}
+use Rattle.std.proofs.lemmas.Result.{err_from_is_err_and}
+use Rattle.field.specs.Fields.{step_at}
+use Rattle.walk.proofs.Walks.{walking_starts, walking_by, nearer_by, answers_by}
 use Rattle.walk.proofs.all_starts.Goals as goal
 
-pub returns-in-Whole : goal.returns-in-Whole
-returns-in-Whole c =
-    let v = c.note_all-last in
-    leaves_whole (fields_in c.args.s.now)
-    (ended_by v.new.starts v.result) v.new.starts (sym c.ended.ensures ∙ c.in-Whole.is) v.ensures
+pub loop-r-init : goal.loop-r-init
+loop-r-init c = record {
+  rests = rw c.rest-r.ensures.0;
+  walking = rw c.rest-r.ensures.1 (walking_starts c.args.s.now _ refl);
+}
 
-pub returns-in-PastTheEnd : goal.returns-in-PastTheEnd
-returns-in-PastTheEnd c =
-    let v = c.note_all-last in
-    leaves_fault (fields_in c.args.s.now)
-    (ended_by v.new.starts v.result) v.new.starts PastTheEnd
-    (sym c.ended.ensures ∙ c.in-PastTheEnd.is) past_not_whole v.ensures _
-    c.forget.ensures
+pub loop-r-smaller : goal.loop-r-smaller
+loop-r-smaller c =
+    let s = c.args.s.now in
+    let e : step_at s c.loop-r.r.at ≡ c.next-step.result = sym (rw c.loop-r.invariant.rests at c.next-step.ensures) in
+    rw c.moved-r.ensures.1
+    (nearer_by s c.loop-r.starts c.loop-r.r.at c.next-step.result e (sym c.noted_field.ensures.0 ∙ c.if-not-noted_field.false))
 
-pub returns-in-AgainstTheTable : goal.returns-in-AgainstTheTable
-returns-in-AgainstTheTable c =
-    let v = c.note_all-last in
-    leaves_fault (fields_in c.args.s.now)
-    (ended_by v.new.starts v.result) v.new.starts AgainstTheTable
-    (sym c.ended.ensures ∙ c.in-AgainstTheTable.is) against_not_whole v.ensures _
-    c.forget-in-AgainstTheTable.ensures
+pub loop-r-preserved : goal.loop-r-preserved
+loop-r-preserved c =
+    let s = c.args.s.now in
+    let e : step_at s c.loop-r.r.at ≡ c.next-step.result = sym (rw c.loop-r.invariant.rests at c.next-step.ensures) in
+    record {
+      rests = rw c.moved-r.ensures.0 c.loop-r.invariant.rests;
+      walking =
+          rw (c.moved-r.ensures.1, c.noted_field.ensures.1)
+          (walking_by s c.loop-r.starts c.loop-r.r.at c.next-step.result e
+          (sym c.noted_field.ensures.0 ∙ c.if-not-noted_field.false) c.loop-r.invariant.walking);
+    }
 
-pub returns-in-Repeated : goal.returns-in-Repeated
-returns-in-Repeated c =
-    let v = c.note_all-last in
-    leaves_fault (fields_in c.args.s.now)
-    (ended_by v.new.starts v.result) v.new.starts Repeated
-    (sym c.ended.ensures ∙ c.in-Repeated.is) repeated_not_whole v.ensures _
-    c.forget-in-Repeated.ensures
+pub returns-in_err-ended : goal.returns-in_err-ended
+returns-in_err-ended c =
+    let s = c.args.s.now in
+    let e : step_at s c.loop-r.r.at ≡ c.next-step.result = sym (rw c.loop-r.invariant.rests at c.next-step.ensures) in
+    let p = err_from_is_err_and c.from_residual.result c.from_residual.ensures.1 in
+    rw (p.1, p.2)
+    (answers_by s c.loop-r.starts c.loop-r.r.at c.next-step.result c.noted_field.new.starts (Err c.in_err-ended.field-0.0) e
+    (sym c.noted_field.ensures.0 ∙ c.if-not-noted_field.true) c.noted_field.ensures.1 (sym c.in_err-ended.was ∙ c.ended.ensures)
+    c.loop-r.invariant.walking)
+
+pub returns-then-not-noted_field : goal.returns-then-not-noted_field
+returns-then-not-noted_field c =
+    let s = c.args.s.now in
+    let e : step_at s c.loop-r.r.at ≡ c.next-step.result = sym (rw c.loop-r.invariant.rests at c.next-step.ensures) in
+    answers_by s c.loop-r.starts c.loop-r.r.at c.next-step.result c.noted_field.new.starts (Ok c.in_ok-ended.field-0) e
+    (sym c.noted_field.ensures.0 ∙ c.if-not-noted_field.true) c.noted_field.ensures.1 (sym c.in_ok-ended.was ∙ c.ended.ensures)
+    c.loop-r.invariant.walking

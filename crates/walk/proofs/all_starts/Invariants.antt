@@ -2,7 +2,7 @@
 -- the packet's end is.
 use Rattle.std.proofs.Common.{◌≡◌, ◌-◌, length}
 use Rattle.walk.proofs.Walks.{Walking}
-use Rattle.walk.proofs.note_all.Given as goal
+use Rattle.walk.proofs.all_starts.Given as goal
 
 abbrev pub invariant-loop-r : goal.invariant-loop-r
 invariant-loop-r l = record { rests : l.r.packet.now ≡ l.s; walking : Walking l.s l.starts l.r.at }
