@@ -1,67 +1,81 @@
--- The octets of each kind of field, as the code lays them. Assumes nothing.
-use Prim.Native.Nat.{ℕ, ◌+◌, ◌/◌, ◌%◌, ◌≤◌}
-use native.Mathlib.Nat.{add-zero}
+-- A field's octets as the code lays them: zeros where it ends, and over them ID and length, and the content.
+--     field_takes   how many octets they are
+--     laid_field    what is left of the zeros are the spare octets and the padding
+-- Assumes nothing.
+use Prim.Native.Nat.{ℕ, ◌+◌, ◌-◌, ◌≤◌}
 use native.Mathlib.Omega.{arith}
-use mathlib.Core.Bool.{true}
-use mathlib.Core.List.{List, [], ◌∷◌, ◌++◌, append-nil}
-use mathlib.Core.Path.{◌≡◌, refl, sym, ap}
-use lib.ListN.{length, replicate, length-append, length-replicate}
-use Rattle.words.specs.Choice.{when◌then◌else◌}
-use Rattle.octets.specs.Octets.{octets16, octets32, part}
-use Rattle.message.specs.Table.{row_of, row_in, padding}
-use Rattle.message.specs.Message.{of_octet, of_word, of_number, of_queue, of_part, of_cause, part_lies, phrase_lies}
-use Rattle.message.specs.declared.Octet.{Octet}
-use Rattle.message.specs.declared.Word.{Word}
-use Rattle.message.specs.declared.Number.{Number}
-use Rattle.message.specs.declared.Queue.{Queue}
-use Rattle.message.specs.declared.Part.{Part}
-use Rattle.message.specs.declared.Cause.{Cause}
-use Rattle.octets.proofs.Over.{length_part}
-use Rattle.message.proofs.Parts.{part_lies_lem, phrase_lies_lem}
-use Rattle.field_writing.specs.Wire.{field_octets, optional}
+use mathlib.Core.List.{List, [], ◌∷◌, ◌++◌, append_assoc}
+use mathlib.Core.Path.{◌≡◌, refl, sym, ap, ◌∙◌}
+use lib.Seq.{drop-append-add, drop-drop, length-take-le, take-append-le, take-take}
+use lib.ListN.{length, take, drop, replicate, length-append, length-replicate, replicate-append-replicate}
+use Rattle.octets.specs.Octets.{over, octets16, octets32, Laid}
+use Rattle.octets.proofs.Over.{head_length, over-before, over_more, run, length_over}
+use Rattle.message.specs.Table.{row_of, padding, padded}
+use Rattle.message.proofs.Paddings.{padded_least}
+use Rattle.field_writing.specs.Wire.{field_octets}
 
-pub octet_is : (i : ℕ) → (row_of i).spare ≡ 1 → {o : Octet} {n : ℕ} → o ≡ Octet.Is n → (i ∷ 2 ∷ n ∷ 0 ∷ []) ≡ optional i (of_octet o)
-unfolding optional field_octets padding
-octet_is i s e = rw (e, s)
+behind : (p q : List ℕ) (n k : ℕ) → length p ≡ n → drop (n + k) (p ++ q) ≡ drop k q
+behind p q n k e = rw (← e) (drop-append-add p q k)
 
-pub word_is : (i : ℕ) → (row_of i).spare ≡ 0 → {w : Word} {n : ℕ} → w ≡ Word.Is n →
-    (i ∷ 2 ∷ n / 256 ∷ n % 256 ∷ []) ≡ optional i (of_word w)
-unfolding optional field_octets padding octets16
-word_is i s e = rw (e, s)
+-- octets that are written over altogether leave nothing of themselves
+covered : (room : List ℕ) (at p : ℕ) (xs cs : List ℕ) → at ≤ p → p + length xs ≤ at + length cs → at + length cs ≤ length room
+    → over (over room p xs) at cs ≡ over room at cs
+unfolding over
+covered room at p xs cs h l m =
+    let e : length (take p room) ≡ p = length-take-le p room (omega arith) in
+    let k : ℕ = at + length cs - (p + length xs) in
+    let q : List ℕ = drop (p + length xs) room in
+    let d : at + length cs ≡ p + length xs + k = omega arith in
+    let g : length (take p room ++ xs) ≡ p + length xs = head_length room p xs (omega arith) in
+    let front : take at (take p room ++ xs ++ q) ≡ take at room =
+    rw append_assoc (take-append-le at (take p room) (xs ++ q) (rw e h) ∙ take-take at p room h) in
+    let back : drop (at + length cs) (take p room ++ xs ++ q) ≡ drop (at + length cs) room =
+    rw d (behind (take p room ++ xs) q (p + length xs) k g ∙ drop-drop k (p + length xs) room) in
+    ap (λ (r : List ℕ). r ++ cs ++ drop (at + length cs) (take p room ++ xs ++ q)) front ∙ ap (λ (r : List ℕ). take at room ++ cs ++ r) back
 
-pub queue_is : {q : Queue} {position priority : ℕ} → q ≡ Queue.Is position priority →
-    (3 ∷ 2 ∷ position ∷ priority ∷ []) ≡ optional 3 (of_queue q)
-unfolding optional field_octets padding row_in when◌then◌else◌
-queue_is e = rw e
+padding_few : (n : ℕ) → padding n ≤ 3
+unfolding padding
+padding_few n = omega arith
 
-pub number_is : {x : Number} {n : ℕ} → x ≡ Number.Is n → (14 ∷ 6 ∷ octets32 n ++ (0 ∷ 0 ∷ [])) ≡ optional 14 (of_number x)
-unfolding optional field_octets padding row_in when◌then◌else◌ octets32 octets16
-number_is e = rw e
+module _ (i spare count : ℕ) (content : List ℕ) (s : (row_of i).spare ≡ spare) (l : length content ≡ count)
+    (p : spare + padding (count + spare) ≡ padding count)
+  where
+    field_is : ((i ∷ (count + spare) ∷ []) ++ (content ++ replicate (padding count) 0)) ≡ field_octets i content
+    unfolding field_octets
+    field_is =
+        rw (s, l, ← p, ← (replicate-append-replicate {A = ℕ} spare (padding (count + spare)) 0))
+        (sym (append_assoc (i ∷ (count + spare) ∷ content) (replicate spare 0) (replicate (padding (count + spare)) 0)))
 
--- a field with no spare octets, by the length of its content
-unspared : (i l : ℕ) (content : List ℕ) → (row_of i).spare ≡ 0 → length content ≡ l
-    → (i ∷ l ∷ content ++ replicate (padding l) 0) ≡ field_octets i content
-unfolding field_octets
-unspared i l content s e = rw (s, add-zero, e) (ap (λ (x : List ℕ). i ∷ l ∷ (x ++ replicate (padding l) 0)) (sym (append-nil content)))
+    pub field_takes : length (field_octets i content) ≡ 2 + count + padding count
+    field_takes = rw (← field_is) (simp (length-append, length-replicate, l) (omega arith))
 
--- a text and the padding behind it, as the code lays them
-abbrev pub text : List ℕ → ℕ → ℕ → ℕ → List ℕ
-text src from count len = part src from count ++ replicate (padding len) 0
-
-pub text-length : (src : List ℕ) (from count len : ℕ) → from + count ≤ length src → length (text src from count len) ≡ count + padding len
-text-length src from count len h = rw (length-append, length_part src from count h, length-replicate)
-
-pub identity_is : (i : ℕ) → (row_of i).spare ≡ 0 → (src : List ℕ) {p : Part} {from count : ℕ} → p ≡ Part.At from count →
-    part_lies src p ≡ true
-    → (i ∷ count ∷ text src from count count) ≡ optional i (of_part src p)
-unfolding optional
-identity_is i s src {p} {from} {count} e h =
-    rw e (unspared i count (part src from count) s (length_part src from count (part_lies_lem src e h)))
-
-pub cause_is : (src : List ℕ) {x : Cause} {n from count : ℕ} → x ≡ Cause.Is n from count → phrase_lies src x ≡ true
-    → (2 ∷ (count + 2) ∷ octets16 n ++ text src from count (count + 2)) ≡ optional 2 (of_cause src x)
-unfolding optional octets16 row_in when◌then◌else◌
-cause_is src {x} {n} {from} {count} e h =
-    rw e
-    (unspared 2 (count + 2) (octets16 n ++ part src from count) refl
-    (let l = length_part src from count (phrase_lies_lem src e h) in omega arith))
+    pub laid_field : {room r₁ r₂ r₃ : List ℕ} (at last end : ℕ) → at + length (field_octets i content) ≤ length room
+        → end ≡ at + padded count → last + 4 ≡ end → r₁ ≡ over room last (octets32 0)
+        → r₂ ≡ over r₁ at (i ∷ (count + spare) ∷ []) → r₃ ≡ over r₂ (at + 2) content → Laid room at (field_octets i content) r₃ end
+    unfolding padded octets32 octets16
+    laid_field {room} {r₁} {r₂} {r₃} at last end h e f q₁ q₂ q₃ =
+        let z : ℕ = padding count in
+        let few : z ≤ 3 = padding_few count in
+        let t : length (field_octets i content) ≡ 2 + count + z = field_takes in
+        let four : 4 ≤ 2 + count + z = padded_least count in
+        let cs : List ℕ = (i ∷ (count + spare) ∷ []) ++ content in
+        let n : length cs ≡ 2 + count = omega arith in
+        let zeros : ◌≡◌ {A = List ℕ} (0 ∷ 0 ∷ 0 ∷ 0 ∷ []) (replicate (4 - z) 0 ++ replicate z 0) =
+        rw (replicate-append-replicate {A = ℕ} (4 - z) z 0)
+        (ap (λ (k : ℕ). replicate {A = ℕ} k 0) (let k : 4 ≡ 4 - z + z = omega arith in k)) in
+        let under : List ℕ = over room last (replicate (4 - z) 0) in
+        let two : r₁ ≡ over under (at + (2 + count)) (replicate z 0) =
+        q₁ ∙ ap (over room last) zeros ∙ sym (over_more room (replicate (4 - z) 0) (replicate z 0) last (at + (2 + count))
+        (rw length-replicate (omega arith)) (omega arith)) in
+        let u : length under ≡ length room = length_over room last (replicate (4 - z) 0) (rw length-replicate (omega arith)) in
+        let v : length r₁ ≡ length room = ap length q₁ ∙ length_over room last (0 ∷ 0 ∷ 0 ∷ 0 ∷ []) (omega arith) in
+        let both : r₃ ≡ over r₁ at cs = run r₁ r₂ r₃ at 2 (i ∷ (count + spare) ∷ []) content (omega arith) refl q₂ q₃ in
+        let before : over (over under (at + (2 + count)) (replicate z 0)) at cs ≡ over under at (cs ++ replicate z 0) =
+        over-before under at (2 + count) cs (replicate z 0) n (omega arith) in
+        let all : over under at (cs ++ replicate z 0) ≡ over room at (cs ++ replicate z 0) =
+        covered room at last (replicate (4 - z) 0) (cs ++ replicate z 0) (omega arith)
+        (simp (length-append, length-replicate) (omega arith)) (simp (length-append, length-replicate) (omega arith)) in
+        record {
+          ends = omega arith;
+          stands = both ∙ ap (λ (r : List ℕ). over r at cs) two ∙ before ∙ all ∙ ap (over room at) field_is;
+        }

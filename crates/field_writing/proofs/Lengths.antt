@@ -1,61 +1,62 @@
--- How many octets each kind of field takes. Assumes nothing.
+-- How many octets each kind of field takes, and that what lies in the source is a part of it. Assumes nothing.
 use Prim.Native.Nat.{ℕ, ◌+◌}
-use native.Mathlib.Omega.{arith}
 use mathlib.Core.Bool.{true}
-use mathlib.Core.List.{List}
-use mathlib.Core.Path.{◌≡◌, refl, sym, ap}
+use mathlib.Core.List.{List, [], ◌∷◌, ◌++◌}
+use mathlib.Core.Path.{◌≡◌, refl}
 use lib.ListN.{length}
-use Rattle.octets.specs.Octets.{octets16, octets32}
-use Rattle.message.specs.Table.{row_of, padded}
+use Rattle.std.specs.Prelude.{Option, None, Some, option_map, IfSome, leb}
+use Rattle.octets.specs.Octets.{octets16, octets32, part}
+use Rattle.octets.proofs.Numbers.{length16, length32}
+use Rattle.message.specs.Table.{row_of, padding, padded}
 use Rattle.message.specs.Message.{of_octet, of_word, of_number, of_queue, of_part, of_cause, part_lies, phrase_lies}
-use Rattle.message.specs.declared.Octet.{Octet}
-use Rattle.message.specs.declared.Word.{Word}
-use Rattle.message.specs.declared.Number.{Number}
-use Rattle.message.specs.declared.Queue.{Queue}
+use Rattle.message.specs.declared.QueueInfo.{QueueInfo}
 use Rattle.message.specs.declared.Part.{Part}
-use Rattle.message.specs.declared.Cause.{Cause}
-use Rattle.message.proofs.Parts.{part_lies_lem, phrase_lies_lem}
+use Rattle.message.specs.declared.RejectCause.{RejectCause}
 use Rattle.field_writing.specs.Wire.{optional}
-use Rattle.field_writing.specs.Puts.{octet_size, word_size, queue_size, number_size, part_size, cause_size}
-use Rattle.field_writing.proofs.Fields.{octet_is, word_is, queue_is, number_is, identity_is, cause_is, text-length}
+use Rattle.field_writing.specs.Puts.{size_of, octet_size, word_size, queue_size, number_size, part_size, cause_size}
+use Rattle.field_writing.specs.Contents.{part_counts, cause_counts, octet_spared, number_spared, none_spared}
+use Rattle.field_writing.proofs.Fields.{field_takes}
 
 -- so many octets; a record, so that a use need not write them again
 pub record Sized (xs : List ℕ) (size : ℕ) : Type 0 where
   pub is : length xs ≡ size
 
-pub octet_sized : (i : ℕ) → (row_of i).spare ≡ 1 → (o : Octet) → Sized (optional i (of_octet o)) (octet_size o)
-unfolding optional
-octet_sized i s Octet.Absent = record { is = refl }
-octet_sized i s (Octet.Is n) = record { is = sym (ap length (octet_is i s {n = n} refl)) }
-
-pub word_sized : (i : ℕ) → (row_of i).spare ≡ 0 → (w : Word) → Sized (optional i (of_word w)) (word_size w)
-unfolding optional
-word_sized i s Word.Absent = record { is = refl }
-word_sized i s (Word.Is n) = record { is = sym (ap length (word_is i s {n = n} refl)) }
-
-pub queue_sized : (q : Queue) → Sized (optional 3 (of_queue q)) (queue_size q)
-unfolding optional
-queue_sized Queue.Absent = record { is = refl }
-queue_sized (Queue.Is position priority) = record { is = sym (ap length (queue_is {position = position} {priority = priority} refl)) }
-
-pub number_sized : (x : Number) → Sized (optional 14 (of_number x)) (number_size x)
-unfolding optional octets16 octets32
-number_sized Number.Absent = record { is = refl }
-number_sized (Number.Is n) = record { is = sym (ap length (number_is {n = n} refl)) }
-
-pub part_sized : (i : ℕ) → (row_of i).spare ≡ 0 → (src : List ℕ) (p : Part) → part_lies src p ≡ true →
-    Sized (optional i (of_part src p)) (part_size p)
+pub field_sized : {X : Type 0} (i spare : ℕ) (octets : X → List ℕ) (count : X → ℕ) (o : Option X) → (row_of i).spare ≡ spare
+    → ((x : X) → o ≡ Some x → length (octets x) ≡ count x) → ((x : X) → spare + padding (count x + spare) ≡ padding (count x))
+    → Sized (optional i (option_map octets o)) (size_of count o)
 unfolding optional padded
-part_sized i s src Part.Absent h = record { is = refl }
-part_sized i s src (Part.At from count) h =
-    let e = ap length (identity_is i s src {from = from} {count = count} refl h) in
-    let t = text-length src from count count (part_lies_lem src refl h) in
-    record { is = omega arith }
+field_sized i spare octets count None s l p = record { is = refl }
+field_sized i spare octets count (Some x) s l p = record { is = field_takes i spare (count x) (octets x) s (l x refl) (p x) }
 
-pub cause_sized : (src : List ℕ) (x : Cause) → phrase_lies src x ≡ true → Sized (optional 2 (of_cause src x)) (cause_size x)
-unfolding optional padded octets16
-cause_sized src Cause.Absent h = record { is = refl }
-cause_sized src (Cause.Is n from count) h =
-    let e = ap length (cause_is src {n = n} {from = from} {count = count} refl h) in
-    let t = text-length src from count (count + 2) (phrase_lies_lem src {n = n} refl h) in
-    record { is = omega arith }
+pub octet_sized : (i : ℕ) → (row_of i).spare ≡ 1 → (o : Option ℕ) → Sized (optional i (of_octet o)) (octet_size o)
+octet_sized i s o = field_sized i 1 (λ n. n ∷ []) (λ n. 1) o s (λ n e. refl) (λ n. octet_spared)
+
+pub word_sized : (i : ℕ) → (row_of i).spare ≡ 0 → (o : Option ℕ) → Sized (optional i (of_word o)) (word_size o)
+word_sized i s o = field_sized i 0 octets16 (λ n. 2) o s (λ n e. length16 n) (λ n. none_spared 2)
+
+pub queue_sized : (i : ℕ) → (row_of i).spare ≡ 0 → (o : Option QueueInfo) → Sized (optional i (of_queue o)) (queue_size o)
+queue_sized i s o = field_sized i 0 (λ q. q.place ∷ q.priority ∷ []) (λ q. 2) o s (λ q e. refl) (λ q. none_spared 2)
+
+pub number_sized : (i : ℕ) → (row_of i).spare ≡ 2 → (o : Option ℕ) → Sized (optional i (of_number o)) (number_size o)
+number_sized i s o = field_sized i 2 octets32 (λ n. 4) o s (λ n e. length32 n) (λ n. number_spared)
+
+pub part_sized : (i : ℕ) → (row_of i).spare ≡ 0 → (src : List ℕ) (o : Option Part) → part_lies src o ≡ true →
+    Sized (optional i (of_part src o)) (part_size o)
+part_sized i s src o h =
+    field_sized i 0 (λ p. part src p.from p.count) (λ p. p.count) o s (λ p e. part_counts src p (rw e at h)) (λ p. none_spared p.count)
+
+pub cause_sized : (i : ℕ) → (row_of i).spare ≡ 0 → (src : List ℕ) (o : Option RejectCause) → phrase_lies src o ≡ true →
+    Sized (optional i (of_cause src o)) (cause_size o)
+cause_sized i s src o h =
+    field_sized i 0 (λ c. octets16 c.cause ++ part src c.phrase.from c.phrase.count) (λ c. c.phrase.count + 2) o s
+    (λ c e. cause_counts src c (rw e at h)) (λ c. none_spared (c.phrase.count + 2))
+
+-- where a field's text lies in the source, as the function that lays the field asks
+pub part_there : (src : List ℕ) (o : Option Part) → part_lies src o ≡ true → IfSome o (λ p. leb (p.from + p.count) (length src) ≡ true)
+part_there src None h = tt
+part_there src (Some p) h = h
+
+pub phrase_there : (src : List ℕ) (o : Option RejectCause) → phrase_lies src o ≡ true →
+    IfSome o (λ c. leb (c.phrase.from + c.phrase.count) (length src) ≡ true)
+phrase_there src None h = tt
+phrase_there src (Some c) h = h

@@ -1,33 +1,29 @@
 -- How many octets each field takes, as the code sums them; document 01 needs none of it. Assumes nothing.
-use Rattle.std.specs.Prelude.{ℕ, ◌+◌}
+use Rattle.std.specs.Prelude.{ℕ, ◌+◌, Option, None, Some}
 use Rattle.message.specs.Table.{padded}
-use Rattle.message.specs.declared.Octet.{Octet}
-use Rattle.message.specs.declared.Word.{Word}
-use Rattle.message.specs.declared.Number.{Number}
-use Rattle.message.specs.declared.Queue.{Queue}
+use Rattle.message.specs.declared.QueueInfo.{QueueInfo}
 use Rattle.message.specs.declared.Part.{Part}
-use Rattle.message.specs.declared.Cause.{Cause}
+use Rattle.message.specs.declared.RejectCause.{RejectCause}
 
-abbrev pub octet_size : Octet → ℕ
-octet_size Octet.Absent = 0
-octet_size (Octet.Is n) = 4
+-- a field whose content has so many octets, and none where the message lacks it
+abbrev pub size_of : {X : Type 0} → (X → ℕ) → Option X → ℕ
+size_of count None = 0
+size_of count (Some x) = padded (count x)
 
-abbrev pub word_size : Word → ℕ
-word_size Word.Absent = 0
-word_size (Word.Is n) = 4
+abbrev pub octet_size : Option ℕ → ℕ
+octet_size o = size_of (λ n. 1) o
 
-abbrev pub queue_size : Queue → ℕ
-queue_size Queue.Absent = 0
-queue_size (Queue.Is position priority) = 4
+abbrev pub word_size : Option ℕ → ℕ
+word_size o = size_of (λ n. 2) o
 
-abbrev pub number_size : Number → ℕ
-number_size Number.Absent = 0
-number_size (Number.Is n) = 8
+abbrev pub queue_size : Option QueueInfo → ℕ
+queue_size o = size_of (λ q. 2) o
 
-abbrev pub part_size : Part → ℕ
-part_size Part.Absent = 0
-part_size (Part.At from count) = padded count
+abbrev pub number_size : Option ℕ → ℕ
+number_size o = size_of (λ n. 4) o
 
-abbrev pub cause_size : Cause → ℕ
-cause_size Cause.Absent = 0
-cause_size (Cause.Is cause from count) = padded (count + 2)
+abbrev pub part_size : Option Part → ℕ
+part_size o = size_of (λ p. p.count) o
+
+abbrev pub cause_size : Option RejectCause → ℕ
+cause_size o = size_of (λ c. c.phrase.count + 2) o

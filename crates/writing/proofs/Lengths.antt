@@ -58,8 +58,8 @@ module _ (m : Message) (src : List ℕ) (h : FieldsFit m src) where
       six
       (octet_sized 0 refl m.priority)
       (word_sized 1 refl m.duration)
-      (cause_sized src m.cause h.phrase)
-      (queue_sized m.queue)
+      (cause_sized 2 refl src m.cause h.phrase)
+      (queue_sized 3 refl m.queue)
       (part_sized 4 refl src m.granted h.granted)
       (word_sized 5 refl m.permission)
 
@@ -72,7 +72,7 @@ module _ (m : Message) (src : List ℕ) (h : FieldsFit m src) where
       (word_sized 10 refl m.source)
       (octet_sized 12 refl m.message_type)
       (word_sized 13 refl m.indicator)
-      (number_sized m.ssrc_field)
+      (number_sized 14 refl m.ssrc_field)
 
   pub body-length : length (body (fields_of m src)) ≡ front_size m + rest_size m
   body-length = rw (halves m src, length-append, front_length, rest-length)

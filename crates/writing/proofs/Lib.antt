@@ -2,3 +2,4 @@
 pub mod Lengths
 pub mod Ways
 pub mod Whole
+pub mod Spares

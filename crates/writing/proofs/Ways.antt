@@ -1,23 +1,19 @@
 -- The three ways in which the writer answers, and what it leaves in the room.
---     told_one   any two answers that say the same in the paper's numbers are one answer
 -- Assumes nothing.
 use Prim.Native.Nat.{ℕ, ◌≤◌, ◌<◌}
 use mathlib.Core.Bool.{true, false}
 use mathlib.Core.List.{List}
-use mathlib.Core.Path.{◌≡◌, ap}
+use mathlib.Core.Path.{◌≡◌}
 use lib.ListN.{length}
 use borrow.Author.Tests.{lt-ltb, le-ltb}
 use Rattle.words.specs.Choice.{when◌then◌else◌}
 use Rattle.octets.specs.Octets.{over}
 use Rattle.message.specs.Message.{said}
 use Rattle.message.specs.Answers.{refused, result}
-use Rattle.message.proofs.Answers.{refusal-one}
 use Rattle.message.specs.declared.Message.{Message}
-use Rattle.writing.specs.declared.Writing.{Writing}
-use Rattle.writing.specs.declared.Writing.TheVariants.{Written, Refused}
 use Rattle.writing.specs.Wire.{wire}
 use Rattle.readable.specs.Readable.{readable}
-use Rattle.writing.specs.Writing.{writing, written, writing_answer}
+use Rattle.writing.specs.Writing.{writing, written}
 
 module _ (m : Message) (src room : List ℕ) where
   -- 12
@@ -42,9 +38,3 @@ module _ (m : Message) (src room : List ℕ) where
   pub overwritten : {n : ℕ} → writing m src (length room) ≡ result n → written m src room ≡ over room 0 (wire (said m src))
   unfolding written
   overwritten e = rw e
-
-pub told_one : (a b : Writing) → writing_answer a ≡ writing_answer b → a ≡ b
-told_one (Written n) (Written k) e = ap Written (cc)
-told_one (Written n) (Refused r) e = cc
-told_one (Refused r) (Written k) e = cc
-told_one (Refused r) (Refused s) e = ap Refused (refusal-one r s e)

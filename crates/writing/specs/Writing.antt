@@ -1,14 +1,13 @@
 -- What the writer answers and what it leaves in the room (document 01, "What is answered to packets": 12, then 13). Assumes nothing.
-use Rattle.std.specs.Prelude.{ℕ, not, List, ◌≡◌, ltb, length}
+use Rattle.std.specs.Prelude.{ℕ, not, List, ◌≡◌, ltb, length, Result}
 use Rattle.words.specs.Choice.{when◌then◌else◌}
 use Rattle.octets.specs.Octets.{over}
 use Rattle.message.specs.Message.{said}
-use Rattle.message.specs.Answers.{Answer, refused, result, refusal_number}
+use Rattle.message.specs.Answers.{Answer, refused, result, in_numbers}
 use Rattle.message.specs.declared.Message.{Message}
 use Rattle.readable.specs.Readable.{readable}
 use Rattle.writing.specs.Wire.{wire}
-use Rattle.writing.specs.declared.Writing.{Writing}
-use Rattle.writing.specs.declared.Writing.TheVariants.{Written, Refused}
+use Rattle.message.specs.declared.Refusal.{Refusal}
 
 -- 12 (writer) a message that no reader would accept; 13 the lent room is shorter than the whole result; else how many octets it has
 unfoldable pub writing : Message → List ℕ → ℕ → Answer ℕ
@@ -26,13 +25,12 @@ unfoldable pub written : Message → List ℕ → List ℕ → List ℕ
 written m src room = left (writing m src (length room)) (wire (said m src)) room
 
 -- the writer's answer in the paper's numbers
-abbrev pub writing_answer : Writing → Answer ℕ
-writing_answer (Written n) = result n
-writing_answer (Refused r) = refused (refusal_number r)
+abbrev pub writing_answer : Result ℕ Refusal → Answer ℕ
+writing_answer answer = in_numbers answer
 
 -- what every writer promises of its answer and of the room as it leaves it; of two such results `packet_laws` proves that they are one
-abbrev pub Tells : Answer ℕ → List ℕ → Writing → List ℕ → Type 0
+abbrev pub Tells : Answer ℕ → List ℕ → Result ℕ Refusal → List ℕ → Type 0
 Tells said leaves answer after = (writing_answer answer ≡ said) × (after ≡ leaves)
 
-abbrev pub Writes : Message → List ℕ → List ℕ → Writing → List ℕ → Type 0
+abbrev pub Writes : Message → List ℕ → List ℕ → Result ℕ Refusal → List ℕ → Type 0
 Writes m src room answer after = Tells (writing m src (length room)) (written m src room) answer after

@@ -3,6 +3,9 @@ use native.Mathlib.Omega.{arith}
 use Rattle.writing.proofs.Lengths.{front_whole}
 use Rattle.writing.proofs.front_size.Goals as goal
 
+pub overflow_add-result : goal.overflow_add-result
+overflow_add-result c = omega (arith, (front_whole c.args.m c.requires).small)
+
 pub overflow_add-result-2 : goal.overflow_add-result-2
 overflow_add-result-2 c = omega (arith, (front_whole c.args.m c.requires).small)
 

@@ -1,5 +1,4 @@
--- `writing::write` keeps its promise, `Writes m src.now room.old result room.new`. Writes a message into the lent room, its identities and
--- its phrase out of the lent source, and answers how many octets it has. Assumes nothing.
+-- `writing::write` keeps its promise, `Writes m src.now room.old result room.new`. Assumes nothing.
 use Prim.Native.Nat.{ℕ}
 use mathlib.Core.Bool.{true}
 use mathlib.Core.Path.{◌≡◌, ap, sym, ◌∙◌}
@@ -13,19 +12,19 @@ use Rattle.writing.proofs.write.Goals as goal
 
 pub size_of-size-requires : goal.size_of-size-requires
 size_of-size-requires c =
-    let read : readable c.args.m c.args.src.now ≡ true = sym c.readable.ensures ∙ c.if-readable.true in
+    let read : readable c.args.m c.args.src.now ≡ true = sym c.readable.ensures ∙ c.if-not-readable.false in
     (held_by c.args.m c.args.src.now read).short
 
 pub returns-then-room-size : goal.returns-then-room-size
 returns-then-room-size c =
-    let read : readable c.args.m c.args.src.now ≡ true = sym c.readable.ensures ∙ c.if-readable.true in
+    let read : readable c.args.m c.args.src.now ≡ true = sym c.readable.ensures ∙ c.if-not-readable.false in
     refused_13 c.args.m
     c.args.src.now c.args.room.now
     read c.size_of-size.ensures c.if-room-size.true
 
 pub put_header-requires : goal.put_header-requires
 put_header-requires c =
-    let read : readable c.args.m c.args.src.now ≡ true = sym c.readable.ensures ∙ c.if-readable.true in
+    let read : readable c.args.m c.args.src.now ≡ true = sym c.readable.ensures ∙ c.if-not-readable.false in
     let w =
     size_whole c.args.m
     c.args.src.now
@@ -35,10 +34,11 @@ put_header-requires c =
 
 pub put_front-at-requires : goal.put_front-at-requires
 put_front-at-requires c =
-    let read : readable c.args.m c.args.src.now ≡ true = sym c.readable.ensures ∙ c.if-readable.true in
+    let read : readable c.args.m c.args.src.now ≡ true = sym c.readable.ensures ∙ c.if-not-readable.false in
     let a = c.args in
     let headed_is =
-    c.put_header.ensures ∙ ap (λ (first : ℕ). over a.room.now 0 (headed first a.m.ssrc c.size_of-size.result)) c.first_octet.ensures in
+    c.put_header.ensures ∙ ap (λ (first : ℕ). over a.room.now 0 (headed first a.m.ssrc c.size_of-size.result))
+    c.first_octet-first.ensures in
     record {
       fields_fit = held_by a.m a.src.now read;
       src_in_bounds = front_fits c.args.m
@@ -51,10 +51,11 @@ put_front-at-requires c =
 
 pub put_rest-requires : goal.put_rest-requires
 put_rest-requires c =
-    let read : readable c.args.m c.args.src.now ≡ true = sym c.readable.ensures ∙ c.if-readable.true in
+    let read : readable c.args.m c.args.src.now ≡ true = sym c.readable.ensures ∙ c.if-not-readable.false in
     let a = c.args in
     let headed_is =
-    c.put_header.ensures ∙ ap (λ (first : ℕ). over a.room.now 0 (headed first a.m.ssrc c.size_of-size.result)) c.first_octet.ensures in
+    c.put_header.ensures ∙ ap (λ (first : ℕ). over a.room.now 0 (headed first a.m.ssrc c.size_of-size.result))
+    c.first_octet-first.ensures in
     record {
       fields_fit = held_by a.m a.src.now
           read;
@@ -65,12 +66,13 @@ put_rest-requires c =
           headed_is c.put_front-at.ensures;
     }
 
-pub returns-else-room-size : goal.returns-else-room-size
-returns-else-room-size c =
-    let read : readable c.args.m c.args.src.now ≡ true = sym c.readable.ensures ∙ c.if-readable.true in
+pub returns : goal.returns
+returns c =
+    let read : readable c.args.m c.args.src.now ≡ true = sym c.readable.ensures ∙ c.if-not-readable.false in
     let a = c.args in
     let headed_is =
-    c.put_header.ensures ∙ ap (λ (first : ℕ). over a.room.now 0 (headed first a.m.ssrc c.size_of-size.result)) c.first_octet.ensures in
+    c.put_header.ensures ∙ ap (λ (first : ℕ). over a.room.now 0 (headed first a.m.ssrc c.size_of-size.result))
+    c.first_octet-first.ensures in
     laid_whole c.args.m
     c.args.src.now
     c.args.room.now
@@ -78,7 +80,7 @@ returns-else-room-size c =
     c.put_front-at.ensures
     c.put_rest.ensures
 
-pub returns-else-readable : goal.returns-else-readable
-returns-else-readable c =
+pub returns-then-not-readable : goal.returns-then-not-readable
+returns-then-not-readable c =
     refused_12 c.args.m c.args.src.now
-    c.args.room.now (sym c.readable.ensures ∙ c.if-readable.false)
+    c.args.room.now (sym c.readable.ensures ∙ c.if-not-readable.true)
