@@ -1,14 +1,11 @@
 -- The sixteen seats and the settings of document 01, "The desk", without the identities. Assumes nothing.
 use Rattle.std.specs.Prelude.{ℕ, zero, suc, Bool, true, false, not, ◌&&◌, List, [], ◌∷◌, leb, eqb, get_or, set, replicate}
+use Rattle.std.specs.Prelude.{Option, Some, None}
 use Rattle.words.specs.Choice.{when◌then◌else◌}
 use Rattle.hall.specs.declared.Settings.{Settings}
 use Rattle.hall.specs.declared.Flags.{Flags}
 use Rattle.hall.specs.declared.Hall.{Hall}
 use Rattle.hall.specs.declared.Newcomer.{Newcomer}
-use Rattle.hall.specs.declared.Asked.{Asked}
-use Rattle.hall.specs.declared.Asked.TheVariants.{Priority, NoField}
-use Rattle.hall.specs.declared.Found.{Found}
-use Rattle.hall.specs.declared.Found.TheVariants.{At, Nowhere}
 
 -- the settings of a desk, and what a newcomer says of itself, from their parts
 abbrev pub settings_of : ℕ → ℕ → ℕ → ℕ → ℕ → ℕ → ℕ → Settings
@@ -68,41 +65,37 @@ alone h s = not (someone (others h s))
 
 -- The effective priority: what was asked, but at most the seat's highest. "A request without the field counts as that level, still capped
 -- by the seat's highest" (document 02, #101): the normal level. A field that says 0 is 0.
-abbrev pub asked : ℕ → Asked → ℕ
-asked normal (Priority p) = p
-asked normal NoField = normal
+abbrev pub asked : ℕ → Option ℕ → ℕ
+asked normal (Some p) = p
+asked normal None = normal
 
 abbrev pub lower : ℕ → ℕ → ℕ
 lower a b = when leb a b then a else b
 
-unfoldable pub effective : Hall → ℕ → Asked → ℕ
+unfoldable pub effective : Hall → ℕ → Option ℕ → ℕ
 effective h s a = lower (asked h.settings.normal a) (get_or h.highest s 0)
 
 -- the lowest seat for which a test holds
-abbrev pub first_from : (ℕ → Bool) → ℕ → ℕ → Found
-first_from test zero s = Nowhere
-first_from test (suc n) s = when test s then At s else first_from test n (suc s)
+abbrev pub first_from : (ℕ → Bool) → ℕ → ℕ → Option ℕ
+first_from test zero s = None
+first_from test (suc n) s = when test s then Some s else first_from test n (suc s)
 
-abbrev pub lowest : (ℕ → Bool) → Found
+abbrev pub lowest : (ℕ → Bool) → Option ℕ
 lowest test = first_from test 16 0
 
--- whether a search found a seat, and whether it found this one
-abbrev pub is_at : Found → Bool
-is_at (At s) = true
-is_at Nowhere = false
-
-abbrev pub finds : Found → ℕ → Bool
-finds (At t) s = eqb t s
-finds Nowhere s = false
+-- whether a search found this seat
+abbrev pub finds : Option ℕ → ℕ → Bool
+finds (Some t) s = eqb t s
+finds None s = false
 
 -- packets and media name their seat by SSRC
 abbrev pub has_ssrc : Hall → ℕ → ℕ → Bool
 has_ssrc h x s = is_present h s && eqb (get_or h.ssrcs s 0) x
 
-unfoldable pub seat_of : Hall → ℕ → Found
+unfoldable pub seat_of : Hall → ℕ → Option ℕ
 seat_of h x = lowest (has_ssrc h x)
 
-unfoldable pub free_seat : Hall → Found
+unfoldable pub free_seat : Hall → Option ℕ
 free_seat h = lowest (λ s. not (is_present h s))
 
 -- the hall once a seat is what is told of it

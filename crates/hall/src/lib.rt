@@ -1,15 +1,14 @@
 // The hall of a call: its sixteen seats, its settings, and what a desk answers (document 01, "The desk"). The names of those who sit there
 // stand apart, in the crate identities: no step of a running call reads one.
-#![tactic(auto)]
+#![tactic(auto, using(std::proofs::lemmas::Bool::Decides::nat_tests), unfolding(crate::proofs::Looking::looking))]
 
 ghost use Rattle.std.specs.Prelude.{◌≡◌, true, false, get_or, set};
-ghost use Rattle.hall.specs.Seats.{settings_of, newcomer_of, no_flags, in_range, empty_hall, is_present, flags_at, queues, receives_only, only, others, alone, asked, effective, seat_of, free_seat, with_seat, vacated};
-ghost use Rattle.hall.specs.Answers.{answer_number, settings_answer};
+ghost use Rattle.hall.specs.Seats.{settings_of, newcomer_of, in_range, empty_hall, is_present, flags_at, queues, receives_only, only, others, alone, asked, effective, seat_of, free_seat, with_seat, vacated};
+ghost use Rattle.hall.specs.Answers.{desk_refusal_number, answer_number, settings_answer};
 
-// What a desk answers; specs/Answers.antt has the paper's number of each.
+// Why a desk refuses; specs/Answers.antt has the paper's number of each.
 #[derive(Clone, Copy)]
-pub enum Answer {
-    Done,
+pub enum Refusal {
     CallStopped,
     NoSuchSeat,
     NotExpected,
@@ -21,6 +20,9 @@ pub enum Answer {
     // A packet that was not read: the reader's number.
     NotRead(u8),
 }
+
+// What a desk answers: that it is done, or why not.
+pub type Answer = Result<(), Refusal>;
 
 // A set of seats.
 pub type Seats = [bool; 16];
@@ -62,7 +64,7 @@ pub const NO_FLAGS: Flags = Flags {
     receive_only: false,
 };
 
-// The seats, a column for each thing known of them; a free seat has zeros.
+// The seats, a column for each thing known of them, as every definition and the desk's octets have them; a free seat has zeros.
 #[derive(Clone, Copy)]
 pub struct Hall {
     pub present: [bool; 16],
@@ -78,19 +80,6 @@ pub struct Newcomer {
     pub ssrc: u32,
     pub highest: u8,
     pub flags: Flags,
-}
-
-// The priority a request asks for. That the field is missing is a case of its own.
-#[derive(Clone, Copy)]
-pub enum Asked {
-    Priority(u8),
-    NoField,
-}
-
-#[derive(Clone, Copy)]
-pub enum Found {
-    At(u8),
-    Nowhere,
 }
 
 // The settings of a desk, and a newcomer, from their parts: what makes one comes through here.
@@ -127,79 +116,24 @@ pub fn newcomer_of(ssrc: u32, highest: u8, flags: Flags) -> Newcomer
     }
 }
 
-// A column at a seat, and a column with one seat's value stored.
+// A column at a seat, and a column with one seat's value stored: the names, which stand apart, are a column too.
 
-fn flag(column: [bool; 16], seat: u8) -> bool
-    ensures { result ≡ get_or column seat false }
+pub fn column_at<T: Copy>(column: [T; 16], seat: u8, free: T) -> T
+    ensures { result ≡ get_or column seat free }
 {
     let s = seat as usize;
-    if s < 16 { column[s] } else { false }
+    if s < 16 { column[s] } else { free }
 }
 
-fn octet(column: [u8; 16], seat: u8) -> u8
-    ensures { result ≡ get_or column seat 0 }
-{
-    let s = seat as usize;
-    if s < 16 { column[s] } else { 0 }
-}
-
-fn flags_in(column: [Flags; 16], seat: u8) -> Flags
-    ensures { result ≡ get_or column seat no_flags }
-{
-    let s = seat as usize;
-    if s < 16 { column[s] } else { NO_FLAGS }
-}
-
-fn with_flag(column: [bool; 16], seat: u8, value: bool) -> [bool; 16]
+pub fn with_value<T: Copy>(column: [T; 16], seat: u8, value: T) -> [T; 16]
     ensures { result ≡ set column seat value }
 {
     let s = seat as usize;
+    let mut more = column;
     if s < 16 {
-        let mut more = column;
         more[s] = value;
-        more
-    } else {
-        column
     }
-}
-
-fn with_octet(column: [u8; 16], seat: u8, value: u8) -> [u8; 16]
-    ensures { result ≡ set column seat value }
-{
-    let s = seat as usize;
-    if s < 16 {
-        let mut more = column;
-        more[s] = value;
-        more
-    } else {
-        column
-    }
-}
-
-fn with_word(column: [u32; 16], seat: u8, value: u32) -> [u32; 16]
-    ensures { result ≡ set column seat value }
-{
-    let s = seat as usize;
-    if s < 16 {
-        let mut more = column;
-        more[s] = value;
-        more
-    } else {
-        column
-    }
-}
-
-fn with_flags(column: [Flags; 16], seat: u8, value: Flags) -> [Flags; 16]
-    ensures { result ≡ set column seat value }
-{
-    let s = seat as usize;
-    if s < 16 {
-        let mut more = column;
-        more[s] = value;
-        more
-    } else {
-        column
-    }
+    more
 }
 
 // Settings and the empty hall.
@@ -207,19 +141,11 @@ fn with_flags(column: [Flags; 16], seat: u8, value: Flags) -> [Flags; 16]
 pub fn in_range(settings: Settings) -> bool
     ensures { result ≡ in_range settings }
 {
-    if settings.level < 1 {
-        return false;
-    }
-    if 15 < settings.limit {
-        return false;
-    }
-    if settings.c7 < 1 {
-        return false;
-    }
-    if settings.c20 < 1 {
-        return false;
-    }
-    1 <= settings.duration
+    1 <= settings.level
+        && settings.limit <= 15
+        && 1 <= settings.c7
+        && 1 <= settings.c20
+        && 1 <= settings.duration
 }
 
 // The answer to settings that a desk is to be made with.
@@ -227,42 +153,49 @@ pub fn check_settings(settings: Settings) -> Answer
     ensures { result ≡ settings_answer settings }
 {
     if in_range(settings) {
-        Answer::Done
+        Ok(())
     } else {
-        Answer::OutsideRange
+        Err(Refusal::OutsideRange)
     }
 }
 
-// The paper's number of an answer.
+// The paper's number of a refusal, and of an answer.
+
+impl From<Refusal> for u8 {
+    ghost from_gives = { λ refusal number. number ≡ desk_refusal_number refusal };
+
+    fn from(refusal: Refusal) -> u8 {
+        match refusal {
+            Refusal::CallStopped => 21,
+            Refusal::NoSuchSeat => 22,
+            Refusal::NotExpected => 23,
+            Refusal::AllSeatsTaken => 24,
+            Refusal::IdentityLength => 25,
+            Refusal::IdentityPresent => 26,
+            Refusal::SsrcPresent => 27,
+            Refusal::OutsideRange => 28,
+            Refusal::NotRead(n) => n,
+        }
+    }
+}
+
 pub fn number_of(answer: Answer) -> u8
     ensures { result ≡ answer_number answer }
 {
     match answer {
-        Answer::Done => 0,
-        Answer::CallStopped => 21,
-        Answer::NoSuchSeat => 22,
-        Answer::NotExpected => 23,
-        Answer::AllSeatsTaken => 24,
-        Answer::IdentityLength => 25,
-        Answer::IdentityPresent => 26,
-        Answer::SsrcPresent => 27,
-        Answer::OutsideRange => 28,
-        Answer::NotRead(n) => n,
+        Ok(()) => 0,
+        Err(refusal) => u8::from(refusal),
     }
 }
 
 pub fn empty_hall(settings: Settings) -> Hall
     ensures { result ≡ empty_hall settings }
 {
-    let present = [false; 16];
-    let ssrcs = [0u32; 16];
-    let highest = [0u8; 16];
-    let flags = [NO_FLAGS; 16];
     Hall {
-        present,
-        ssrcs,
-        highest,
-        flags,
+        present: [false; 16],
+        ssrcs: [0; 16],
+        highest: [0; 16],
+        flags: [NO_FLAGS; 16],
         settings,
     }
 }
@@ -272,50 +205,42 @@ pub fn empty_hall(settings: Settings) -> Hall
 pub fn is_present(hall: Hall, seat: u8) -> bool
     ensures { result ≡ is_present hall seat }
 {
-    let column = hall.present;
-    flag(column, seat)
+    column_at(hall.present, seat, false)
 }
 
 pub fn flags_at(hall: Hall, seat: u8) -> Flags
     ensures { result ≡ flags_at hall seat }
 {
-    let column = hall.flags;
-    flags_in(column, seat)
+    column_at(hall.flags, seat, NO_FLAGS)
 }
+
+// The two flags by their names, as the rules ask for them.
 
 pub fn negotiated_queueing(hall: Hall, seat: u8) -> bool
     ensures { result ≡ queues hall seat }
 {
-    let flags = flags_at(hall, seat);
-    flags.queueing
+    flags_at(hall, seat).queueing
 }
 
 pub fn receives_only(hall: Hall, seat: u8) -> bool
     ensures { result ≡ receives_only hall seat }
 {
-    let flags = flags_at(hall, seat);
-    flags.receive_only
+    flags_at(hall, seat).receive_only
 }
 
 // What a request asks for: the priority that its field says, 0 too, or the normal level where it has no field.
-fn asked_priority(normal: u8, wish: Asked) -> u8
+fn asked_priority(normal: u8, wish: Option<u8>) -> u8
     ensures { result ≡ asked normal wish }
 {
-    match wish {
-        Asked::Priority(p) => p,
-        Asked::NoField => normal,
-    }
+    wish.unwrap_or(normal)
 }
 
 // The effective priority: the lower of the one asked and the seat's highest.
-pub fn effective_priority(hall: Hall, seat: u8, wish: Asked) -> u8
+pub fn effective_priority(hall: Hall, seat: u8, wish: Option<u8>) -> u8
     ensures { result ≡ effective hall seat wish }
 {
-    let column = hall.highest;
-    let highest = octet(column, seat);
-    let settings = hall.settings;
-    let wanted = asked_priority(settings.normal, wish);
-    if wanted <= highest { wanted } else { highest }
+    let highest = column_at(hall.highest, seat, 0);
+    asked_priority(hall.settings.normal, wish).min(highest)
 }
 
 // Sets of seats.
@@ -323,85 +248,46 @@ pub fn effective_priority(hall: Hall, seat: u8, wish: Asked) -> u8
 pub fn only_seat(seat: u8) -> Seats
     ensures { result ≡ only seat }
 {
-    let nobody = [false; 16];
-    with_flag(nobody, seat, true)
+    with_value([false; 16], seat, true)
 }
 
 pub fn all_others(hall: Hall, seat: u8) -> Seats
     ensures { result ≡ others hall seat }
 {
-    let present = hall.present;
-    with_flag(present, seat, false)
+    with_value(hall.present, seat, false)
 }
 
 // Whether no other seat is present.
 pub fn is_alone(hall: Hall, seat: u8) -> bool
     ensures { result ≡ alone hall seat }
 {
-    let company = all_others(hall, seat);
-    let mut s: u8 = 0;
-    while s < 16 {
-        if flag(company, s) {
-            return false;
-        }
-        s += 1;
-    }
-    true
+    !all_others(hall, seat).contains(&true)
 }
 
 // Seats looked for: by SSRC, and a free one; the lowest counts.
 
-// The test is the loop's one way out: with a return inside, compilers unroll it and load every seat, whatever the event.
-pub fn seat_of(hall: Hall, ssrc: u32) -> Found
+pub fn seat_of(hall: Hall, ssrc: u32) -> Option<u8>
     ensures { result ≡ seat_of hall ssrc }
 {
-    let present = hall.present;
-    let ssrcs = hall.ssrcs;
-    let mut found = false;
-    let mut s: usize = 0;
-    while (s < 16) & !found {
-        found = present[s] & (ssrcs[s] == ssrc);
-        s += 1;
-    }
-    if found {
-        Found::At((s - 1) as u8)
-    } else {
-        Found::Nowhere
-    }
+    (0..16).find(|s: &u8| is_present(hall, *s) && column_at(hall.ssrcs, *s, 0) == ssrc)
 }
 
-pub fn free_seat(hall: Hall) -> Found
+pub fn free_seat(hall: Hall) -> Option<u8>
     ensures { result ≡ free_seat hall }
 {
-    let mut s: u8 = 0;
-    while s < 16 {
-        if !is_present(hall, s) {
-            return Found::At(s);
-        }
-        s += 1;
-    }
-    Found::Nowhere
+    (0..16).find(|s: &u8| !is_present(hall, *s))
 }
 
 // The hall once a seat is what is told of it; join, leave and a sheet all come through here.
 pub fn with_seat(hall: Hall, seat: u8, here: bool, who: Newcomer) -> Hall
     ensures { result ≡ with_seat hall seat here who }
 {
-    let present = hall.present;
-    let present = with_flag(present, seat, here);
-    let ssrcs = hall.ssrcs;
-    let ssrcs = with_word(ssrcs, seat, who.ssrc);
-    let highest = hall.highest;
-    let highest = with_octet(highest, seat, who.highest);
-    let flags = hall.flags;
-    let flags = with_flags(flags, seat, who.flags);
-    let settings = hall.settings;
     Hall {
-        present,
-        ssrcs,
-        highest,
-        flags,
-        settings,
+        present: with_value(hall.present, seat, here),
+        ssrcs: with_value(hall.ssrcs, seat, who.ssrc),
+        highest: with_value(hall.highest, seat, who.highest),
+        flags: with_value(hall.flags, seat, who.flags),
+        settings: hall.settings,
     }
 }
 

@@ -5,11 +5,11 @@ use mathlib.Core.Path.{◌≡◌, refl, ap, sym, ◌∙◌}
 use mathlib.Core.Bool.{Bool, true, false, ◌&&◌}
 use mathlib.Core.List.{List, [], ◌∷◌}
 use lib.Dec.{eqb}
+use Rattle.std.specs.Cmp.Lexicographic.{pointwise}
 use borrow.Author.Tests.{eqb-true, eq-eqb}
 use Rattle.words.specs.Choice.{when◌then◌else◌, by_test}
 use Rattle.words.proofs.Tests.{clash}
-use Rattle.hall.specs.declared.Found.{Found}
-use Rattle.hall.specs.declared.Found.TheVariants.{At}
+use Rattle.std.specs.Prelude.{Option, Some}
 use Rattle.hall.specs.declared.Hall.{Hall}
 use Rattle.hall.specs.Seats.{is_present, first_from}
 use Rattle.identities.specs.declared.Names.{Names}
@@ -19,6 +19,14 @@ pub same_self : Reflexive
 unfolding same when◌then◌else◌
 same_self [] = refl
 same_self (x ∷ a) = rw (eq-eqb x x refl) (same_self a)
+
+-- the slices' own comparison
+pub same_pointwise : (a b : List ℕ) → pointwise eqb a b ≡ same a b
+unfolding same when◌then◌else◌
+same_pointwise [] [] = refl
+same_pointwise [] (y ∷ b) = refl
+same_pointwise (x ∷ a) [] = refl
+same_pointwise (x ∷ a) (y ∷ b) = by_test (eqb x y) (λ t. rw t (same_pointwise a b)) (λ t. rw t)
 
 -- octet for octet is the same list
 same_is : (a b : List ℕ) → same a b ≡ true → a ≡ b
@@ -55,9 +63,9 @@ module _ (h : Hall) (ns : Names) (a b : List ℕ) (q : same a b ≡ true) where
   alike_from : (n s : ℕ) → first_from (has_name h ns a) n s ≡ first_from (has_name h ns b) n s
   alike_from zero s = refl
   alike_from (suc n) s =
-      ap (λ (t : Bool). when (is_present h s && t) then At s else first_from (has_name h ns a) n (suc s))
+      ap (λ (t : Bool). when (is_present h s && t) then Some s else first_from (has_name h ns a) n (suc s))
       (same_alike (octets_of (name_at ns s)) a b q)
-      ∙ ap (λ (f : Found). when has_name h ns b s then At s else f) (alike_from n (suc s))
+      ∙ ap (λ (f : Option ℕ). when has_name h ns b s then Some s else f) (alike_from n (suc s))
 
 pub found_alike : FoundAlike
 unfolding seat_named

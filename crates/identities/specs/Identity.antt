@@ -1,11 +1,10 @@
 -- Identities (document 01, "The desk", 25 and 26): 1 to 62 octets, kept in an array of 62 with zeros behind them. Assumes nothing.
-use Rattle.std.specs.Prelude.{ℕ, Bool, true, false, ◌&&◌, List, [], ◌∷◌, ◌≡◌, leb, eqb, length, take, get_or, set, replicate}
+use Rattle.std.specs.Prelude.{ℕ, Bool, true, false, ◌&&◌, List, [], ◌∷◌, ◌≡◌, leb, eqb, length, take, get_or, set, replicate, Option}
 use Rattle.words.specs.Choice.{when◌then◌else◌}
 use Rattle.words.specs.Table.{padded}
 use Rattle.identities.specs.declared.Name.{Name}
 use Rattle.identities.specs.declared.Names.{Names}
 use Rattle.hall.specs.declared.Hall.{Hall}
-use Rattle.hall.specs.declared.Found.{Found}
 use Rattle.hall.specs.Seats.{lowest, is_present}
 
 unfoldable pub octets_of : Name → List ℕ
@@ -53,7 +52,7 @@ Transitive = (a b c : List ℕ) → same a b ≡ true → same b c ≡ true → 
 abbrev pub has_name : Hall → Names → List ℕ → ℕ → Bool
 has_name h ns o s = is_present h s && same (octets_of (name_at ns s)) o
 
-unfoldable pub seat_named : Hall → Names → List ℕ → Found
+unfoldable pub seat_named : Hall → Names → List ℕ → Option ℕ
 seat_named h ns o = lowest (has_name h ns o)
 
 -- who looks for the same identity finds the same seat

@@ -2,11 +2,12 @@
 // nowhere else.
 #![tactic(auto)]
 
-ghost use Rattle.std.specs.Prelude.{◌≡◌, ◌≤◌, length, get_or};
+ghost use Rattle.std.specs.Prelude.{◌≡◌, ◌≤◌, length};
 ghost use Rattle.identities.specs.Identity.{octets_of, name_of, no_names, name_at, with_name, same, seat_named, length_allowed};
 
-use hall::{Found, Hall};
+use hall::Hall;
 
+// An identity: an array with its length, since the desk has no heap.
 #[derive(Clone, Copy)]
 pub struct Name {
     pub octets: [u8; 62],
@@ -18,63 +19,54 @@ pub struct Names {
     pub of: [Name; 16],
 }
 
+// A free seat's.
+pub const NO_NAME: Name = Name {
+    octets: [0; 62],
+    len: 0,
+};
+
+#[tactic(auto, unfolding(crate::specs::Identity::no_names))]
 pub fn no_names() -> Names
     ensures { result ≡ no_names }
 {
-    let octets = [0u8; 62];
-    let name = Name { octets, len: 0 };
-    let of = [name; 16];
-    Names { of }
+    Names { of: [NO_NAME; 16] }
 }
 
-// How long a name is, and the octets of an identity one by one.
+// How long a name is, and its octets.
 
 pub fn name_length(name: Name) -> usize
     ensures { (result ≡ length (octets_of name)) × (result ≤ 62) }
 {
-    if name.len < 62 { name.len } else { 62 }
+    name.len.min(62)
 }
 
-fn octet_at(identity: &[u8], i: usize) -> u8
-    ensures { result ≡ get_or identity.now i 0 }
+fn octets_of(name: &Name) -> &[u8]
+    ensures { result.now ≡ octets_of name.now }
 {
-    if i < identity.len() { identity[i] } else { 0 }
+    &name.octets[..name_length(*name)]
 }
 
 pub fn name_at(names: Names, seat: u8) -> Name
     ensures { result ≡ name_at names seat }
 {
-    let s = seat as usize;
-    if s < 16 {
-        names.of[s]
-    } else {
-        let octets = [0u8; 62];
-        Name { octets, len: 0 }
-    }
+    hall::column_at(names.of, seat, NO_NAME)
 }
 
+#[tactic(auto, unfolding(crate::specs::Identity::with_name))]
 pub fn with_name(names: Names, seat: u8, name: Name) -> Names
     ensures { result ≡ with_name names seat name }
 {
-    let s = seat as usize;
-    let mut of = names.of;
-    if s < 16 {
-        of[s] = name;
-        Names { of }
-    } else {
-        names
+    Names {
+        of: hall::with_value(names.of, seat, name),
     }
 }
 
 pub fn name_of(identity: &[u8]) -> Name
     ensures { result ≡ name_of identity.now }
 {
-    let mut octets = [0u8; 62];
-    let mut i = 0;
-    while i < 62 {
-        octets[i] = octet_at(identity, i);
-        i += 1;
-    }
+    let mut octets = [0; 62];
+    let kept = identity.len().min(62);
+    octets[..kept].copy_from_slice(&identity[..kept]);
     Name {
         octets,
         len: identity.len(),
@@ -85,44 +77,20 @@ pub fn name_of(identity: &[u8]) -> Name
 fn is_same(name: Name, identity: &[u8]) -> bool
     ensures { result ≡ same (octets_of name) identity.now }
 {
-    let n = identity.len();
-    if name_length(name) != n {
-        return false;
-    }
-    let mut i = 0;
-    while i < n {
-        if name.octets[i] != identity[i] {
-            return false;
-        }
-        i += 1;
-    }
-    true
+    octets_of(&name) == identity
 }
 
-// As in hall::seat_of, and of each seat only its own name is copied.
-pub fn seat_named(hall: Hall, names: Names, identity: &[u8]) -> Found
+pub fn seat_named(hall: Hall, names: Names, identity: &[u8]) -> Option<u8>
     ensures { result ≡ seat_named hall names identity.now }
 {
-    let present = hall.present;
-    let all = names.of;
-    let mut found = false;
-    let mut s: usize = 0;
-    while (s < 16) & !found {
-        let name = all[s];
-        found = present[s] & is_same(name, identity);
-        s += 1;
-    }
-    if found {
-        Found::At((s - 1) as u8)
-    } else {
-        Found::Nowhere
-    }
+    (0..16).find(|s: &u8| hall::is_present(hall, *s) && is_same(name_at(names, *s), identity))
 }
 
 // 25.
+#[tactic(auto, using(std::proofs::lemmas::Bool::Decides::nat_tests), unfolding(crate::specs::Identity::length_allowed))]
 pub fn allowed_length(identity: &[u8]) -> bool
     ensures { result ≡ length_allowed identity.now }
 {
     let n = identity.len();
-    if n < 1 { false } else { n <= 62 }
+    1 <= n && n <= 62
 }

@@ -1,39 +1,36 @@
 -- Laws of the line's definitions that the proofs of its functions, and those above them, cite. Assumes nothing.
-use Prim.Native.Nat.{ℕ, zero, suc, ◌+◌, ◌≤◌, ◌<◌, ◌-◌, min}
+use Prim.Native.Nat.{ℕ, zero, suc, ◌+◌, ◌≤◌, ◌<◌}
 use mathlib.Core.Path.{◌≡◌, refl, ap, sym, ◌∙◌}
 use mathlib.Core.Bool.{Bool, true, false}
 use mathlib.Core.List.{List, [], ◌∷◌, ◌++◌, append-nil}
-use native.Mathlib.Numerals.{add-one, unary_clauses}
+use native.Mathlib.Numerals.{add-one}
 use native.Mathlib.Omega.{arith}
+use Rattle.std.specs.Prelude.{Option}
+use Rattle.std.specs.Option.{MatchOption, unwrap_or}
+use Rattle.std.specs.List.{AllWithin, HoldsAt, list_any}
+use Rattle.std.proofs.lemmas.Iterator.{index_from_first}
 use lib.Dec.{eqb, leb}
-use lib.ListN.{length, take, drop, get_or, set, replicate, length-take, length-append, length-drop, drop_of_length-le, get_or-append}
-use lib.Seq.{drop-cons, take-suc, take_all, take-take, take-append_seam, take-set-lt, get_or-append-add, get_or-take, get_or-drop}
-use lib.Seq.{get_or_at}
+use lib.ListN.{length, take, drop, get_or, set, replicate, length-take, length-append, length-drop}
+use lib.Seq.{take-suc, take_all, take-take, take-append_seam, take-set-lt}
 use Rattle.words.specs.Choice.{when◌then◌else◌, if_yes, if_no, by_test}
 use Rattle.words.specs.Table as table
 use Rattle.line.specs.declared.Entry.{Entry}
 use Rattle.line.specs.declared.Line.{Line}
-use Rattle.line.specs.Line.{waiting, line_of, empty, leading, before, ahead, enter, at_least, anyone, without, added}
+use Rattle.line.specs.Line.{waiting, line_of, empty, leading, before, ahead, enter, at_least, anyone, without}
 
--- a search from the front: what is left of it at a place
-module _ (test : Entry → Bool) (es : List Entry) (i : ℕ) where
-  pub leading_on : i < length es → test (get_or es i empty) ≡ true → i + leading test (drop i es) ≡ (i + 1) + leading test (drop (i + 1) es)
-  leading_on h e = rw (drop-cons es i empty h, if_yes _ _ _ e) (rw add-one (omega arith))
+-- what a search from the front finds
+pub leading_is : (test : Entry → Bool) (es : List Entry) (r : Option ℕ) →
+    MatchOption r (AllWithin (λ e. test e ≡ true) es 0 (length es))
+    (λ i. (i < length es) × HoldsAt (λ e. test e ≡ false) es i × AllWithin (λ e. test e ≡ true) es 0 i) →
+    leading test es ≡ unwrap_or r (length es)
+leading_is test =
+    index_from_first (leading test) (λ (e : Entry). test e ≡ false) (λ (e : Entry). test e ≡ true) refl (λ e es t. if_no _ _ _ t)
+    (λ e es t. if_yes _ _ _ t ∙ sym (add-one _))
 
-  pub leading-stops : i < length es → test (get_or es i empty) ≡ false → i + leading test (drop i es) ≡ i
-  leading-stops h e = rw (drop-cons es i empty h, if_no _ _ _ e) (omega arith)
-
-  pub leading-ends : length es ≤ i → i + leading test (drop i es) ≡ i
-  leading-ends h = rw (drop_of_length-le es h) (omega arith)
-
-  pub anyone_on : i < length es → test (get_or es i empty) ≡ false → anyone test (drop i es) ≡ anyone test (drop (i + 1) es)
-  anyone_on h e = rw (drop-cons es i empty h, if_no _ _ _ e, add-one)
-
-  pub anyone-stops : i < length es → test (get_or es i empty) ≡ true → anyone test (drop i es) ≡ true
-  anyone-stops h e = rw (drop-cons es i empty h, if_yes _ _ _ e)
-
-  pub anyone-ends : length es ≤ i → anyone test (drop i es) ≡ false
-  anyone-ends h = rw (drop_of_length-le es h)
+pub anyone_is : (test : Entry → Bool) (es : List Entry) → list_any test es ≡ anyone test es
+unfolding when◌then◌else◌
+anyone_is test [] = refl
+anyone_is test (e ∷ es) = by_test (test e) (λ t. rw t) (λ t. rw t (anyone_is test es))
 
 pub leading_le : (test : Entry → Bool) (es : List Entry) → leading test es ≤ length es
 leading_le test [] = omega arith
@@ -45,26 +42,17 @@ pub ahead_le : (p : ℕ) (es : List Entry) → ahead p es ≤ length es
 unfolding ahead
 ahead_le p es = leading_le (at_least p) es
 
-take_least : (n : ℕ) (es : List Entry) → take (min n (length es)) es ≡ take n es
-take_least zero es = simp unary_clauses refl
-take_least (suc n) [] = simp unary_clauses refl
-take_least (suc n) (e ∷ es) = simp unary_clauses (ap (λ (l : List Entry). e ∷ l) (take_least n es))
-
--- who waits, by their number: the first so many entries
-pub waiting_first : (l : Line) (n : ℕ) → n ≡ length (waiting l) → take n l.entries ≡ waiting l
-unfolding waiting
-waiting_first l n h = rw (h, length-take) (take_least l.len l.entries)
-
-pub first_there : (l : Line) (n i : ℕ) → n ≡ length (waiting l) → i < n → get_or (waiting l) i empty ≡ get_or l.entries i empty
-first_there l n i h k = sym (ap (λ (es : List Entry). get_or es i empty) (waiting_first l n h)) ∙ get_or-take n l.entries i empty k
-
-pub waiting-within : (l : Line) → length (waiting l) ≤ length l.entries
-unfolding waiting
-waiting-within l = rw length-take (omega arith)
-
 -- the array of fifteen that holds a list
 abbrev pub padded : List Entry → List Entry
 padded es = table.padded empty 15 es
+
+take_front : (n : ℕ) (es r : List Entry) → take n (take n es ++ r) ≡ take n (es ++ r)
+take_front zero es r = refl
+take_front (suc n) [] r = refl
+take_front (suc n) (e ∷ es) r = ap (λ (l : List Entry). e ∷ l) (take_front n es r)
+
+pub padded-front : (es : List Entry) → padded (take 15 es) ≡ padded es
+padded-front es = take_front 15 es (replicate 15 empty)
 
 -- a line by its two parts
 abbrev line_with : List Entry → ℕ → Line
@@ -108,35 +96,8 @@ pub next-taken : (es : List Entry) (i : ℕ) → i < length es → take (i + 1) 
 next-taken es i h = rw add-one (take-suc es i empty h)
 
 -- the list with an entry put in at a place
-module _ (es : List Entry) (k : ℕ) (e : Entry) (h : k ≤ length es) where
-  front_length : length (take k es) ≡ k
-  front_length = simp length-take (omega arith)
-
-  pub put_before : (i : ℕ) → i < k → get_or (take k es ++ e ∷ drop k es) i empty ≡ get_or es i empty
-  put_before i b =
-      let f : i < length (take k es) = omega (arith, front_length) in
-      get_or-append (take k es) (e ∷ drop k es) empty i f ∙ get_or-take k es i empty b
-
-  pub put_at : get_or (take k es ++ e ∷ drop k es) k empty ≡ e
-  put_at = get_or_at (take k es) e (drop k es) empty k front_length
-
-  pub put_behind : (i : ℕ) → k < i → get_or (take k es ++ e ∷ drop k es) i empty ≡ get_or es (i - 1) empty
-  put_behind i b =
-      let f : i ≡ length (take k es) + suc (i - 1 - k) = omega (arith, front_length) in
-      let g : k + (i - 1 - k) ≡ i - 1 = omega arith in
-      ap (λ (n : ℕ). get_or (take k es ++ e ∷ drop k es) n empty) f ∙ get_or-append-add (take k es) (e ∷ drop k es) (suc (i - 1 - k)) empty
-      ∙ get_or-drop k es (i - 1 - k) empty ∙ ap (λ (n : ℕ). get_or es n empty) g
-
-  pub put_length : length (take k es ++ e ∷ drop k es) ≡ length es + 1
-  put_length = simp (length-append, length-take, length-drop) (omega arith)
-
--- what is put in among the first stays among them
-pub put_first : (k n : ℕ) (es : List Entry) (e : Entry) → k ≤ n →
-    take (suc n) (take k es ++ e ∷ drop k es) ≡ take k (take n es) ++ e ∷ drop k (take n es)
-put_first zero n es e h = refl
-put_first (suc k) zero es e h = absurd (omega arith)
-put_first (suc k) (suc n) [] e h = refl
-put_first (suc k) (suc n) (x ∷ es) e h = ap (λ (l : List Entry). x ∷ l) (put_first k n es e (omega arith))
+pub put_length : (es : List Entry) (k : ℕ) (e : Entry) → k ≤ length es → length (take k es ++ e ∷ drop k es) ≡ length es + 1
+put_length es k e h = simp (length-append, length-take, length-drop) (omega arith)
 
 -- an entry goes in, place by place
 pub enter_nil : (e : Entry) → enter e [] ≡ e ∷ []
@@ -160,15 +121,6 @@ before_here e es s t = rw t
 pub before_later : (e : Entry) (es : List Entry) (s : ℕ) → eqb e.seat s ≡ false → before s (e ∷ es) ≡ suc (before s es)
 unfolding before when◌then◌else◌
 before_later e es s t = rw t
-
--- the line of the first so many of a list
-take_front : (n : ℕ) (es r : List Entry) → take n (take n es ++ r) ≡ take n (es ++ r)
-take_front zero es r = refl
-take_front (suc n) [] r = refl
-take_front (suc n) (e ∷ es) r = ap (λ (l : List Entry). e ∷ l) (take_front n es r)
-
-pub line_front : (a es : List Entry) (n : ℕ) → a ≡ padded (take 15 es) → n ≡ length (take 15 es) → line_with a n ≡ line_of es
-line_front a es n p q = line_is a es n (p ∙ take_front 15 es (replicate 15 empty)) q
 
 -- striking off goes entry by entry
 pub without-append : (seats : List Bool) (a b : List Entry) → without seats (a ++ b) ≡ without seats a ++ without seats b
@@ -194,11 +146,3 @@ module _ (seats : List Bool) (es : List Entry) (i : ℕ) (h : i < length es) whe
       without seats (take (i + 1) es) ≡ without seats (take i es) ++ (get_or es i empty ∷ [])
   unfolding without when◌then◌else◌
   without_kept t = rw (next-taken es i h, without-append seats (take i es), t)
-
--- the set of those in line, entry by entry
-pub added_on : (seats : List Bool) (es : List Entry) (i : ℕ) → i < length es →
-    added seats (drop i es) ≡ added (set seats (get_or es i empty).seat true) (drop (i + 1) es)
-added_on seats es i h = rw (drop-cons es i empty h, add-one)
-
-pub added-ends : (seats : List Bool) (es : List Entry) (i : ℕ) → length es ≤ i → added seats (drop i es) ≡ seats
-added-ends seats es i h = rw (drop_of_length-le es h)

@@ -6,7 +6,7 @@ use Rattle.line.specs.declared.Entry.{Entry}
 use Rattle.line.specs.declared.Line.{Line}
 use Rattle.line.specs.Line.{waiting, line_of, before, is_in, entry_of, enter, another_at_least, without, priority_of}
 use Rattle.hall.specs.declared.Hall.{Hall}
-use Rattle.hall.specs.declared.Answer.TheVariants.{NotExpected}
+use Rattle.hall.specs.declared.Refusal.TheVariants.{NotExpected}
 use Rattle.hall.specs.Seats.{only, alone, queues, receives_only}
 use Rattle.steps.specs.declared.Phase.{Phase}
 use Rattle.steps.specs.declared.Phase.TheVariants.{Stopped, Idle, Taken, Revoking}

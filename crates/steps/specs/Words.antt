@@ -1,16 +1,14 @@
 -- The words that the rules of document 01, "The desk", are written with: a core with one thing changed, and what a step reports.
 -- Assumes nothing.
-use Rattle.std.specs.Prelude.{ℕ, ◌+◌, ◌%◌, Bool, true, false, List, replicate}
+use Rattle.std.specs.Prelude.{ℕ, ◌+◌, ◌%◌, Bool, true, false, List, Option, Some, None, Ok, Err, replicate}
 use Rattle.line.specs.declared.Line.{Line}
-use Rattle.hall.specs.declared.Answer.{Answer}
-use Rattle.hall.specs.declared.Answer.TheVariants.{Done}
+use Rattle.hall.specs.declared.Refusal.{Refusal}
+use Rattle.hall.specs.Answers.{DeskAnswer}
 use Rattle.steps.specs.declared.Phase.{Phase}
 use Rattle.steps.specs.declared.Core.{Core}
 use Rattle.steps.specs.declared.Kind.{Kind}
 use Rattle.steps.specs.declared.Kind.TheVariants as say
 use Rattle.steps.specs.declared.Sending.{Sending}
-use Rattle.steps.specs.declared.Mark.{Mark}
-use Rattle.steps.specs.declared.Mark.TheVariants.{NoSeat, Seat}
 use Rattle.steps.specs.declared.Given.{Given}
 use Rattle.steps.specs.declared.Given.TheVariants.{NotGiven}
 use Rattle.steps.specs.declared.Marks.{Marks}
@@ -57,26 +55,26 @@ is_nothing (say.Revoke n) = false
 is_nothing (say.Info k p) = false
 
 -- a report with these messages, in which nobody is struck off and nobody's floor ends; one with no message and no mark
-abbrev pub report_of : Sending → Sending → Mark → Given → Report
+abbrev pub report_of : Sending → Sending → Option ℕ → Given → Report
 report_of first second p g =
-    record { first = first; second = second; marks = record { placed = p; struck = replicate 16 false; ended = NoSeat; given = g } }
+    record { first = first; second = second; marks = record { placed = p; struck = replicate 16 false; ended = None; given = g } }
 
 abbrev pub no_marks : Marks
-no_marks = record { placed = NoSeat; struck = replicate 16 false; ended = NoSeat; given = NotGiven }
+no_marks = record { placed = None; struck = replicate 16 false; ended = None; given = NotGiven }
 
 abbrev pub empty_report : Report
 empty_report = record { first = silence; second = silence; marks = no_marks }
 
 -- a step that leaves this core, with no message and no mark
-abbrev pub answered : Core → Answer → Step
+abbrev pub answered : Core → DeskAnswer → Step
 answered c a = record { answer = a; core = c; report = empty_report }
 
 abbrev pub done : Core → Step
-done c = answered c Done
+done c = answered c (Ok tt)
 
 -- a refusal leaves the core as it is, with no message and no mark
-abbrev pub refused : Core → Answer → Step
-refused c a = answered c a
+abbrev pub refused : Core → Refusal → Step
+refused c r = answered c (Err r)
 
 -- the step, in another phase in the end
 abbrev pub ◌turns◌ : Step → Phase → Step
@@ -95,18 +93,18 @@ abbrev pub marked : Step → Marks → Step
 marked r m =
     record { answer = r.answer; core = r.core; report = record { first = r.report.first; second = r.report.second; marks = m } }
 
-abbrev pub ◌placing◌ : Step → Mark → Step
+abbrev pub ◌placing◌ : Step → Option ℕ → Step
 r placing m = let o = r.report.marks in marked r (record { placed = m; struck = o.struck; ended = o.ended; given = o.given })
 
 abbrev pub ◌marks_placed◌ : Step → ℕ → Step
-r marks_placed s = r placing Seat s
+r marks_placed s = r placing Some s
 
 abbrev pub ◌marks_struck◌ : Step → List Bool → Step
 r marks_struck seats =
     let o = r.report.marks in marked r (record { placed = o.placed; struck = seats; ended = o.ended; given = o.given })
 
 abbrev pub ◌marks_ended◌ : Step → ℕ → Step
-r marks_ended s = let o = r.report.marks in marked r (record { placed = o.placed; struck = o.struck; ended = Seat s; given = o.given })
+r marks_ended s = let o = r.report.marks in marked r (record { placed = o.placed; struck = o.struck; ended = Some s; given = o.given })
 
 abbrev pub ◌marks_given◌ : Step → Given → Step
 r marks_given g = let o = r.report.marks in marked r (record { placed = o.placed; struck = o.struck; ended = o.ended; given = g })

@@ -8,7 +8,7 @@ ghost use Rattle.steps.specs.Words.{◌in_phase◌, ◌with_line◌, next, ◌�
 use hall::Answer;
 use line::{Entry, Line};
 
-// What runs in Taken beside T1.
+// What runs in Taken beside T1. Three cases side by side: an Option would want a second enum, of two, inside.
 #[derive(Clone, Copy)]
 pub enum AlsoRuns {
     NoMore,
@@ -37,6 +37,7 @@ pub struct Core {
 
 // An outgoing message: Granted has its priority, Taken who was given the floor and the sequence number, Deny and Revoke their cause, Idle
 // the sequence number, Info (Queue Position Info) the place and the priority.
+// Nothing is a kind too, and no Option around one: a report has two places for messages, and each has its kind and its number.
 #[derive(Clone, Copy)]
 pub enum Kind {
     Nothing,
@@ -54,12 +55,7 @@ pub struct Sending {
     pub to: [bool; 16],
 }
 
-#[derive(Clone, Copy)]
-pub enum Mark {
-    NoSeat,
-    Seat(u8),
-}
-
+// How the floor was given. Three cases side by side, as a report has them: an Option would want a second enum, of two, inside.
 #[derive(Clone, Copy)]
 pub enum Given {
     NotGiven,
@@ -69,9 +65,9 @@ pub enum Given {
 
 #[derive(Clone, Copy)]
 pub struct Marks {
-    pub placed: Mark,
+    pub placed: Option<u8>,
     pub struck: [bool; 16],
-    pub ended: Mark,
+    pub ended: Option<u8>,
     pub given: Given,
 }
 
@@ -82,7 +78,8 @@ pub struct Report {
     pub marks: Marks,
 }
 
-// The answer stands last: fields lie in this order, and a small one in front of a large one makes every copy of the whole dearer.
+// A refusal leaves its core and an empty report too, and every law of a step speaks of them (ways, marks): the answer stands beside them.
+// It stands last: fields lie in this order, and a small one in front of a large one makes every copy of the whole dearer.
 #[derive(Clone, Copy)]
 pub struct Step {
     pub core: Core,
@@ -108,22 +105,20 @@ pub const MEDIA_BURST_PREEMPTED: u16 = 4;
 pub fn no_message() -> Sending
     ensures { result ≡ silence }
 {
-    let nobody = [false; 16];
     Sending {
         kind: Kind::Nothing,
-        to: nobody,
+        to: [false; 16],
     }
 }
 
 // The report with these messages, and with no mark but these two: who is struck off and whose floor ends is marked afterwards.
-pub fn report_of(first: Sending, second: Sending, placed: Mark, given: Given) -> Report
+pub fn report_of(first: Sending, second: Sending, placed: Option<u8>, given: Given) -> Report
     ensures { result ≡ report_of first second placed given }
 {
-    let nobody = [false; 16];
     let marks = Marks {
         placed,
-        struck: nobody,
-        ended: Mark::NoSeat,
+        struck: [false; 16],
+        ended: None,
         given,
     };
     Report {
@@ -136,64 +131,36 @@ pub fn report_of(first: Sending, second: Sending, placed: Mark, given: Given) ->
 pub fn answer(core: Core, answer: Answer) -> Step
     ensures { result ≡ answered core answer }
 {
-    let first = no_message();
-    let second = no_message();
-    let report = report_of(first, second, Mark::NoSeat, Given::NotGiven);
+    let report = report_of(no_message(), no_message(), None, Given::NotGiven);
     Step {
-        answer,
         core,
         report,
+        answer,
     }
 }
 
 fn is_nothing(kind: Kind) -> bool
     ensures { result ≡ is_nothing kind }
 {
-    match kind {
-        Kind::Nothing => true,
-        Kind::Granted(_) => false,
-        Kind::Taken(_, _) => false,
-        Kind::Deny(_) => false,
-        Kind::Idle(_) => false,
-        Kind::Revoke(_) => false,
-        Kind::Info(_, _) => false,
-    }
+    matches!(kind, Kind::Nothing)
 }
 
 pub fn send(step: Step, kind: Kind, to: [bool; 16]) -> Step
     ensures { result ≡ (step sends kind ⇒ to) }
 {
     let message = Sending { kind, to };
-    let answer = step.answer;
-    let core = step.core;
-    let old = step.report;
-    let first = old.first;
-    let second = old.second;
-    let marks = old.marks;
-    let said = first.kind;
-    if is_nothing(said) {
-        let report = Report {
+    let report = if is_nothing(step.report.first.kind) {
+        Report {
             first: message,
-            second,
-            marks,
-        };
-        Step {
-            answer,
-            core,
-            report,
+            ..step.report
         }
     } else {
-        let report = Report {
-            first,
+        Report {
             second: message,
-            marks,
-        };
-        Step {
-            answer,
-            core,
-            report,
+            ..step.report
         }
-    }
+    };
+    Step { report, ..step }
 }
 
 // A step that is done, with one message.
@@ -201,48 +168,30 @@ pub fn say(core: Core, kind: Kind, to: [bool; 16]) -> Step
     ensures { result ≡ (done core sends kind ⇒ to) }
 {
     let first = Sending { kind, to };
-    let second = no_message();
-    let report = report_of(first, second, Mark::NoSeat, Given::NotGiven);
+    let report = report_of(first, no_message(), None, Given::NotGiven);
     Step {
-        answer: Answer::Done,
         core,
         report,
+        answer: Ok(()),
     }
 }
 
 fn with_marks(step: Step, marks: Marks) -> Step
     ensures { result ≡ marked step marks }
 {
-    let answer = step.answer;
-    let core = step.core;
-    let old = step.report;
-    let first = old.first;
-    let second = old.second;
     let report = Report {
-        first,
-        second,
         marks,
+        ..step.report
     };
-    Step {
-        answer,
-        core,
-        report,
-    }
+    Step { report, ..step }
 }
 
 pub fn mark_struck(step: Step, seats: [bool; 16]) -> Step
     ensures { result ≡ (step marks_struck seats) }
 {
-    let report = step.report;
-    let old = report.marks;
-    let placed = old.placed;
-    let ended = old.ended;
-    let given = old.given;
     let marks = Marks {
-        placed,
         struck: seats,
-        ended,
-        given,
+        ..step.report.marks
     };
     with_marks(step, marks)
 }
@@ -250,50 +199,30 @@ pub fn mark_struck(step: Step, seats: [bool; 16]) -> Step
 pub fn mark_ended(step: Step, seat: u8) -> Step
     ensures { result ≡ (step marks_ended seat) }
 {
-    let report = step.report;
-    let old = report.marks;
-    let placed = old.placed;
-    let struck = old.struck;
-    let given = old.given;
     let marks = Marks {
-        placed,
-        struck,
-        ended: Mark::Seat(seat),
-        given,
+        ended: Some(seat),
+        ..step.report.marks
     };
     with_marks(step, marks)
 }
 
-// The core with one thing changed.
+// The core with one thing changed, a word of the rules each (specs/Words).
 
 pub fn in_phase(core: Core, phase: Phase) -> Core
     ensures { result ≡ (core in_phase phase) }
 {
-    let line = core.line;
-    Core {
-        phase,
-        line,
-        sequence: core.sequence,
-        c7: core.c7,
-        c20: core.c20,
-    }
+    Core { phase, ..core }
 }
 
 pub fn with_line(core: Core, line: Line) -> Core
     ensures { result ≡ (core with_line line) }
 {
-    let phase = core.phase;
-    Core {
-        phase,
-        line,
-        sequence: core.sequence,
-        c7: core.c7,
-        c20: core.c20,
-    }
+    Core { line, ..core }
 }
 
+#[tactic(auto, unfolding(crate::specs::Words::next))]
 pub fn next_sequence(n: u16) -> u16
     ensures { result ≡ next n }
 {
-    if n < 65535 { n + 1 } else { 0 }
+    n.wrapping_add(1)
 }

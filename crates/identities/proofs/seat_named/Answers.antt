@@ -1,68 +1,18 @@
--- `identities::seat_named` meets its contract. The invariant says what is done at the present seat, and what is left. Assumes nothing.
-use Prim.Native.Nat.{◌+◌, ◌-◌, ◌≤◌, ◌<◌}
-use mathlib.Core.Bool.{Bool, false, not, ◌&&◌}
-use mathlib.Core.Path.{◌≡◌, refl, ap, sym, ◌∙◌}
-use native.Mathlib.Omega.{arith}
-use lib.Dec.{ltb}
-use lib.ListN.{length, get_or}
-use borrow.Author.Tests.{ltb-true, ltb-false, not-true}
-use Rattle.words.specs.Choice.{if_yes, if_no, by_test}
-use Rattle.words.specs.Below.{and_left, and_right}
-use Rattle.words.proofs.Tests.{clash, both}
-use Rattle.identities.specs.declared.Name.{Name}
-use Rattle.hall.specs.declared.Found.TheVariants.{At}
-use Rattle.identities.specs.Identity.{octets_of, no_name, same, seat_named}
-use Rattle.hall.proofs.Laws.{get_d_any, lowest_on, lowest-stops, lowest-ends}
-use Rattle.identities.proofs.seat_named.Invariants.{sits}
+-- `identities::seat_named` meets its contract. Assumes nothing.
+use Prim.Native.Nat.{ℕ}
+use mathlib.Core.Bool.{true, false}
+use mathlib.Core.Path.{◌≡◌}
+use borrow.Author.Rules.{rules}
+use borrow.Author.Tests.{tests}
+use Rattle.std.proofs.lemmas.Iterator.{first_from_Range}
+use Rattle.hall.proofs.Laws.{lowest_is}
+use Rattle.identities.specs.Identity.{has_name, seat_named}
 use Rattle.identities.proofs.seat_named.Goals as goal
 
-pub loop-s-init : goal.loop-s-init
-loop-s-init c = (omega arith, λ e. clash e refl, sym (if_no _ _ _ refl))
-
-pub bounds-all-s : goal.bounds-all-s
-bounds-all-s c = ltb-true _ _ (and_left _ _ c.loop-s-test.true)
-
-pub bounds-present-s : goal.bounds-present-s
-bounds-present-s c = ltb-true _ _ (and_left _ _ c.loop-s-test.true)
-
-pub loop-s-smaller : goal.loop-s-smaller
-loop-s-smaller c =
-    let h : c.loop-s.s < 16 = ltb-true _ _ (and_left _ _ c.loop-s-test.true) in omega arith
-
-pub loop-s-preserved : goal.loop-s-preserved
-loop-s-preserved c =
-    let h : c.loop-s.s < 16 = ltb-true _ _ (and_left _ _ c.loop-s-test.true) in
-    let a = c.args in
-    let test = sits a.hall.present a.names.«of» a.identity.now in
-    let v =
-    c.loop-s.invariant.2
-    ∙ if_no _ _ _ (not-true _ (and_right (ltb c.loop-s.s 16) _ c.loop-s-test.true)) in
-    let z : c.loop-s.s + 1 - 1 ≡ c.loop-s.s = omega arith in
-    let k : c.loop-s.s < length a.names.«of» =
-    omega (arith, h) in
-    let e : c.is_same.result ≡ same (octets_of (get_or a.names.«of» c.loop-s.s no_name)) a.identity.now =
-    c.is_same.ensures ∙ ap (λ (n : Name). same (octets_of n) a.identity.now) (get_d_any a.names.«of» _ _ no_name k) in
-    let q : get_or a.hall.present c.loop-s.s false && c.is_same.result
-    ≡ test c.loop-s.s =
-    ap (λ (b : Bool). get_or a.hall.present c.loop-s.s false && b) e in (
-      omega arith,
-      λ e. omega arith,
-      by_test (test c.loop-s.s)
-          (λ e. v ∙ lowest-stops test _ h e ∙ sym (if_yes _ _ _ (q ∙ e) ∙ ap At z))
-          (λ e. v ∙ lowest_on test _ h e ∙ sym (if_no _ _ _ (q ∙ e))),
-    )
-
-pub returns-then-found : goal.returns-then-found
+pub returns : goal.returns
 unfolding seat_named
-returns-then-found c = sym (c.loop-s.invariant.2 ∙ if_yes _ _ _ c.if-found.true)
-
-pub returns-else-found : goal.returns-else-found
-unfolding seat_named
-returns-else-found c =
-    let a = c.args in
-    let test = sits a.hall.present a.names.«of» a.identity.now in
-    let h : 16 ≤ c.loop-s.s =
-    by_test (ltb c.loop-s.s 16)
-    (λ e. clash (both (ltb c.loop-s.s 16) (not c.loop-s.found) e (rw c.if-found.false))
-    c.loop-s-test.false) (λ e. ltb-false _ _ e) in
-    sym (c.loop-s.invariant.2 ∙ if_no _ _ _ c.if-found.false ∙ lowest-ends test _ h)
+returns c =
+    let test = λ (s : ℕ). has_name c.args.hall c.args.names c.args.identity.now s in
+    lowest_is test 16 0 _
+    (first_from_Range _ _ _ _ (λ s. test s ≡ true) (λ s. test s ≡ false) c.find.ensures.ran (λ x q k. search (rules, tests))
+    (λ x q k. search (rules, tests)))

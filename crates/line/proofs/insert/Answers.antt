@@ -1,57 +1,36 @@
--- `line::insert` meets its contract. The invariant says what is done at the present place, and what is left. Assumes nothing.
-use Prim.Native.Nat.{ℕ, suc, ◌+◌, ◌≤◌, ◌<◌}
-use mathlib.Core.List.{◌++◌, ◌∷◌, []}
+-- `line::insert` meets its contract. The invariant says which places are filled. Assumes nothing.
+use Prim.Native.Nat.{ℕ, ◌<◌, ◌≤◌, min}
+use mathlib.Core.List.{List, ◌++◌, ◌∷◌}
 use mathlib.Core.Path.{◌≡◌, refl, ap, sym, ◌∙◌}
 use native.Mathlib.Omega.{arith}
-use lib.ListN.{length-take, length, take, drop, get_or}
-use lib.Seq.{take_all, take-take}
-use Rattle.line.specs.Line.{waiting, empty}
-use Rattle.line.proofs.Laws.{waiting_first, waiting-within, padded-next, put_length, put_first, next-taken, line_front}
-use Rattle.line.proofs.insert.Goals.{else-n-lt15, then-n-lt15}
+use lib.ListN.{length-take, length, take, drop}
+use Rattle.std.proofs.lemmas.List.{take_min}
+use Rattle.line.specs.Line.{line_of}
+use Rattle.line.specs.declared.Entry.{Entry}
+use Rattle.line.proofs.Laws.{padded, padded-next, put_length, next-taken, line_is, padded-front}
 use Rattle.line.proofs.insert.Goals as goal
 
-pub loop-i-init : goal.loop-i-init
-loop-i-init c = ((elim c.if-n-lt15.branch [ then-n-lt15 w ↦ omega arith | else-n-lt15 w ↦ omega arith ]), omega arith, refl)
+pub loop-place-init : goal.loop-place-init
+loop-place-init c = refl
 
-pub entry_after-requires : goal.entry_after-requires
-entry_after-requires c = (omega arith, omega arith)
-
-pub loop-i-preserved : goal.loop-i-preserved
-loop-i-preserved c =
-    let a = c.args in
-    let n = c.count-n.ensures in
-    let k : a.k ≤ length a.line.entries =
-    omega (arith, c.requires, waiting-within a.line) in
-    let es = take a.k a.line.entries ++ a.e ∷ drop a.k a.line.entries in
-    let h : c.loop-i.i < length es =
-    omega (arith, n, put_length a.line.entries a.k a.e k, waiting-within a.line) in
-    let q : take (c.loop-i.i + 1) es
-    ≡ take c.loop-i.i es ++ (get_or es c.loop-i.i empty ∷ []) = next-taken es _ h in
-    let m : c.loop-i.i ≡ length (take c.loop-i.i es) = rw length-take (omega arith) in (
-      c.loop-i.invariant.0,
-      omega arith,
-      rw q (padded-next c.loop-i.entries (take c.loop-i.i es) _ _ _ c.loop-i.invariant.2 m
-          c.entry_after.ensures (omega arith)),
-    )
+pub loop-place-preserved : goal.loop-place-preserved
+loop-place-preserved c =
+    let w = c.waiting-those.result.now in
+    let es = take c.args.k w ++ c.args.e ∷ drop c.args.k w in
+    let i = c.loop-place.place in
+    let k : c.args.k ≤ length w = omega (arith, ap length c.waiting-those.ensures.0, c.requires) in
+    let h : i < length es = omega (arith, put_length w c.args.k c.args.e k) in
+    let m : i ≡ length (take i es) = rw length-take (omega arith) in
+    rw (next-taken es i h)
+    (padded-next c.loop-place.entries (take i es) i _ _ c.loop-place.invariant m c.entry_after.ensures (omega arith))
 
 pub returns : goal.returns
 returns c =
-    let a = c.args in
-    let n = c.count-n.ensures.0 in
-    let f = waiting_first a.line _ n in
-    let es = take a.k a.line.entries ++ a.e ∷ drop a.k a.line.entries in
-    let ws = take a.k (waiting a.line) ++ a.e ∷ drop a.k (waiting a.line) in
-    let q : take (suc c.count-n.result) es ≡ ws =
-    rw f at (put_first a.k c.count-n.result a.line.entries a.e
-    (omega (arith, n, c.requires))) in
-    let l : length ws ≡ c.count-n.result + 1 =
-    rw n (put_length (waiting a.line) a.k a.e c.requires) in
-    let i : c.loop-i.i ≡ c.if-n-lt15.len = omega arith in
-    let p : take c.if-n-lt15.len es ≡ take 15 ws = (elim c.if-n-lt15.branch [
-      | then-n-lt15 w ↦ let m : c.if-n-lt15.len ≡ suc c.count-n.result = omega (arith, w) in
-          ap (λ (j : ℕ). take j es) m ∙ q ∙ sym (take_all 15 ws (omega (arith, w, l)))
-      | else-n-lt15 w ↦ let m : c.if-n-lt15.len ≡ 15 = omega (arith, w) in
-          ap (λ (j : ℕ). take j es) m ∙ sym (take-take 15 (suc c.count-n.result) es (omega (arith, w)))
-          ∙ ap (take 15) q
-    ]) in
-    line_front _ ws _ (rw (i, p) at c.loop-i.invariant.2) (rw length-take (omega (arith, l, c.loop-i.invariant.0)))
+    let w = c.waiting-those.result.now in
+    let es = take c.args.k w ++ c.args.e ∷ drop c.args.k w in
+    let k : c.args.k ≤ length w = omega (arith, ap length c.waiting-those.ensures.0, c.requires) in
+    let n : c.min-len.result ≡ min 15 (length es) = omega (arith, put_length w c.args.k c.args.e k) in
+    let i : c.loop-place.place ≡ c.min-len.result = omega arith in
+    line_is _ es _ (c.loop-place.invariant ∙ ap padded (ap (λ (j : ℕ). take j es) (i ∙ n) ∙ take_min 15 es) ∙ padded-front es)
+    (n ∙ sym (length-take 15 es))
+    ∙ ap (λ (l : List Entry). line_of (take c.args.k l ++ c.args.e ∷ drop c.args.k l)) c.waiting-those.ensures.0

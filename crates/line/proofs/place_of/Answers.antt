@@ -1,40 +1,20 @@
--- `line::place_of` meets its contract. The invariant says what is done at the present place, and what is left. Assumes nothing.
-use Prim.Native.Nat.{◌<◌}
-use mathlib.Core.Path.{◌≡◌, sym, ◌∙◌}
-use native.Mathlib.Omega.{arith}
-use lib.ListN.{length}
-use borrow.Author.Tests.{eq-eqb, ne_eqb}
-use Rattle.line.specs.Line.{waiting, before}
-use Rattle.line.proofs.Laws.{waiting_first, first_there, leading_on, leading-stops, leading-ends}
+-- `line::place_of` meets its contract. Assumes nothing.
+use mathlib.Core.Bool.{true, false}
+use mathlib.Core.Path.{◌≡◌, ap, sym, ◌∙◌}
+use borrow.Author.Rules.{rules}
+use borrow.Author.Tests.{tests}
+use Rattle.std.proofs.lemmas.Iterator.{IsFirst-from_position, YieldsList-from_slice}
+use Rattle.line.specs.declared.Entry.{Entry}
+use Rattle.line.specs.Line.{is_other, before}
+use Rattle.line.proofs.Laws.{leading_is}
 use Rattle.line.proofs.place_of.Goals as goal
 
-pub loop-i-init : goal.loop-i-init
-unfolding before
-loop-i-init c = (omega arith, omega arith)
-
-pub returns-then-e-seat : goal.returns-then-e-seat
-returns-then-e-seat c =
-    let l = c.args.line in
-    let n = c.count-n.ensures.0 in
-    let h : c.loop-i.i < length (waiting l) = omega (arith, n) in
-    let v = rw (waiting_first l _ n) at c.loop-i.invariant.1 in
-    sym (v ∙ leading-stops _ _ _ h (simp (first_there l _ _ n c.loop-i-test.true, eq-eqb _ _ c.if-e-seat.true)))
-
-pub loop-i-preserved : goal.loop-i-preserved
-loop-i-preserved c =
-    let l = c.args.line in
-    let n = c.count-n.ensures.0 in
-    let h : c.loop-i.i < length (waiting l) = omega (arith, n) in
-    let v = rw (waiting_first l _ n) at c.loop-i.invariant.1 in (
-      omega arith,
-      rw (waiting_first l _ n)
-          (v ∙ leading_on _ _ _ h (simp (first_there l _ _ n c.loop-i-test.true, ne_eqb _ _ c.if-e-seat.false))),
-    )
-
 pub returns : goal.returns
+unfolding before
 returns c =
-    let l = c.args.line in
-    let n = c.count-n.ensures.0 in
-    let e : c.loop-i.i ≡ c.count-n.result = omega arith in
-    let v = rw (waiting_first l _ n) at c.loop-i.invariant.1 in
-    sym (v ∙ leading-ends _ _ _ (omega (arith, n)) ∙ e)
+    let test = is_other c.args.seat in
+    let es = c.waiting-those.result.now in
+    let first = IsFirst-from_position _ _ c.position.result (λ (e : Entry). test e ≡ false) (λ (e : Entry). test e ≡ true)
+    c.position.ensures.ran (YieldsList-from_slice es c.iter.ensures.rest)
+    (λ x q k. search (rules, tests)) (λ x q k. search (rules, tests)) in
+    c.unwrap_or.ensures ∙ sym (leading_is test es c.position.result first) ∙ ap (before c.args.seat) c.waiting-those.ensures.0

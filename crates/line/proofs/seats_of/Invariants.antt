@@ -1,14 +1,11 @@
--- `line::seats_of` meets its contract. The invariant says what is done at the present place, and what is left. Assumes nothing.
-use Prim.Native.Nat.{◌-◌, ◌≤◌}
+-- `line::seats_of` meets its contract. The invariant says which seats are in the set so far, and which are to come. Assumes nothing.
 use mathlib.Core.Path.{◌≡◌}
 use lib.ListN.{length, drop}
 use Rattle.line.specs.Line.{waiting, seat_set, added}
 use Rattle.line.proofs.seats_of.Given as goal
 
-abbrev pub invariant-loop-i : goal.invariant-loop-i
-invariant-loop-i l =
-    (l.n ≡ length (waiting l.line)) × (l.i ≤ l.n) × (seat_set (waiting l.line) ≡ added l.seats (drop l.i (waiting l.line)))
-    × (length l.seats ≡ 16)
-
-abbrev pub decreases-loop-i : goal.decreases-loop-i
-decreases-loop-i l = l.n - l.i
+abbrev pub invariant-loop-e : goal.invariant-loop-e
+invariant-loop-e l = record {
+  long : length l.seats ≡ 16;
+  so_far : seat_set (waiting l.fn.line) ≡ added l.seats (drop l.e-index (waiting l.fn.line));
+}

@@ -1,64 +1,57 @@
--- `line::struck` meets its contract. The invariant says what is done at the present place, and what is left. Assumes nothing.
+-- `line::struck` meets its contract. The invariant says what is kept of those seen so far. Assumes nothing.
 use Prim.Native.Nat.{◌+◌, ◌≤◌, ◌<◌}
-use mathlib.Core.List.{◌++◌, ◌∷◌, []}
+use mathlib.Core.Bool.{false}
+use mathlib.Core.List.{List, ◌++◌, ◌∷◌, []}
 use mathlib.Core.Path.{◌≡◌, refl, ap, sym, ◌∙◌}
 use native.Mathlib.Omega.{arith}
 use lib.ListN.{length-append, length, take, get_or}
 use lib.Seq.{take_all}
+use Rattle.line.specs.declared.Entry.{Entry}
 use Rattle.line.specs.Line.{empty, waiting, without, line_of}
-use Rattle.line.proofs.Laws.{waiting_first, waiting-within, line_is, waiting-line_of, padded, padded-next, without_struck}
-use Rattle.line.proofs.Laws.{without_kept}
+use Rattle.line.proofs.Laws.{line_is, waiting-line_of, without_le, padded, padded-next, without_struck, without_kept}
+use Rattle.line.proofs.struck.Goals.{then-not-has, else-not-has}
 use Rattle.line.proofs.struck.Goals as goal
 
-pub loop-i-init : goal.loop-i-init
+pub loop-e-init : goal.loop-e-init
 unfolding without
-loop-i-init c = (omega arith, refl, omega arith, refl)
+loop-e-init c = record { number = refl; within = omega arith; kept = refl }
 
-pub loop-i-preserved-then-has : goal.loop-i-preserved-then-has
-loop-i-preserved-then-has c =
-    let l = c.args.line in
-    let n = c.count-n.ensures.0 in
-    let h : c.loop-i.i < length l.entries = omega (arith, n, waiting-within l) in
-    let q =
-    without_struck c.args.seats l.entries _ h
-    (sym c.has.ensures ∙ c.if-has.true) in (
-      omega arith,
-      c.loop-i.invariant.1 ∙ ap length (sym q),
-      omega arith,
-      c.loop-i.invariant.3 ∙ ap padded (sym q),
-    )
-
-pub loop-i-preserved : goal.loop-i-preserved
-loop-i-preserved c =
-    let l = c.args.line in
-    let n = c.count-n.ensures.0 in
-    let h : c.loop-i.i < length l.entries = omega (arith, n, waiting-within l) in
-    let k =
-    without c.args.seats
-    (take c.loop-i.i l.entries) in
-    let x = get_or l.entries c.loop-i.i empty in
-    let q : without c.args.seats
-    (take (c.loop-i.i + 1) l.entries) ≡ k ++ (x ∷ []) =
-    without_kept c.args.seats l.entries _ h
-    (sym c.has.ensures ∙ c.if-has.false) in
-    let m : c.loop-i.len ≡ length k = c.loop-i.invariant.1 in
-    let z : length k < 15 = omega (arith, c.count-n.ensures.1) in (
-      omega arith,
-      rw (q, length-append) (omega arith),
-      omega arith,
-      rw q (padded-next _ k _ _ x c.loop-i.invariant.3 m refl z),
-    )
+pub loop-e-preserved : goal.loop-e-preserved
+loop-e-preserved c =
+    let s = c.args.seats in
+    let w = waiting c.args.line in
+    let i = c.loop-e.e-index in
+    let before = c.loop-e.invariant in
+    let items = c.waiting-e-items.ensures.0 in
+    let h : i < length w = rw items at c.loop-e-test.true in
+    let x = get_or w i empty in
+    let k = without s (take i w) in
+    let e : get_or c.waiting-e-items.result.now i empty ≡ x = ap (λ (l : List Entry). get_or l i empty) items in
+    let seat : c.has.result ≡ get_or s x.seat false = c.has.ensures ∙ ap (λ (y : Entry). get_or s y.seat false) e in
+    let m : length k < 15 = omega (arith, c.waiting-e-items.ensures.1) in
+    elim c.if-not-has.branch [
+      | then-not-has v ↦ let q : without s (take (i + 1) w) ≡ k ++ (x ∷ []) = without_kept s w i h (sym seat ∙ v.if-not-has.true) in
+          record {
+            number = rw (v.len-is, q, length-append) (omega arith);
+            within = rw v.len-is (omega arith);
+            kept = v.entries-is ∙ padded-next _ k _ _ x before.kept before.number e m ∙ ap padded (sym q);
+          }
+      | else-not-has v ↦ let q : without s (take (i + 1) w) ≡ k = without_struck s w i h (sym seat ∙ v.if-not-has.false) in
+          record {
+            number = v.len-is ∙ before.number ∙ ap length (sym q);
+            within = rw v.len-is (omega arith);
+            kept = v.entries-is ∙ before.kept ∙ ap padded (sym q);
+          }
+    ]
 
 pub returns : goal.returns
 returns c =
-    let l = c.args.line in
-    let n = c.count-n.ensures.0 in
     let s = c.args.seats in
-    let i : c.loop-i.i ≡ c.count-n.result = omega arith in
-    let t : take c.loop-i.i l.entries ≡ waiting l = rw i (waiting_first l _ n) in
-    let e : c.loop-i.entries ≡ padded (without s (waiting l)) = rw t at c.loop-i.invariant.3 in
-    let n : c.loop-i.len ≡ length (without s (waiting l)) = rw t at c.loop-i.invariant.1 in
-    let w : length (without s (waiting l)) ≤ 15 = omega (arith, c.count-n.ensures.1, c.loop-i.invariant.2) in
-    let q : record { entries = c.loop-i.entries; len = c.loop-i.len } ≡ line_of (without s (waiting l)) =
-    line_is _ _ _ e (n ∙ sym (ap length (take_all 15 (without s (waiting l)) w))) in
-    (q, ap waiting q ∙ waiting-line_of (without s (waiting l)) w)
+    let w = waiting c.args.line in
+    let n : length w ≤ c.loop-e.e-index = rw c.waiting-e-items.ensures.0 at c.loop-e-test.false in
+    let t : take c.loop-e.e-index w ≡ w = take_all _ w n in
+    let few : length (without s w) ≤ 15 =
+    omega (arith, without_le s w, ap length c.waiting-e-items.ensures.0, c.waiting-e-items.ensures.1) in
+    let q : record { entries = c.loop-e.entries; len = c.loop-e.len } ≡ line_of (without s w) =
+    line_is _ _ _ (rw t at c.loop-e.invariant.kept) (rw t at c.loop-e.invariant.number ∙ sym (ap length (take_all 15 (without s w) few))) in
+    (q, ap waiting q ∙ waiting-line_of (without s w) few)

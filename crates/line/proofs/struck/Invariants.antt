@@ -1,15 +1,14 @@
--- `line::struck` meets its contract. The invariant says what is done at the present place, and what is left. Assumes nothing.
-use Prim.Native.Nat.{◌-◌, ◌≤◌}
+-- `line::struck` meets its contract. The invariant says what is kept of those seen so far. Assumes nothing.
+use Prim.Native.Nat.{◌≤◌}
 use mathlib.Core.Path.{◌≡◌}
 use lib.ListN.{length, take}
-use Rattle.line.specs.Line.{without}
+use Rattle.line.specs.Line.{waiting, without}
 use Rattle.line.proofs.Laws.{padded}
 use Rattle.line.proofs.struck.Given as goal
 
-abbrev pub invariant-loop-i : goal.invariant-loop-i
-invariant-loop-i l =
-    (l.i ≤ l.n) × (l.len ≡ length (without l.seats (take l.i l.old))) × (l.len ≤ l.i)
-    × (l.entries ≡ padded (without l.seats (take l.i l.old)))
-
-abbrev pub decreases-loop-i : goal.decreases-loop-i
-decreases-loop-i l = l.n - l.i
+abbrev pub invariant-loop-e : goal.invariant-loop-e
+invariant-loop-e l = record {
+  number : l.len ≡ length (without l.seats (take l.e-index (waiting l.fn.line)));
+  within : l.len ≤ l.e-index;
+  kept : l.entries ≡ padded (without l.seats (take l.e-index (waiting l.fn.line)));
+}

@@ -1,8 +1,0 @@
--- `giving::is_holder` meets its contract. Assumes nothing.
-use Rattle.giving.proofs.is_holder.Goals as goal
-
-pub returns-in-Taken : goal.returns-in-Taken
-returns-in-Taken c = rw c.in-Taken.is
-
-pub returns-in-Revoking : goal.returns-in-Revoking
-returns-in-Revoking c = rw c.in-Revoking.is
