@@ -1,94 +1,65 @@
 // Which clocks a step of the desk starts anew, and which it stops. specs/Clocks.antt has the rule, for each timer.
 #![tactic(auto)]
 
-ghost use Rattle.std.specs.Prelude.{◌≡◌, not, ◌&&◌, ◌||◌};
-ghost use Rattle.clocks.specs.Clocks.{timer_number, starts_anew, stopped_timers};
+ghost use Rattle.std.specs.Prelude.{◌≡◌, Some};
+ghost use Rattle.clocks.specs.Clocks.{runs_for_holder, is_started, starts_anew, stopped_timers};
 
-use timers::{Running, Timer};
+use timers::{Running, Timer, is_running};
 
-// The number in a timer's name; 0 is no timer's.
-fn timer_number(timer: Timer) -> u8
-    ensures { result ≡ timer_number timer }
+// The timers for which a test holds.
+fn timers_with<F: Fn(Timer) -> bool>(test: F) -> Running
+    requires { F.IsAlwaysCallable test }
+    ensures t1 { F.post test Timer.T1 result.t1 }
+    ensures t2 { F.post test Timer.T2 result.t2 }
+    ensures t3 { F.post test Timer.T3 result.t3 }
+    ensures t4 { F.post test Timer.T4 result.t4 }
+    ensures t7 { F.post test Timer.T7 result.t7 }
+    ensures t8 { F.post test Timer.T8 result.t8 }
+    ensures t20 { F.post test Timer.T20 result.t20 }
 {
-    match timer {
-        Timer::T1 => 1,
-        Timer::T2 => 2,
-        Timer::T3 => 3,
-        Timer::T4 => 4,
-        Timer::T7 => 7,
-        Timer::T8 => 8,
-        Timer::T20 => 20,
-        Timer::NoSuchTimer => 0,
+    Running {
+        t1: test(Timer::T1),
+        t2: test(Timer::T2),
+        t3: test(Timer::T3),
+        t4: test(Timer::T4),
+        t7: test(Timer::T7),
+        t8: test(Timer::T8),
+        t20: test(Timer::T20),
     }
 }
 
-fn begins(before: bool, after: bool, again: bool) -> bool
-    ensures { result ≡ (after && (not before || again)) }
+fn runs_for_holder(timer: Timer) -> bool
+    ensures { result ≡ runs_for_holder (Some timer) }
 {
-    if after {
-        if before { again } else { true }
-    } else {
-        false
-    }
+    matches!(timer, Timer::T1 | Timer::T20)
 }
 
-fn ends(before: bool, after: bool) -> bool
-    ensures { result ≡ (before && not after) }
+fn is_started(
+    before: Running,
+    after: Running,
+    fired: Option<Timer>,
+    given: bool,
+    timer: Timer,
+) -> bool
+    ensures { result ≡ is_started before after fired given (Some timer) }
 {
-    if before {
-        if after { false } else { true }
-    } else {
-        false
-    }
+    let t = Some(timer);
+    let again = (given && runs_for_holder(timer)) || fired == t;
+    is_running(after, t) && (!is_running(before, t) || again)
 }
 
-fn either(a: bool, b: bool) -> bool
-    ensures { result ≡ (a || b) }
-{
-    if a { true } else { b }
-}
-
-// The clocks to start anew once a step is made.
-pub fn starts_anew(before: Running, after: Running, fired: Timer, given: bool) -> Running
+// The clocks to start anew once a step is made: `fired` is the timer that fired, if one did.
+#[tactic(auto, unfolding(crate::specs::Clocks::starts_anew))]
+pub fn starts_anew(before: Running, after: Running, fired: Option<Timer>, given: bool) -> Running
     ensures { result ≡ starts_anew before after fired given }
 {
-    let n = timer_number(fired);
-    let t1 = begins(before.t1, after.t1, either(given, n == 1));
-    let t2 = begins(before.t2, after.t2, n == 2);
-    let t3 = begins(before.t3, after.t3, n == 3);
-    let t4 = begins(before.t4, after.t4, n == 4);
-    let t7 = begins(before.t7, after.t7, n == 7);
-    let t8 = begins(before.t8, after.t8, n == 8);
-    let t20 = begins(before.t20, after.t20, either(given, n == 20));
-    Running {
-        t1,
-        t2,
-        t3,
-        t4,
-        t7,
-        t8,
-        t20,
-    }
+    timers_with(|t| is_started(before, after, fired, given, t))
 }
 
 // The clocks to stop.
+#[tactic(auto, unfolding(crate::specs::Clocks::stopped_timers))]
 pub fn stopped(before: Running, after: Running) -> Running
     ensures { result ≡ stopped_timers before after }
 {
-    let t1 = ends(before.t1, after.t1);
-    let t2 = ends(before.t2, after.t2);
-    let t3 = ends(before.t3, after.t3);
-    let t4 = ends(before.t4, after.t4);
-    let t7 = ends(before.t7, after.t7);
-    let t8 = ends(before.t8, after.t8);
-    let t20 = ends(before.t20, after.t20);
-    Running {
-        t1,
-        t2,
-        t3,
-        t4,
-        t7,
-        t8,
-        t20,
-    }
+    timers_with(|t| is_running(before, Some(t)) && !is_running(after, Some(t)))
 }

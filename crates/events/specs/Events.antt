@@ -1,13 +1,11 @@
 -- The events of document 01, "The desk". Assumes nothing.
-use Rattle.std.specs.Prelude.{ℕ, [], eqb}
+use Rattle.std.specs.Prelude.{ℕ, [], eqb, Option, Some, None, Result, Ok, Err}
 use Rattle.words.specs.Choice.{when◌then◌else◌}
 use Rattle.line.specs.Line.{waiting, line_of, without}
 use Rattle.hall.specs.declared.Hall.{Hall}
 use Rattle.identities.specs.declared.Names.{Names}
-use Rattle.hall.specs.declared.Asked.{Asked}
-use Rattle.hall.specs.declared.Found.{Found}
-use Rattle.hall.specs.declared.Found.TheVariants.{At, Nowhere}
-use Rattle.hall.specs.declared.Answer.TheVariants.{CallStopped, NoSuchSeat, NotExpected}
+use Rattle.hall.specs.declared.Refusal.{Refusal}
+use Rattle.hall.specs.declared.Refusal.TheVariants.{CallStopped, NoSuchSeat, NotExpected}
 use Rattle.hall.specs.Seats.{is_present, only, effective, seat_of, vacated}
 use Rattle.identities.specs.Identity.{no_name, with_name}
 use Rattle.steps.specs.declared.AlsoRuns.TheVariants.{T2}
@@ -20,8 +18,6 @@ use Rattle.giving.specs.Floor.{holds, enters_idle, floor_ends}
 use Rattle.request.specs.Request.{waits, info_of, request}
 use Rattle.events.specs.declared.Event.{Event}
 use Rattle.events.specs.declared.Event.TheVariants.{Start, Stop, Expiry, Request, Release, Position, Other, Media}
-use Rattle.events.specs.declared.Caller.{Caller}
-use Rattle.events.specs.declared.Caller.TheVariants.{Sits, Refused}
 use Rattle.events.specs.declared.Desk.{Desk}
 use Rattle.events.specs.declared.Outcome.{Outcome}
 use Rattle.timers.specs.Timers.{is_stopped}
@@ -46,16 +42,16 @@ starts c h (Taken e b) = refused c NotExpected
 starts c h (Revoking e n) = refused c NotExpected
 
 -- Who speaks, by SSRC: first 21, then 22, and only then a rule.
-abbrev pub sitting : Found → Caller
-sitting (At s) = Sits s
-sitting Nowhere = Refused NoSuchSeat
+abbrev pub sitting : Option ℕ → Result ℕ Refusal
+sitting (Some s) = Ok s
+sitting None = Err NoSuchSeat
 
-unfoldable pub caller_of : Core → Hall → ℕ → Caller
-caller_of c h ssrc = when is_stopped c.phase then Refused CallStopped else sitting (seat_of h ssrc)
+unfoldable pub caller_of : Core → Hall → ℕ → Result ℕ Refusal
+caller_of c h ssrc = when is_stopped c.phase then Err CallStopped else sitting (seat_of h ssrc)
 
-abbrev pub heard : Core → Caller → (ℕ → Step) → Step
-heard c (Sits s) rule = rule s
-heard c (Refused a) rule = refused c a
+abbrev pub heard : Core → Result ℕ Refusal → (ℕ → Step) → Step
+heard c (Ok s) rule = rule s
+heard c (Err r) rule = refused c r
 
 -- a waiting seat is struck off
 unfoldable pub struck_off : Core → ℕ → Step
@@ -80,20 +76,20 @@ talks c s (Idle t7) = refused c NotExpected
 talks c s Stopped = refused c NotExpected
 
 -- what a seat that is heard does
-abbrev pub request_from : Core → Hall → Caller → Asked → Step
+abbrev pub request_from : Core → Hall → Result ℕ Refusal → Option ℕ → Step
 request_from c h who a = heard c who (λ s. request c h s (effective h s a))
 
-abbrev pub release_from : Core → Hall → Caller → Step
+abbrev pub release_from : Core → Hall → Result ℕ Refusal → Step
 release_from c h who = heard c who (λ s. releases c h s)
 
-abbrev pub place_from : Core → Caller → Step
+abbrev pub place_from : Core → Result ℕ Refusal → Step
 place_from c who = heard c who (λ s. asks_place c s)
 
-abbrev pub media_from : Core → Caller → Step
+abbrev pub media_from : Core → Result ℕ Refusal → Step
 media_from c who = heard c who (λ s. talks c s c.phase)
 
 -- A packet of any other type, an Ack too, is refused by 23, but only from a seat of a running call.
-abbrev pub other_from : Core → Caller → Step
+abbrev pub other_from : Core → Result ℕ Refusal → Step
 other_from c who = heard c who (λ s. refused c NotExpected)
 
 -- every event but join and leave

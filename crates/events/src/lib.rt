@@ -2,32 +2,30 @@
 // function, here or in `request` and `firing`.
 #![tactic(auto)]
 
-ghost use Rattle.std.specs.Prelude.{◌≡◌};
-ghost use Rattle.events.specs.Events.{whole_desk, fresh, starts, caller_of, struck_off, releases, asks_place, talks, request_from, release_from, place_from, media_from, other_from, step, leave_floor, leave};
+ghost use Rattle.std.specs.Prelude.{◌≡◌, Ok, Err};
+ghost use Rattle.words.specs.Choice.{when◌then◌else◌};
+ghost use Rattle.steps.specs.Words.{answered, refused};
+ghost use Rattle.giving.specs.Floor.{holds, floor_ends};
+ghost use Rattle.request.specs.Request.{waits};
+ghost use Rattle.events.specs.Events.{whole_desk, outcome, fresh, starts, caller_of, struck_off, asks_place, talks, step, leave};
 
-use hall::{Answer, Asked, Found, Hall};
-use identities::{Name, Names};
+use hall::{Answer, Hall, Refusal};
+use identities::Names;
 use steps::{AlsoRuns, Core, Phase, Report, Step};
 use timers::Timer;
 
-// A seat's events come with its SSRC: Request, Release and Queue Position Request, any other packet, media.
+// A seat's events come with its SSRC: Request with the priority that it asks for, Release and Queue Position Request, any other packet,
+// media.
 #[derive(Clone, Copy)]
 pub enum Event {
     Start,
     Stop,
-    Expiry(Timer),
-    Request(u32, Asked),
+    Expiry(Option<Timer>),
+    Request(u32, Option<u8>),
     Release(u32),
     Position(u32),
     Media(u32),
     Other(u32),
-}
-
-// Who speaks: a seat, or nobody that can be heard.
-#[derive(Clone, Copy)]
-pub enum Caller {
-    Sits(u8),
-    Refused(Answer),
 }
 
 // The whole desk.
@@ -38,7 +36,7 @@ pub struct Desk {
     pub names: Names,
 }
 
-// What anything that happens to a desk comes to: its answer, the whole desk that it leaves, its report.
+// What anything that happens to a desk comes to: its answer, the whole desk that it leaves, its report. As in a step, a refusal has all three.
 #[derive(Clone, Copy)]
 pub struct Outcome {
     pub desk: Desk,
@@ -46,155 +44,103 @@ pub struct Outcome {
     pub answer: Answer,
 }
 
+#[tactic(auto, unfolding(crate::specs::Events::fresh))]
 pub fn fresh_core() -> Core
     ensures { result ≡ fresh }
 {
-    let line = line::nobody_waits();
     Core {
         phase: Phase::Stopped,
-        line,
+        line: line::nobody_waits(),
         sequence: 0,
         c7: 0,
         c20: 0,
     }
 }
 
+#[tactic(auto, unfolding(crate::specs::Events::starts))]
 fn start_call(core: Core, hall: Hall) -> Step
     ensures { result ≡ starts core hall core.phase }
 {
-    let phase = core.phase;
-    match phase {
+    match core.phase {
         Phase::Stopped => giving::enter_idle(core, hall),
-        Phase::Idle(_) => steps::answer(core, Answer::NotExpected),
-        Phase::Taken(_, _) => steps::answer(core, Answer::NotExpected),
-        Phase::Revoking(_, _) => steps::answer(core, Answer::NotExpected),
+        _ => steps::answer(core, Err(Refusal::NotExpected)),
     }
 }
 
-fn caller_of(core: Core, hall: Hall, ssrc: u32) -> Caller
+// Who speaks: a seat, or why nobody is heard.
+#[tactic(auto, using(words::specs::Choice::if_yes, words::specs::Choice::if_no), unfolding(crate::specs::Events::caller_of))]
+fn caller_of(core: Core, hall: Hall, ssrc: u32) -> Result<u8, Refusal>
     ensures { result ≡ caller_of core hall ssrc }
 {
-    let phase = core.phase;
-    if timers::is_stopped(phase) {
-        return Caller::Refused(Answer::CallStopped);
+    if timers::is_stopped(core.phase) {
+        return Err(Refusal::CallStopped);
     }
-    let found = hall::seat_of(hall, ssrc);
-    match found {
-        Found::At(s) => Caller::Sits(s),
-        Found::Nowhere => Caller::Refused(Answer::NoSuchSeat),
-    }
+    hall::seat_of(hall, ssrc).ok_or(Refusal::NoSuchSeat)
 }
 
+#[tactic(auto, unfolding(crate::specs::Events::struck_off))]
 fn strike_off(core: Core, seat: u8) -> Step
     ensures { result ≡ struck_off core seat }
 {
-    let line = core.line;
     let seats = hall::only_seat(seat);
-    let rest = line::struck(line, seats);
-    let shorter = steps::with_line(core, rest);
-    let step = steps::answer(shorter, Answer::Done);
+    let shorter = steps::with_line(core, line::struck(core.line, seats));
+    let step = steps::answer(shorter, Ok(()));
     steps::mark_struck(step, seats)
 }
 
-fn release(core: Core, hall: Hall, seat: u8) -> Step
-    ensures { result ≡ releases core hall seat }
+// Who holds the floor or waits gives that up; who does neither has this answer.
+#[tactic(auto, using(words::specs::Choice::if_yes, words::specs::Choice::if_no))]
+fn give_way(core: Core, hall: Hall, seat: u8, otherwise: Answer) -> Step
+    ensures { result ≡ (when holds core.phase seat then floor_ends core hall seat
+        else when waits core seat then struck_off core seat
+        else answered core otherwise) }
 {
-    let phase = core.phase;
-    if giving::is_holder(phase, seat) {
+    if giving::is_holder(core.phase, seat) {
         return giving::end_floor(core, hall, seat);
     }
     if request::is_waiting(core, seat) {
         strike_off(core, seat)
     } else {
-        steps::answer(core, Answer::NotExpected)
+        steps::answer(core, otherwise)
     }
 }
 
+#[tactic(auto, unfolding(crate::specs::Events::asks_place))]
 fn tell_place(core: Core, seat: u8) -> Step
     ensures { result ≡ asks_place core seat }
 {
-    let line = core.line;
-    let info = request::info_of(line, seat);
-    let to = hall::only_seat(seat);
-    steps::say(core, info, to)
+    let info = request::info_of(core.line, seat);
+    steps::say(core, info, hall::only_seat(seat))
 }
 
+#[tactic(auto, using(words::specs::Choice::if_yes, words::specs::Choice::if_no), unfolding(crate::specs::Events::talks))]
 fn talk(core: Core, seat: u8) -> Step
     ensures { result ≡ talks core seat core.phase }
 {
-    let phase = core.phase;
-    match phase {
-        Phase::Stopped => steps::answer(core, Answer::NotExpected),
-        Phase::Idle(_) => steps::answer(core, Answer::NotExpected),
-        Phase::Taken(e, _) => {
-            if e.seat == seat {
-                let talking = steps::in_phase(core, Phase::Taken(e, AlsoRuns::T2));
-                steps::answer(talking, Answer::Done)
-            } else {
-                steps::answer(core, Answer::NotExpected)
-            }
+    match core.phase {
+        Phase::Taken(e, _) if e.seat == seat => {
+            let talking = steps::in_phase(core, Phase::Taken(e, AlsoRuns::T2));
+            steps::answer(talking, Ok(()))
         }
-        Phase::Revoking(e, _) => {
-            if e.seat == seat {
-                steps::answer(core, Answer::Done)
-            } else {
-                steps::answer(core, Answer::NotExpected)
-            }
-        }
+        Phase::Revoking(e, _) if e.seat == seat => steps::answer(core, Ok(())),
+        _ => steps::answer(core, Err(Refusal::NotExpected)),
     }
 }
 
-// What a seat that is heard does.
-
-fn request_from(core: Core, hall: Hall, caller: Caller, wish: Asked) -> Step
-    ensures { result ≡ request_from core hall caller wish }
+// A seat that is heard does what its rule says; who is not has the refusal.
+fn heard<F: FnOnce(u8) -> Step>(core: Core, hall: Hall, ssrc: u32, rule: F) -> Step
+    requires { F.IsAlwaysCallable rule }
+    ensures sits { (s : _) → caller_of core hall ssrc ≡ Ok s → F.post rule s result }
+    ensures refused { (r : _) → caller_of core hall ssrc ≡ Err r → result ≡ refused core r }
 {
-    match caller {
-        Caller::Sits(s) => {
-            let priority = hall::effective_priority(hall, s, wish);
-            request::request_floor(core, hall, s, priority)
-        }
-        Caller::Refused(a) => steps::answer(core, a),
-    }
-}
-
-fn release_from(core: Core, hall: Hall, caller: Caller) -> Step
-    ensures { result ≡ release_from core hall caller }
-{
-    match caller {
-        Caller::Sits(s) => release(core, hall, s),
-        Caller::Refused(a) => steps::answer(core, a),
-    }
-}
-
-fn place_from(core: Core, caller: Caller) -> Step
-    ensures { result ≡ place_from core caller }
-{
-    match caller {
-        Caller::Sits(s) => tell_place(core, s),
-        Caller::Refused(a) => steps::answer(core, a),
-    }
-}
-
-fn media_from(core: Core, caller: Caller) -> Step
-    ensures { result ≡ media_from core caller }
-{
-    match caller {
-        Caller::Sits(s) => talk(core, s),
-        Caller::Refused(a) => steps::answer(core, a),
-    }
-}
-
-fn other_from(core: Core, caller: Caller) -> Step
-    ensures { result ≡ other_from core caller }
-{
-    match caller {
-        Caller::Sits(_) => steps::answer(core, Answer::NotExpected),
-        Caller::Refused(a) => steps::answer(core, a),
+    match caller_of(core, hall, ssrc) {
+        Ok(seat) => rule(seat),
+        Err(refusal) => steps::answer(core, Err(refusal)),
     }
 }
 
 // One step of the desk: every event but join and leave.
+#[tactic(auto, unfolding(crate::specs::Events::step, crate::specs::Events::releases))]
 pub fn make_step(core: Core, hall: Hall, event: Event) -> Step
     ensures { result ≡ step core hall event }
 {
@@ -202,75 +148,46 @@ pub fn make_step(core: Core, hall: Hall, event: Event) -> Step
         Event::Start => start_call(core, hall),
         Event::Stop => firing::stop_call(core),
         Event::Expiry(t) => firing::expire(core, hall, t),
-        Event::Request(x, wish) => {
-            let caller = caller_of(core, hall, x);
-            request_from(core, hall, caller, wish)
-        }
-        Event::Release(x) => {
-            let caller = caller_of(core, hall, x);
-            release_from(core, hall, caller)
-        }
-        Event::Position(x) => {
-            let caller = caller_of(core, hall, x);
-            place_from(core, caller)
-        }
-        Event::Media(x) => {
-            let caller = caller_of(core, hall, x);
-            media_from(core, caller)
-        }
-        Event::Other(x) => {
-            let caller = caller_of(core, hall, x);
-            other_from(core, caller)
-        }
+        Event::Request(x, wish) => heard(core, hall, x, |seat| {
+            let priority = hall::effective_priority(hall, seat, wish);
+            request::request_floor(core, hall, seat, priority)
+        }),
+        Event::Release(x) => heard(core, hall, x, |seat| {
+            give_way(core, hall, seat, Err(Refusal::NotExpected))
+        }),
+        Event::Position(x) => heard(core, hall, x, |seat| tell_place(core, seat)),
+        Event::Media(x) => heard(core, hall, x, |seat| talk(core, seat)),
+        Event::Other(x) => heard(core, hall, x, |_| {
+            steps::answer(core, Err(Refusal::NotExpected))
+        }),
     }
 }
 
-// Leave.
-
-fn leave_floor(core: Core, hall: Hall, seat: u8) -> Step
-    ensures { result ≡ leave_floor core hall seat }
+fn outcome_of(step: Step, hall: Hall, names: Names) -> Outcome
+    ensures { result ≡ outcome step hall names }
 {
-    let phase = core.phase;
-    if giving::is_holder(phase, seat) {
-        let rest = hall::vacate(hall, seat);
-        return giving::end_floor(core, rest, seat);
-    }
-    if request::is_waiting(core, seat) {
-        strike_off(core, seat)
-    } else {
-        steps::answer(core, Answer::Done)
+    Outcome {
+        desk: Desk {
+            core: step.core,
+            hall,
+            names,
+        },
+        report: step.report,
+        answer: step.answer,
     }
 }
 
+// Leave: what is sent goes to those who stay.
+#[tactic(auto, using(words::specs::Choice::if_yes, words::specs::Choice::if_no), unfolding(crate::specs::Events::leave, crate::specs::Events::leave_floor))]
 pub fn leave_call(core: Core, hall: Hall, names: Names, seat: u8) -> Outcome
     ensures { result ≡ leave (whole_desk core hall names) seat }
 {
-    if hall::is_present(hall, seat) {
-        let step = leave_floor(core, hall, seat);
-        let rest = hall::vacate(hall, seat);
-        let octets = [0u8; 62];
-        let named = identities::with_name(names, seat, Name { octets, len: 0 });
-        let answer = step.answer;
-        let core = step.core;
-        let report = step.report;
-        let desk = Desk {
-            core,
-            hall: rest,
-            names: named,
-        };
-        Outcome {
-            answer,
-            desk,
-            report,
-        }
-    } else {
-        let step = steps::answer(core, Answer::NoSuchSeat);
-        let report = step.report;
-        let desk = Desk { core, hall, names };
-        Outcome {
-            answer: Answer::NoSuchSeat,
-            desk,
-            report,
-        }
+    if !hall::is_present(hall, seat) {
+        let step = steps::answer(core, Err(Refusal::NoSuchSeat));
+        return outcome_of(step, hall, names);
     }
+    let rest = hall::vacate(hall, seat);
+    let step = give_way(core, rest, seat, Ok(()));
+    let named = identities::with_name(names, seat, identities::NO_NAME);
+    outcome_of(step, rest, named)
 }

@@ -1,10 +1,10 @@
 -- The timers of document 01, "The desk": what happens when one fires; and Stop, which T4 is as. Assumes nothing.
-use Rattle.std.specs.Prelude.{◌+◌, false, [], ltb}
+use Rattle.std.specs.Prelude.{◌+◌, false, [], ltb, Option, Some, None}
 use Rattle.words.specs.Choice.{when◌then◌else◌}
 use Rattle.line.specs.declared.Entry.{Entry}
 use Rattle.line.specs.Line.{waiting, line_of, seat_set}
 use Rattle.hall.specs.declared.Hall.{Hall}
-use Rattle.hall.specs.declared.Answer.TheVariants.{CallStopped, NotExpected}
+use Rattle.hall.specs.declared.Refusal.TheVariants.{CallStopped, NotExpected}
 use Rattle.hall.specs.Seats.{only, everybody}
 use Rattle.steps.specs.declared.Phase.{Phase}
 use Rattle.steps.specs.declared.Phase.TheVariants.{Stopped, Idle, Taken, Revoking}
@@ -67,18 +67,18 @@ grants_again c h (Idle t7) = refused c NotExpected
 grants_again c h Stopped = refused c NotExpected
 
 -- a timer that runs fires; the phases in which it does not run are refused above
-unfoldable pub fires : Core → Hall → Timer → Step
-fires c h timer.T1 = ends_in c h c.phase
-fires c h timer.T2 = revokes_in c c.phase
-fires c h timer.T3 = ends_in c h c.phase
-fires c h timer.T4 = stops c c.phase
-fires c h timer.T7 = idle_again c h
-fires c h timer.T8 = revokes_again c c.phase
-fires c h timer.T20 = grants_again c h c.phase
-fires c h timer.NoSuchTimer = refused c NotExpected
+unfoldable pub fires : Core → Hall → Option Timer → Step
+fires c h (Some timer.T1) = ends_in c h c.phase
+fires c h (Some timer.T2) = revokes_in c c.phase
+fires c h (Some timer.T3) = ends_in c h c.phase
+fires c h (Some timer.T4) = stops c c.phase
+fires c h (Some timer.T7) = idle_again c h
+fires c h (Some timer.T8) = revokes_again c c.phase
+fires c h (Some timer.T20) = grants_again c h c.phase
+fires c h None = refused c NotExpected
 
 -- In a stopped call every timer is refused by 21; in a running one, those that do not run by 23.
-unfoldable pub expires : Core → Hall → Timer → Step
+unfoldable pub expires : Core → Hall → Option Timer → Step
 expires c h t =
     when is_stopped c.phase then refused c CallStopped
     else when runs (running c.phase) t then fires c h t

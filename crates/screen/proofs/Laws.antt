@@ -6,21 +6,21 @@ use mathlib.Core.List.{List, [], ◌∷◌, ◌++◌, append_assoc}
 use mathlib.Core.Path.{◌≡◌, refl, sym, ap, subst, ◌∙◌}
 use lib.Dec.{ltb, leb}
 use lib.ListN.{length, take, drop, get_or, set, replicate, length-take, get_or-append, get_or-eq_default}
-use lib.Seq.{take-suc, take_all, drop-cons, set_at, get_or-append-add}
+use lib.Seq.{take-suc, take_all, take-take, drop-cons, set_at, get_or-append-add}
 use borrow.Author.Tests.{le-leb, lt-leb, leb-true, leb-false, ltb-true, ltb-false}
 use Rattle.words.specs.Choice.{when◌then◌else◌, by_test, if_yes, if_no}
 use Rattle.message.specs.Answers.{refused, result}
 use Rattle.line.specs.declared.Entry.{Entry}
 use Rattle.line.specs.declared.Line.{Line}
 use Rattle.line.specs.Line.{waiting, empty}
-use Rattle.screen.specs.declared.Shown.{Shown}
-use Rattle.screen.specs.declared.Shown.TheVariants.{All, NoRoom}
+use Rattle.std.specs.Prelude.{Option, Some, None}
 use Rattle.screen.specs.Screen.{shown_in, list_answer, shown_answer, over_first, filled, listing}
 
--- the first i entries of the line over the room's
+-- the first entries of the line over the room's, this many
 abbrev pub up_to : List Entry → List Entry → ℕ → List Entry
 up_to es room i = take i es ++ drop i room
 
+-- one more of them
 module _ (es room : List Entry) (i : ℕ) (in-line : i < length es) (in-room : i < length room) where
   pub upto_more : set (up_to es room i) i (get_or es i empty) ≡ up_to es room (i + 1)
   upto_more =
@@ -31,6 +31,11 @@ module _ (es room : List Entry) (i : ℕ) (in-line : i < length es) (in-room : i
         append_assoc (take i es) (get_or es i empty ∷ []) (drop (suc i) room),
       )
       (set_at (take i es) (get_or room i empty) (drop (suc i) room) (get_or es i empty) i (rw (length-take i es) (omega (arith, in-line))))
+
+-- the first entries of the line's array are the first who wait
+pub first_waiting : (l : Line) (n : ℕ) → n ≤ length (waiting l) → take n l.entries ≡ take n (waiting l)
+unfolding waiting
+first_waiting l n h = sym (take-take n l.len l.entries (omega (arith, h, length-take l.len l.entries)))
 
 -- all who wait, or none
 pub shown_all : (es : List Entry) (places : ℕ) → length es ≤ places → shown_in es places ≡ length es
@@ -50,11 +55,11 @@ unfolding list_answer when◌then◌else◌
 answered_none es places h = rw (lt-leb (length es) places h)
 
 -- the answer in the paper's numbers determines the answer, so any two answers that a promise here allows coincide
-pub told_one : (a b : Shown) → shown_answer a ≡ shown_answer b → a ≡ b
-told_one (All m) (All n) e = ap All cc
-told_one (All m) NoRoom e = cc
-told_one NoRoom (All n) e = cc
-told_one NoRoom NoRoom e = refl
+pub told_one : (a b : Option ℕ) → shown_answer a ≡ shown_answer b → a ≡ b
+told_one (Some m) (Some n) e = ap Some cc
+told_one (Some m) None e = cc
+told_one None (Some n) e = cc
+told_one None None e = refl
 
 pub shown_in_line : (es : List Entry) (places : ℕ) → shown_in es places ≤ length es
 shown_in_line es places =

@@ -1,5 +1,5 @@
 // The wall screen's list (document 01, "The desk"): the line, as a list of entries in lent room, in any phase. `fill` is thin: how many
-// entries are shown, which one stands at a place, and the answer are functions of their own.
+// entries are shown, and the answer, are functions of their own.
 #![tactic(auto)]
 
 ghost use Rattle.std.specs.Prelude.{◌≡◌, length};
@@ -8,14 +8,8 @@ ghost use Rattle.screen.specs.Screen.{shown_in, list_answer, shown_answer, fille
 
 use line::{Entry, Line};
 
-// The answer of a list: how many wait, all of whom are in the room; or refusal 13.
-#[derive(Clone, Copy)]
-pub enum Shown {
-    All(usize),
-    NoRoom,
-}
-
 // How many entries are written to a room of this many places: all who wait, or none where it is too short for them.
+#[tactic(auto, using(words::specs::Choice::if_yes, words::specs::Choice::if_no), unfolding(crate::specs::Screen::shown_in))]
 pub fn shown_in(line: Line, places: usize) -> usize
     ensures { result ≡ shown_in (waiting line) places }
 {
@@ -23,29 +17,23 @@ pub fn shown_in(line: Line, places: usize) -> usize
     if n <= places { n } else { 0 }
 }
 
-// What is answered for a room of this many places.
-pub fn answer(line: Line, places: usize) -> Shown
+// What is answered for a room of this many places: how many wait, all of whom are in the room; or none for refusal 13.
+#[tactic(auto, using(words::specs::Choice::if_yes, words::specs::Choice::if_no), unfolding(crate::specs::Screen::list_answer))]
+pub fn answer(line: Line, places: usize) -> Option<usize>
     ensures { shown_answer result ≡ list_answer (waiting line) places }
 {
     let n = line::count(line);
-    if n <= places {
-        Shown::All(n)
-    } else {
-        Shown::NoRoom
-    }
+    if n <= places { Some(n) } else { None }
 }
 
 // Writes the line to the room. Places past the line are untouched, and all are where the room is too short.
-pub fn fill(line: Line, room: &mut [Entry]) -> Shown
+pub fn fill(line: Line, room: &mut [Entry]) -> Option<usize>
     ensures { (shown_answer result ≡ list_answer (waiting line) (length room.old)) × (room.new ≡ filled (waiting line) room.old) }
 {
-    let n = shown_in(line, room.len());
-    let mut i = 0;
-    while i < n {
-        room[i] = line::entry_at(line, i);
-        i = i + 1;
-    }
-    answer(line, room.len())
+    let places = room.len();
+    let n = shown_in(line, places);
+    room[..n].copy_from_slice(&line.entries[..n]);
+    answer(line, places)
 }
 
 // Room for the longest line.
@@ -55,10 +43,7 @@ pub type Listing = [Entry; 15];
 pub fn listed(line: Line) -> Listing
     ensures { result ≡ listing (waiting line) }
 {
-    let mut room = [Entry {
-        seat: 0,
-        priority: 0,
-    }; 15];
+    let mut room = [line::EMPTY; 15];
     fill(line, &mut room);
     room
 }

@@ -6,8 +6,7 @@ ghost use Rattle.timers.specs.Timers.{timer_named, running, runs, is_stopped};
 
 use steps::{AlsoRuns, Phase};
 
-// A timer; NoSuchTimer is what a number names that no timer has, and never runs.
-#[derive(Clone, Copy)]
+#[derive(Clone, Copy, PartialEq, Eq)]
 pub enum Timer {
     T1,
     T2,
@@ -16,10 +15,9 @@ pub enum Timer {
     T7,
     T8,
     T20,
-    NoSuchTimer,
 }
 
-#[derive(Clone, Copy)]
+#[derive(Clone, Copy, PartialEq, Eq)]
 pub struct Running {
     pub t1: bool,
     pub t2: bool,
@@ -30,91 +28,77 @@ pub struct Running {
     pub t20: bool,
 }
 
-pub fn timer_named(n: u32) -> Timer
+const NONE_RUNNING: Running = Running {
+    t1: false,
+    t2: false,
+    t3: false,
+    t4: false,
+    t7: false,
+    t8: false,
+    t20: false,
+};
+
+// The timer that a number names, if one has it. An Option and no TryFrom: what names no timer is no error, but fires like any other and is
+// refused as one that does not run.
+#[tactic(auto, using(words::specs::Choice::if_yes, words::specs::Choice::if_no), unfolding(crate::specs::Timers::timer_named))]
+pub fn timer_named(n: u32) -> Option<Timer>
     ensures { result ≡ timer_named n }
 {
     match n {
-        1 => Timer::T1,
-        2 => Timer::T2,
-        3 => Timer::T3,
-        4 => Timer::T4,
-        7 => Timer::T7,
-        8 => Timer::T8,
-        20 => Timer::T20,
-        _ => Timer::NoSuchTimer,
-    }
-}
-
-fn none_running() -> Running
-    ensures { result ≡ running Phase.Stopped }
-{
-    Running {
-        t1: false,
-        t2: false,
-        t3: false,
-        t4: false,
-        t7: false,
-        t8: false,
-        t20: false,
+        1 => Some(Timer::T1),
+        2 => Some(Timer::T2),
+        3 => Some(Timer::T3),
+        4 => Some(Timer::T4),
+        7 => Some(Timer::T7),
+        8 => Some(Timer::T8),
+        20 => Some(Timer::T20),
+        _ => None,
     }
 }
 
 pub fn running_timers(phase: Phase) -> Running
     ensures { result ≡ running phase }
 {
-    let mut r = none_running();
     match phase {
-        Phase::Stopped => r,
-        Phase::Idle(t7) => {
-            r.t4 = true;
-            r.t7 = t7;
-            r
-        }
-        Phase::Taken(_, beside) => {
-            r.t1 = true;
-            match beside {
-                AlsoRuns::NoMore => r,
-                AlsoRuns::T2 => {
-                    r.t2 = true;
-                    r
-                }
-                AlsoRuns::T20 => {
-                    r.t20 = true;
-                    r
-                }
-            }
-        }
-        Phase::Revoking(_, _) => {
-            r.t1 = true;
-            r.t3 = true;
-            r.t8 = true;
-            r
-        }
+        Phase::Stopped => NONE_RUNNING,
+        Phase::Idle(t7) => Running {
+            t4: true,
+            t7,
+            ..NONE_RUNNING
+        },
+        Phase::Taken(_, beside) => Running {
+            t1: true,
+            t2: matches!(beside, AlsoRuns::T2),
+            t20: matches!(beside, AlsoRuns::T20),
+            ..NONE_RUNNING
+        },
+        Phase::Revoking(_, _) => Running {
+            t1: true,
+            t3: true,
+            t8: true,
+            ..NONE_RUNNING
+        },
     }
 }
 
-pub fn is_running(running: Running, timer: Timer) -> bool
+// Whether this timer runs. What a number names that no timer has never does.
+pub fn is_running(running: Running, timer: Option<Timer>) -> bool
     ensures { result ≡ runs running timer }
 {
     match timer {
-        Timer::T1 => running.t1,
-        Timer::T2 => running.t2,
-        Timer::T3 => running.t3,
-        Timer::T4 => running.t4,
-        Timer::T7 => running.t7,
-        Timer::T8 => running.t8,
-        Timer::T20 => running.t20,
-        Timer::NoSuchTimer => false,
+        Some(Timer::T1) => running.t1,
+        Some(Timer::T2) => running.t2,
+        Some(Timer::T3) => running.t3,
+        Some(Timer::T4) => running.t4,
+        Some(Timer::T7) => running.t7,
+        Some(Timer::T8) => running.t8,
+        Some(Timer::T20) => running.t20,
+        None => false,
     }
 }
 
 pub fn is_stopped(phase: Phase) -> bool
     ensures { result ≡ is_stopped phase }
 {
-    match phase {
-        Phase::Stopped => true,
-        Phase::Idle(_) => false,
-        Phase::Taken(_, _) => false,
-        Phase::Revoking(_, _) => false,
-    }
+    matches!(phase, Phase::Stopped)
 }

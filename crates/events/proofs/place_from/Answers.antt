@@ -1,8 +1,0 @@
--- `events::place_from` meets its contract. Assumes nothing.
-use Rattle.events.proofs.place_from.Goals as goal
-
-pub returns-in-Sits : goal.returns-in-Sits
-returns-in-Sits c = rw c.in-Sits.is c.tell_place.ensures
-
-pub returns-in-Refused : goal.returns-in-Refused
-returns-in-Refused c = rw c.in-Refused.is c.answer.ensures

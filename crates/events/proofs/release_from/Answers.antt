@@ -1,8 +1,0 @@
--- `events::release_from` meets its contract. Assumes nothing.
-use Rattle.events.proofs.release_from.Goals as goal
-
-pub returns-in-Sits : goal.returns-in-Sits
-returns-in-Sits c = rw c.in-Sits.is c.release.ensures
-
-pub returns-in-Refused : goal.returns-in-Refused
-returns-in-Refused c = rw c.in-Refused.is c.answer.ensures
