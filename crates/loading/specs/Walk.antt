@@ -1,17 +1,15 @@
 -- How the code goes through a sheet to load it, seat by seat. What is loaded stands in Loading. Assumes nothing.
-use Rattle.std.specs.Prelude.{ℕ, List}
+use Rattle.std.specs.Prelude.{ℕ, List, Option, None}
+use Rattle.std.specs.Option.{option_map}
 use Rattle.words.specs.Choice.{when◌then◌else◌}
-use Rattle.hall.specs.declared.Found.TheVariants.{Nowhere}
-use Rattle.hall.specs.declared.Hall.{Hall}
-use Rattle.identities.specs.declared.Names.{Names}
 use Rattle.joining.specs.Join.{join}
 use Rattle.loading.specs.declared.Turn.{Turn}
 use Rattle.loading.specs.Loading.{laid_out, after_seat, read_seat}
 
--- one seat read and seated
-unfoldable pub turn_at : List ℕ → ℕ → Hall → Names → Turn
-turn_at s at h ns =
-    when laid_out s at then
-    (let j = join h ns (read_seat s at).identity (read_seat s at).who in
-    record { seat = j.seat; next = after_seat s at; hall = j.hall; names = j.names })
-    else record { seat = Nowhere; next = at; hall = h; names = ns }
+-- one seat more, if it is laid out and takes one of the hall's
+unfoldable pub turn_at : List ℕ → Turn → Option Turn
+turn_at s t =
+    when laid_out s t.next then
+    (let j = join t.hall t.names (read_seat s t.next).identity (read_seat s t.next).who in
+    option_map (λ (seat : ℕ). record { next = after_seat s t.next; hall = j.hall; names = j.names }) j.seat)
+    else None

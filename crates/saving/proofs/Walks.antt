@@ -6,7 +6,7 @@ use native.Mathlib.Numerals.{add-one}
 use mathlib.Core.List.{List, [], ◌++◌, append_assoc, append-nil}
 use mathlib.Core.Path.{◌≡◌, refl, sym, ap, ◌∙◌}
 use lib.ListN.{length, length-append}
-use Rattle.words.specs.Choice.{when◌then◌else◌, by_test}
+use Rattle.words.specs.Choice.{when◌then◌else◌, one, by_test}
 use Rattle.octets.specs.Octets.{over}
 use Rattle.octets.proofs.Over.{over_none, over-two}
 use Rattle.hall.specs.declared.Hall.{Hall}
@@ -16,7 +16,6 @@ use Rattle.seat_octets.specs.Layout.{settings_size, settings_octets}
 use Rattle.seat_octets.proofs.SettingsLaws.{settings_long}
 use Rattle.sheet.specs.Layout.{Seat, seats_octets, seats_from, seats_of, trailer, sheet, sheet_of}
 use Rattle.seat_saving.specs.Seat.{octets_at_seat}
-use Rattle.saving.specs.Walk.{count_at}
 
 pub over_front : (room xs ys : List ℕ) → over (over room 0 xs) (length xs) ys ≡ over room 0 (xs ++ ys)
 over_front room xs ys =
@@ -28,36 +27,40 @@ module _ (h : Hall) (ns : Names) where
     unfolding octets_at_seat seats_octets when◌then◌else◌
     one-octets = by_test (is_present h s) (λ e. rw e) (λ e. rw e)
 
-    one_count : length (seats_from h ns (suc n) s) ≡ count_at h s + length (seats_from h ns n (suc s))
+    one_count : length (seats_from h ns (suc n) s) ≡ one (is_present h s) + length (seats_from h ns n (suc s))
     unfolding when◌then◌else◌
     one_count = by_test (is_present h s) (λ e. rw e (omega arith)) (λ e. rw e (omega arith))
 
   left_one : (s : ℕ) → s < 16 → 16 - s ≡ suc (16 - (s + 1))
   left_one s l = omega arith
 
-  abbrev pub rest : ℕ → List Seat
+  -- the seats from one on
+  unfoldable pub rest : ℕ → List Seat
   rest s = seats_from h ns (16 - s) s
 
+  pub rest_all : seats_of h ns ≡ rest 0
+  unfolding seats_of rest
+  rest_all = refl
+
   pub octets_on : (s : ℕ) → s < 16 → seats_octets (rest s) ≡ octets_at_seat h ns s ++ seats_octets (rest (s + 1))
+  unfolding rest
   octets_on s l =
       ap (λ (n : ℕ). seats_octets (seats_from h ns n s)) (left_one s l) ∙ one-octets (16 - (s + 1)) s
       ∙ ap (λ (t : ℕ). octets_at_seat h ns s ++ seats_octets (seats_from h ns (16 - (s + 1)) t)) (sym (add-one s))
 
-  pub count_on : (s : ℕ) → s < 16 → length (rest s) ≡ count_at h s + length (rest (s + 1))
+  pub count_on : (s : ℕ) → s < 16 → length (rest s) ≡ one (is_present h s) + length (rest (s + 1))
+  unfolding rest
   count_on s l =
       ap (λ (n : ℕ). length (seats_from h ns n s)) (left_one s l) ∙ one_count (16 - (s + 1)) s
-      ∙ ap (λ (t : ℕ). count_at h s + length (seats_from h ns (16 - (s + 1)) t)) (sym (add-one s))
+      ∙ ap (λ (t : ℕ). one (is_present h s) + length (seats_from h ns (16 - (s + 1)) t)) (sym (add-one s))
 
   pub rest_none : (s : ℕ) → 16 ≤ s → rest s ≡ []
+  unfolding rest
   rest_none s l = let z : 16 - s ≡ 0 = omega arith in rw z
 
   pub no_octets : (s : ℕ) → 16 ≤ s → seats_octets (rest s) ≡ []
   unfolding seats_octets
   no_octets s l = rw (rest_none s l)
-
-  pub count_few : (s : ℕ) → count_at h s ≤ 1
-  unfolding when◌then◌else◌
-  count_few s = by_test (is_present h s) (λ e. rw e (omega arith)) (λ e. rw e (omega arith))
 
   -- the seats below s are written
   pub record Put (room₀ room : List ℕ) (at s : ℕ) : Type 0 where
@@ -67,8 +70,7 @@ module _ (h : Hall) (ns : Names) where
     pub all : done ++ seats_octets (rest s) ≡ seats_octets (seats_of h ns)
 
   pub put_starts : (room : List ℕ) → Put room room 0 0
-  unfolding seats_of
-  put_starts room = record { done = []; ends = refl; is = sym (over_none room 0); all = refl }
+  put_starts room = record { done = []; ends = refl; is = sym (over_none room 0); all = ap seats_octets (sym rest_all) }
 
   pub put_fits : (room₀ room : List ℕ) (at s : ℕ) → s < 16 → Put room₀ room at s
       → at + length (octets_at_seat h ns s) ≤ length (seats_octets (seats_of h ns))

@@ -1,15 +1,10 @@
 -- How the code goes through a hall to save it, seat by seat. What is saved stands in Saving, and in sheet/specs/Layout; what
 -- one seat puts there in seat_saving/specs/Seat. Assumes nothing.
-use Rattle.std.specs.Prelude.{ℕ, ◌≤◌, ◌≡◌, length}
-use Rattle.words.specs.Choice.{when◌then◌else◌}
+use Rattle.std.specs.Prelude.{◌≤◌, ◌≡◌, length}
 use Rattle.hall.specs.declared.Hall.{Hall}
-use Rattle.hall.specs.Seats.{is_present}
 use Rattle.identities.specs.declared.Names.{Names}
 use Rattle.sheet.specs.Layout.{seats_octets, seats_of}
 use Rattle.saving.specs.declared.Extent.{Extent}
-
-abbrev pub count_at : Hall → ℕ → ℕ
-count_at h s = when is_present h s then 1 else 0
 
 -- how many octets the seats have, 69 at most each, and how many seats there are
 pub record Measured (h : Hall) (ns : Names) (e : Extent) : Type 0 where

@@ -1,22 +1,32 @@
 // Saves the seats and settings of a desk as a sheet (document 01, "The sheet", and 13; document 02, #101, 48).
 #![tactic(auto)]
 
-ghost use Rattle.std.specs.Prelude.{◌≡◌, ◌≤◌, length};
+ghost use Rattle.std.specs.Prelude.{◌≡◌, ◌≤◌, length, IfOk};
 ghost use Rattle.octets.specs.Octets.{over};
 ghost use Rattle.sheet.specs.Layout.{seats_octets, seats_of, longest_sheet};
-ghost use Rattle.saving.specs.Saving.{room_after, Saves, saving_answer};
-ghost use Rattle.saving.specs.Walk.{count_at, Measured};
+ghost use Rattle.saving.specs.Saving.{saving_refusal_number, room_after, Saves};
+ghost use Rattle.saving.specs.Walk.{Measured};
 
 use hall::Hall;
 use identities::Names;
 
-// What saving answers: how many octets the sheet has, or why there is none; specs/Saving.antt has the paper's number of each.
-#[derive(Clone, Copy)]
-pub enum Saving {
-    Saved(usize),
+// Why there is no sheet; specs/Saving.antt has the paper's number of each.
+#[derive(Clone, Copy, PartialEq, Eq)]
+pub enum Refusal {
     // The normal level is not 0, and a sheet has no place for it.
     CannotHold,
     NoRoom,
+}
+
+impl From<Refusal> for u8 {
+    ghost from_gives = { λ refusal n. n ≡ saving_refusal_number refusal };
+
+    fn from(refusal: Refusal) -> u8 {
+        match refusal {
+            Refusal::CannotHold => 48,
+            Refusal::NoRoom => 13,
+        }
+    }
 }
 
 // How many octets the seats have on the sheet, and how many seats are taken.
@@ -26,24 +36,18 @@ pub struct Extent {
     pub count: u8,
 }
 
+// The hall and its names stay two parameters: a step of a running call takes the hall alone, and would have to take a struct of both apart.
+
 // How far the sheet's seats reach, seat by seat.
-
-fn count_at(hall: Hall, seat: u8) -> u8
-    ensures { result ≡ count_at hall seat }
-{
-    if hall::is_present(hall, seat) { 1 } else { 0 }
-}
-
+#[tactic(auto, using(crate::proofs::Walks::rest_all))]
 fn extent_of(hall: Hall, names: Names) -> Extent
     ensures { Measured hall names result }
 {
     let mut octets = 0;
-    let mut count: u8 = 0;
-    let mut seat: u8 = 0;
-    while seat < 16 {
+    let mut count = 0;
+    for seat in 0..16 {
         octets += seat_saving::octets_at(hall, names, seat);
-        count += count_at(hall, seat);
-        seat += 1;
+        count += u8::from(hall::is_present(hall, seat));
     }
     Extent { octets, count }
 }
@@ -54,27 +58,25 @@ fn put_seats(room: &mut [u8], hall: Hall, names: Names)
     ensures { room.new ≡ over room.old 0 (seats_octets (seats_of hall names)) }
 {
     let mut at = 0;
-    let mut seat: u8 = 0;
-    while seat < 16 {
+    for seat in 0..16 {
         at = seat_saving::put_taken(room, at, hall, names, seat);
-        seat += 1;
     }
 }
 
 // Saves the seats and settings into the room; where a sheet cannot hold them, or with too little room, it writes nothing.
-pub fn save(hall: Hall, names: Names, room: &mut [u8]) -> Saving
+pub fn save(hall: Hall, names: Names, room: &mut [u8]) -> Result<usize, Refusal>
     ensures saves { Saves hall names room.old result }
     ensures room_after { room.new ≡ room_after hall names room.old }
-    ensures result_bound { (saving_answer result).written ≤ longest_sheet }
+    ensures result_bound { IfOk result (λ n. n ≤ longest_sheet) }
 {
     let settings = hall.settings;
     if settings.normal != 0 {
-        return Saving::CannotHold;
+        return Err(Refusal::CannotHold);
     }
     let extent = extent_of(hall, names);
     let at = extent.octets;
     if room.len() < at + sheet::TAIL_SIZE {
-        return Saving::NoRoom;
+        return Err(Refusal::NoRoom);
     }
     put_seats(room, hall, names);
     seat_octets::put_settings(room, at, settings);
@@ -84,5 +86,5 @@ pub fn save(hall: Hall, names: Names, room: &mut [u8]) -> Saving
         at as u16,
         extent.count,
     );
-    Saving::Saved(at + sheet::TAIL_SIZE)
+    Ok(at + sheet::TAIL_SIZE)
 }

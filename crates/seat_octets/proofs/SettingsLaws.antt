@@ -7,8 +7,8 @@ use mathlib.Core.List.{List, [], ◌∷◌, ◌++◌}
 use mathlib.Core.Path.{◌≡◌, refl, ap, sym, ◌∙◌}
 use lib.Dec.{eqb}
 use lib.ListN.{get_or, take, drop}
-use borrow.Author.Tests.{eqb-true, eqb-false, eq-eqb, ne_eqb}
-use Rattle.words.specs.Choice.{by_test}
+use Rattle.std.proofs.lemmas.Bool.Decides.{nat_tests}
+use borrow.Author.Tests.{eqb-true, eq-eqb}
 use Rattle.octets.specs.Octets.{be16, be32, octets16, octets32, part, Octets}
 use Rattle.hall.specs.declared.Settings.{Settings}
 use Rattle.seat_octets.specs.Layout.{level_within, limit_within, c7_within, c20_within, duration_within, normal_within, unused_within}
@@ -19,6 +19,11 @@ use Rattle.seat_octets.proofs.Numbers.{number_again, long_again, octet_at_lem, b
 pub settings_long : SettingsLong
 unfolding settings_octets octets32 octets16
 settings_long g = refl
+
+-- what a proof about their octets opens
+unfoldable pub laid : Type 0
+unfolding settings_octets octets32 octets16
+laid = ℕ
 
 -- what stands in their octets, with others behind them
 module _ (g : Settings) (q : List ℕ) where
@@ -93,12 +98,7 @@ settings_forth s at o h z =
 
 -- a number of two octets is 0 where both are
 two_zeros : (a b : ℕ) → eqb (256 * a + b) 0 ≡ eqb a 0 && eqb b 0
-two_zeros a b =
-    by_test (eqb a 0)
-    (λ p. let x = eqb-true a 0 p in
-    by_test (eqb b 0) (λ q. rw (p, q) (eq-eqb (256 * a + b) 0 (omega (arith, x, eqb-true b 0 q))))
-    (λ q. let y = eqb-false b 0 q in rw (p, q) (ne_eqb (256 * a + b) 0 (λ z. y (omega (arith, z))))))
-    (λ p. let x = eqb-false a 0 p in rw p (ne_eqb (256 * a + b) 0 (λ z. x (omega (arith, z)))))
+two_zeros a b = grind (arith, nat_tests)
 
 pub zeros_say : ZerosSay
 unfolding zeros_fit settings_in unused_zero be16

@@ -3,7 +3,6 @@
 #![tactic(auto)]
 
 ghost use Rattle.std.specs.Prelude.{◌≡◌, ◌+◌, ◌≤◌, length};
-ghost use Rattle.words.specs.Choice.{when◌then◌else◌};
 ghost use Rattle.octets.specs.Octets.{over};
 ghost use Rattle.seat_octets.specs.Layout.{flags_octet, flags_of, settings_size, settings_octets, settings_in, unused_zero, zeros_fit};
 
@@ -29,19 +28,16 @@ pub const NORMAL_WITHIN: usize = 10;
 
 pub const UNUSED_WITHIN: usize = 11;
 
-// A bit of an octet, where its flag is set.
-fn bit(flag: bool, value: u8) -> u8
-    ensures { (result ≡ (when flag then value else 0)) × (result ≤ value) }
-{
-    if flag { value } else { 0 }
-}
+// Two functions, and no From either way: neither the flags nor the octet is a type of this crate.
 
+#[tactic(auto, unfolding(crate::proofs::Bits::octet_of_flags))]
 pub fn flags_octet(flags: Flags) -> u8
     ensures { result ≡ flags_octet flags }
 {
-    bit(flags.queueing, 1) + bit(flags.receive_only, 2)
+    u8::from(flags.queueing) + 2 * u8::from(flags.receive_only)
 }
 
+#[tactic(auto, unfolding(crate::specs::Layout::flags_of))]
 pub fn flags_of(octet: u8) -> Flags
     ensures { result ≡ flags_of octet }
 {
@@ -51,6 +47,7 @@ pub fn flags_of(octet: u8) -> Flags
     }
 }
 
+#[tactic(auto, using(octets::proofs::Over::over_more), unfolding(crate::proofs::SettingsLaws::laid))]
 pub fn put_settings(room: &mut [u8], at: usize, settings: Settings)
     requires { at + settings_size ≤ length room.old }
     ensures { room.new ≡ over room.old at (settings_octets settings) }
@@ -62,6 +59,7 @@ pub fn put_settings(room: &mut [u8], at: usize, settings: Settings)
     octets::put_pair(room, at + NORMAL_WITHIN, settings.normal, 0);
 }
 
+#[tactic(auto, unfolding(crate::specs::Layout::settings_in))]
 pub fn settings_in(s: &[u8], at: usize) -> Settings
     requires { at + settings_size ≤ length s.now }
     ensures { result ≡ settings_in s.now at }
@@ -78,6 +76,7 @@ pub fn settings_in(s: &[u8], at: usize) -> Settings
 }
 
 // Whether the octet that no setting has is zero.
+#[tactic(auto, unfolding(crate::specs::Layout::unused_zero))]
 pub fn unused_zero(s: &[u8], at: usize) -> bool
     requires { at + settings_size ≤ length s.now }
     ensures { result ≡ unused_zero s.now at }
@@ -86,6 +85,7 @@ pub fn unused_zero(s: &[u8], at: usize) -> bool
 }
 
 // Whether the two zeros of a sheet are zero.
+#[tactic(auto, unfolding(crate::specs::Layout::zeros_fit))]
 pub fn zeros_fit(s: &[u8], at: usize) -> bool
     requires { at + settings_size ≤ length s.now }
     ensures { result ≡ zeros_fit s.now at }

@@ -4,7 +4,7 @@ use mathlib.Core.Bool.{true, false}
 use mathlib.Core.List.{List, [], ◌∷◌, ◌++◌}
 use mathlib.Core.Path.{◌≡◌, refl, ap}
 use lib.ListN.{length, take}
-use Rattle.words.specs.Choice.{if_yes, if_no}
+use Rattle.words.specs.Choice.{when◌then◌else◌, if_yes, if_no}
 use Rattle.octets.specs.Octets.{octets16, octets32, part}
 use Rattle.hall.specs.declared.Hall.{Hall}
 use Rattle.hall.specs.declared.Newcomer.{Newcomer}
@@ -15,6 +15,11 @@ use Rattle.identities.specs.Identity.{octets_of}
 use Rattle.seat_octets.specs.Layout.{flags_octet}
 use Rattle.sheet.specs.Layout.{octets_of_seat, seat_at}
 use Rattle.seat_saving.specs.Seat.{octets_at_seat}
+
+-- what a proof about a seat of the hall opens
+unfoldable pub opened : Type 0
+unfolding octets_at_seat when◌then◌else◌
+opened = ℕ
 
 module _ (h : Hall) (ns : Names) where
   pub taken : (s : ℕ) → is_present h s ≡ true → octets_at_seat h ns s ≡ octets_of_seat (seat_at h ns s)

@@ -17,12 +17,15 @@ pub fn who_sits(hall: Hall, seat: u8) -> Newcomer
     ensures { result ≡ who_sits hall seat }
 {
     let s = seat as usize;
-    let ssrcs = hall.ssrcs;
-    let highest = hall.highest;
-    hall::newcomer_of(ssrcs[s], highest[s], hall::flags_at(hall, seat))
+    Newcomer {
+        ssrc: hall.ssrcs[s],
+        highest: hall.highest[s],
+        flags: hall::flags_at(hall, seat),
+    }
 }
 
 // How many octets a seat of the hall has on the sheet; a free one has none.
+#[tactic(auto, using(sheet::proofs::Sizes::length_seat), unfolding(crate::proofs::Seat::opened))]
 pub fn octets_at(hall: Hall, names: Names, seat: u8) -> usize
     ensures { (result ≡ length (octets_at_seat hall names seat)) × (result ≤ 69) }
 {
@@ -35,6 +38,7 @@ pub fn octets_at(hall: Hall, names: Names, seat: u8) -> usize
 }
 
 // Writes one seat at `at`, and says where it ends.
+#[tactic(auto, using(octets::proofs::Over::over_more), unfolding(crate::proofs::Seat::opened))]
 pub fn put_seat(room: &mut [u8], at: usize, who: Newcomer, name: Name) -> usize
     requires { at + seat_head + length (octets_of name) ≤ length room.old }
     ensures value { result ≡ at + seat_head + length (octets_of name) }
@@ -44,21 +48,24 @@ pub fn put_seat(room: &mut [u8], at: usize, who: Newcomer, name: Name) -> usize
     octets::put_pair(room, at, seat_octets::flags_octet(who.flags), who.highest);
     octets::put32(room, at + sheet::SSRC_WITHIN, who.ssrc);
     room[at + sheet::LENGTH_WITHIN] = n as u8;
-    let identity = name.octets;
-    copying::put_part(room, at + sheet::SEAT_HEAD, &identity, 0, n);
+    copying::put_part(room, at + sheet::SEAT_HEAD, &name.octets, 0, n);
     at + sheet::SEAT_HEAD + n
 }
 
 // Writes what a seat of the hall, taken or free, puts on the sheet, and says where that ends.
+#[tactic(auto, using(sheet::proofs::Sizes::length_seat, octets::proofs::Over::over_none), unfolding(crate::proofs::Seat::opened))]
 pub fn put_taken(room: &mut [u8], at: usize, hall: Hall, names: Names, seat: u8) -> usize
     requires { (seat < 16) × (at + length (octets_at_seat hall names seat) ≤ length room.old) }
     ensures value { result ≡ at + length (octets_at_seat hall names seat) }
     ensures room_after { room.new ≡ over room.old at (octets_at_seat hall names seat) }
 {
     if hall::is_present(hall, seat) {
-        let who = who_sits(hall, seat);
-        let name = identities::name_at(names, seat);
-        put_seat(room, at, who, name)
+        put_seat(
+            room,
+            at,
+            who_sits(hall, seat),
+            identities::name_at(names, seat),
+        )
     } else {
         at
     }

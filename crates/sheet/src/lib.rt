@@ -5,7 +5,7 @@
 ghost use Rattle.std.specs.Prelude.{◌≡◌, ◌+◌, ◌≤◌, length};
 ghost use Rattle.octets.specs.Octets.{over};
 ghost use Rattle.sheet.specs.Layout.{trailer_size, trailer};
-ghost use Rattle.sheet.specs.Framing.{verdict_number, framing, seat_count};
+ghost use Rattle.sheet.specs.Framing.{sheet_refusal_number, verdict_number, framing, seat_count};
 
 // The form that is written and read, and the letters F and S as one number.
 const FORM: u8 = 1;
@@ -35,10 +35,9 @@ const FORM_PLACE: usize = 5;
 
 const LETTERS_PLACE: usize = 6;
 
-// What loading answers; specs/Framing.antt has the paper's number of each.
-#[derive(Clone, Copy)]
-pub enum Verdict {
-    Accepted,
+// What is wrong with a sheet; specs/Framing.antt has the paper's number of each.
+#[derive(Clone, Copy, PartialEq, Eq)]
+pub enum Refusal {
     NotASheet,
     OtherForm,
     WrongPlaces,
@@ -46,20 +45,31 @@ pub enum Verdict {
     SeatAtFault,
 }
 
-// The number of a verdict; 0 is accepted.
-pub fn verdict_number(verdict: Verdict) -> u8
-    ensures { result ≡ verdict_number verdict }
-{
-    match verdict {
-        Verdict::Accepted => 0,
-        Verdict::NotASheet => 41,
-        Verdict::OtherForm => 42,
-        Verdict::WrongPlaces => 43,
-        Verdict::OutsideRange => 44,
-        Verdict::SeatAtFault => 45,
+impl From<Refusal> for u8 {
+    ghost from_gives = { λ refusal n. n ≡ sheet_refusal_number refusal };
+
+    fn from(refusal: Refusal) -> u8 {
+        match refusal {
+            Refusal::NotASheet => 41,
+            Refusal::OtherForm => 42,
+            Refusal::WrongPlaces => 43,
+            Refusal::OutsideRange => 44,
+            Refusal::SeatAtFault => 45,
+        }
     }
 }
 
+// The number of a verdict; 0 is accepted.
+pub fn verdict_number(verdict: Result<(), Refusal>) -> u8
+    ensures { result ≡ verdict_number verdict }
+{
+    match verdict {
+        Ok(()) => 0,
+        Err(refusal) => u8::from(refusal),
+    }
+}
+
+#[tactic(auto, using(octets::proofs::Over::over_more), unfolding(crate::specs::Layout::trailer, octets::specs::Octets::octets16))]
 pub fn put_trailer(room: &mut [u8], at: usize, offset: u16, count: u8)
     requires { at + trailer_size ≤ length room.old }
     ensures { room.new ≡ over room.old at (trailer offset count) }
@@ -71,30 +81,28 @@ pub fn put_trailer(room: &mut [u8], at: usize, offset: u16, count: u8)
 }
 
 // 41, 42, 43.
-pub fn judge_trailer(s: &[u8]) -> Verdict
+#[tactic(auto, using(std::proofs::lemmas::Bool::Decides::nat_tests), unfolding(crate::proofs::Frames::judging))]
+pub fn judge_trailer(s: &[u8]) -> Result<(), Refusal>
     ensures { result ≡ framing s.now }
 {
     let n = s.len();
     if n < TAIL_SIZE {
-        return Verdict::NotASheet;
+        return Err(Refusal::NotASheet);
     }
     let at = n - TRAILER_SIZE;
     if octets::number16(s, at + LETTERS_PLACE) != LETTERS {
-        return Verdict::NotASheet;
+        return Err(Refusal::NotASheet);
     }
     if s[at + FORM_PLACE] != FORM {
-        return Verdict::OtherForm;
+        return Err(Refusal::OtherForm);
     }
-    if 16 < s[at + SEAT_COUNT] {
-        return Verdict::WrongPlaces;
+    if 16 < s[at + SEAT_COUNT]
+        || octets::number16(s, at) as usize + TAIL_SIZE != n
+        || octets::number16(s, at + SEATS_OFFSET) != 0
+    {
+        return Err(Refusal::WrongPlaces);
     }
-    if octets::number16(s, at) as usize + TAIL_SIZE != n {
-        return Verdict::WrongPlaces;
-    }
-    if octets::number16(s, at + SEATS_OFFSET) != 0 {
-        return Verdict::WrongPlaces;
-    }
-    Verdict::Accepted
+    Ok(())
 }
 
 // How many seats a sheet says it has.

@@ -1,52 +1,34 @@
 -- `loading::take_seats` meets its contract. Assumes nothing.
-use Prim.Native.Nat.{ℕ}
-use mathlib.Core.Path.{◌≡◌, refl, sym, ap, ◌∙◌}
-use Rattle.loading.proofs.Loads.{turn_fault, turn_on, loads_gap, loads_end}
-use Rattle.loading.specs.Loading.{seat_all, read_seats}
-use native.Mathlib.Omega.{arith}
+use Rattle.std.proofs.Common.{◌≡◌, ◌-◌, ◌+◌, Some, None, Err, ◌∙◌, sym, arith}
+use Rattle.sheet.specs.declared.Refusal.TheVariants.{SeatAtFault}
+use Rattle.loading.proofs.Loads.{goes_on, loads_end, loads_gap}
 use Rattle.loading.proofs.take_seats.Goals as goal
 
-pub loop-left-init : goal.loop-left-init
-loop-left-init c = refl
+pub returns-in_err-turn : goal.returns-in_err-turn
+returns-in_err-turn c =
+    let v = c.loop-seat in
+    let none : c.take_next.result ≡ None = grind arith in
+    let fault : c.from_residual.result ≡ Err SeatAtFault = grind arith in
+    rw (← c.empty_hall.ensures, ← c.no_names.ensures)
+    (fault ∙ sym
+    (v.invariant ∙ goes_on c.args.s.now (c.args.count - v._seat) (c.args.count - (v._seat + 1)) v.turn None (omega arith)
+    (sym none ∙ c.take_next.ensures)))
 
-pub returns-in-Nowhere : goal.returns-in-Nowhere
-returns-in-Nowhere c =
-    let v = c.loop-left in
-    rw (
-      sym c.empty_hall-hall.ensures,
-      sym c.no_names-names.ensures,
-    )
-    (c.refuse.ensures ∙ sym
-    (v.invariant ∙ turn_fault v.hall v.names c.args.s.now
-    v.at v.left c.loop-left-test.true c.take_next-turn.result
-    c.take_next-turn.ensures c.in-Nowhere.is))
+pub loop-seat-preserved : goal.loop-seat-preserved
+loop-seat-preserved c =
+    let v = c.loop-seat in
+    let more : c.take_next.result ≡ Some c.in_ok-turn.turn = grind arith in
+    v.invariant ∙ goes_on c.args.s.now (c.args.count - v._seat) (c.args.count - (v._seat + 1)) v.turn (Some c.in_ok-turn.turn) (omega arith)
+    (sym more ∙ c.take_next.ensures)
 
-pub loop-left-preserved : goal.loop-left-preserved
-loop-left-preserved c =
-    let v = c.loop-left in
-    v.invariant ∙ turn_on v.hall v.names c.args.s.now
-    v.at v.left c.loop-left-test.true
-    c.take_next-turn.result c.take_next-turn.ensures _
-    c.in_default.is
-
-pub returns-then-at-s : goal.returns-then-at-s
-returns-then-at-s c =
-    let v = c.loop-left in
-    let z : v.left ≡ 0 = omega (arith, c.loop-left-test.false) in
-    rw (sym c.empty_hall-hall.ensures, sym c.no_names-names.ensures)
-    (c.refuse-then-at-s.ensures ∙ sym
-    (v.invariant ∙ ap (λ (n : ℕ). seat_all v.hall v.names
-    (read_seats n c.args.s.now v.at)) z
-    ∙ loads_gap v.hall v.names c.args.s.now v.at
-    c.if-at-s.true))
+pub returns-then-turn-s : goal.returns-then-turn-s
+returns-then-turn-s c =
+    let v = c.loop-seat in
+    let z : c.args.count - v._seat ≡ 0 = omega arith in
+    rw (← c.empty_hall.ensures, ← c.no_names.ensures, v.invariant, z) (sym (loads_gap c.args.s.now v.turn (omega arith)))
 
 pub returns : goal.returns
 returns c =
-    let v = c.loop-left in
-    let z : v.left ≡ 0 = omega (arith, c.loop-left-test.false) in
-    rw (sym c.empty_hall-hall.ensures, sym c.no_names-names.ensures)
-    (c.accept.ensures ∙ sym
-    (v.invariant ∙ ap (λ (n : ℕ). seat_all v.hall v.names
-    (read_seats n c.args.s.now v.at)) z
-    ∙ loads_end v.hall v.names c.args.s.now v.at
-    c.if-at-s.false))
+    let v = c.loop-seat in
+    let z : c.args.count - v._seat ≡ 0 = omega arith in
+    rw (← c.empty_hall.ensures, ← c.no_names.ensures, v.invariant, z, loads_end c.args.s.now v.turn (omega arith), c.fresh_core.ensures)
