@@ -17,153 +17,131 @@ use desk_octets::{
     LIMIT_PLACE, PHASE_PLACE, PRIORITIES_COLUMN, TAKEN_COLUMN, WAITING_COLUMN,
 };
 
-fn is_present(s: &[u8], seat: u8) -> bool
-    requires { desk_size ≤ length s.now }
-    ensures { result ≡ is_present (hall_at s.now) seat }
-{
-    let at = octets::wide(seat);
-    if at < 16 {
-        s[TAKEN_COLUMN + at] == 1
-    } else {
-        false
-    }
+// Octets whose core holds what the table says, and how many wait in their line.
+#[derive(Clone, Copy)]
+struct Lent<'a> {
+    octets: &'a [u8],
+    waiting: usize,
+    ghost whole: { desk_size ≤ length octets.now },
+    ghost fits: { core_fits octets.now ≡ true },
+    ghost counted: { waiting ≡ nth_octet octets.now count_place },
+    ghost few: { waiting ≤ 15 },
 }
 
-// Whether the first n places have other seats than this one.
-fn are_others(s: &[u8], seat: u8, n: usize) -> bool
-    requires desk_size_in_bounds { desk_size ≤ length s.now }
-    requires n_bound { n ≤ 15 }
-    ensures { result ≡ all_below (is_another s.now seat) n }
-{
-    let mut ok = true;
-    let mut i = 0;
-    while i < n {
-        let other = s[WAITING_COLUMN + i] != seat;
-        ok = other & ok;
-        i += 1;
+impl Lent<'_> {
+    #[tactic(auto, using(desk_octets::proofs::InOctets::present_is, desk_octets::proofs::InOctets::no_seat))]
+    fn is_present(&self, seat: u8) -> bool
+        ensures { result ≡ is_present (hall_at self.now.octets.now) seat }
+    {
+        let at = octets::wide(seat);
+        at < 16 && self.octets[TAKEN_COLUMN + at] == 1
     }
-    ok
-}
 
-// The line, place by place; n is how many wait.
-
-fn is_in_order(s: &[u8], n: usize, i: usize) -> bool
-    requires desk_size_in_bounds { desk_size ≤ length s.now }
-    requires n_value { (n ≡ nth_octet s.now count_place) × (n ≤ 15) }
-    requires i_lt_n { i < n }
-    ensures { result ≡ in_order (line_in s.now) i }
-{
-    let next = i + 1;
-    if next < n {
-        let ordered = s[PRIORITIES_COLUMN + next] <= s[PRIORITIES_COLUMN + i];
-        ordered
-    } else {
-        true
+    // Whether the first n places have other seats than this one.
+    fn are_others(&self, seat: u8, n: usize) -> bool
+        requires { n ≤ 15 }
+        ensures { result ≡ all_below (is_another self.now.octets.now seat) n }
+    {
+        desk_octets::all_below(n, |i| self.octets[WAITING_COLUMN + i] != seat)
     }
-}
 
-fn place_is_sound(s: &[u8], n: usize, i: usize) -> bool
-    requires desk_size_in_bounds { desk_size ≤ length s.now }
-    requires n_value { (n ≡ nth_octet s.now count_place) × (n ≤ 15) }
-    requires i_lt_n { i < n }
-    ensures { result ≡ place_sound (hall_at s.now) (line_in s.now) i }
-{
-    let seat = s[WAITING_COLUMN + i];
-    let ordered = is_in_order(s, n, i);
-    let once = are_others(s, seat, i);
-    let present = is_present(s, seat);
-    ordered & once & present
-}
+    // The line, place by place.
 
-fn places_are_sound(s: &[u8], n: usize) -> bool
-    requires desk_size_in_bounds { desk_size ≤ length s.now }
-    requires n_value { (n ≡ nth_octet s.now count_place) × (n ≤ 15) }
-    ensures { result ≡ all_below (place_sound (hall_at s.now) (line_in s.now)) n }
-{
-    let mut ok = true;
-    let mut i = 0;
-    while i < n {
-        let good = place_is_sound(s, n, i);
-        ok = good & ok;
-        i += 1;
+    #[tactic(auto, using(crate::proofs::InOctets::order_in, crate::proofs::InOctets::order_last))]
+    fn is_in_order(&self, i: usize) -> bool
+        requires { i < self.now.waiting }
+        ensures { result ≡ in_order (line_in self.now.octets.now) i }
+    {
+        let next = i + 1;
+        if next < self.waiting {
+            self.octets[PRIORITIES_COLUMN + next] <= self.octets[PRIORITIES_COLUMN + i]
+        } else {
+            true
+        }
     }
-    ok
-}
 
-// Behind the fifteen places stands a zero, so that sixteen are asked: whole vectors.
-fn places_behind(s: &[u8], n: usize) -> bool
-    requires desk_size_in_bounds { desk_size ≤ length s.now }
-    requires fits { core_fits s.now ≡ true }
-    requires n_value { n ≡ nth_octet s.now count_place }
-    ensures { result ≡ all_below (place_behind (core_at s.now).line) 15 }
-{
-    let mut ok = true;
-    let mut i = 0;
-    while i < 16 {
-        let good = (i < n) | ((s[WAITING_COLUMN + i] == 0) & (s[PRIORITIES_COLUMN + i] == 0));
-        ok = good & ok;
-        i += 1;
+    #[tactic(auto, using(crate::proofs::InOctets::first_in, crate::proofs::InOctets::seat_at), unfolding(crate::specs::Test::place_sound))]
+    fn place_is_sound(&self, i: usize) -> bool
+        requires { i < self.now.waiting }
+        ensures { result ≡ place_sound (hall_at self.now.octets.now) (line_in self.now.octets.now) i }
+    {
+        let seat = self.octets[WAITING_COLUMN + i];
+        let ordered = self.is_in_order(i);
+        let once = self.are_others(seat, i);
+        let present = self.is_present(seat);
+        ordered & once & present
     }
-    ok
-}
 
-fn line_is_sound(s: &[u8], n: usize) -> bool
-    requires desk_size_in_bounds { desk_size ≤ length s.now }
-    requires fits { core_fits s.now ≡ true }
-    requires n_value { n ≡ nth_octet s.now count_place }
-    ensures { result ≡ line_sound (hall_at s.now) (core_at s.now).line }
-{
-    let places = places_are_sound(s, n);
-    let behind = places_behind(s, n);
-    let within = n <= octets::wide(s[LIMIT_PLACE]);
-    places & within & behind
-}
-
-// The floor and the counters.
-
-fn holder_is_sound(s: &[u8], n: usize) -> bool
-    requires desk_size_in_bounds { desk_size ≤ length s.now }
-    requires n_value { (n ≡ nth_octet s.now count_place) × (n ≤ 15) }
-    ensures { result ≡ holder_sound (hall_at s.now) (line_in s.now) (nth_octet s.now holder_place) }
-{
-    let seat = s[HOLDER_PLACE];
-    let present = is_present(s, seat);
-    let apart = are_others(s, seat, n);
-    present & apart
-}
-
-fn floor_is_sound(s: &[u8], n: usize) -> bool
-    requires desk_size_in_bounds { desk_size ≤ length s.now }
-    requires n_value { (n ≡ nth_octet s.now count_place) × (n ≤ 15) }
-    ensures { result ≡ floor_sound (hall_at s.now) (line_in s.now) (core_at s.now).phase }
-{
-    let kind = s[PHASE_PLACE];
-    if kind == 0 {
-        return n == 0;
+    fn places_are_sound(&self) -> bool
+        ensures { result
+            ≡ all_below (place_sound (hall_at self.now.octets.now) (line_in self.now.octets.now)) self.now.waiting }
+    {
+        desk_octets::all_below(self.waiting, |i| self.place_is_sound(i))
     }
-    if kind == 1 {
-        return n == 0;
+
+    // Behind the fifteen places stands a zero, so that sixteen are asked: whole vectors.
+    fn places_behind(&self) -> bool
+        ensures { result ≡ all_below (place_behind (core_at self.now.octets.now).line) 15 }
+    {
+        let zero = |place: usize| self.octets[place] == 0;
+        desk_octets::all_below(16, |i| {
+            (i < self.waiting) | (zero(WAITING_COLUMN + i) & zero(PRIORITIES_COLUMN + i))
+        })
     }
-    let holder = holder_is_sound(s, n);
-    if kind == 2 {
-        return holder;
+
+    #[tactic(auto, using(crate::proofs::InOctets::line_is))]
+    fn line_is_sound(&self) -> bool
+        ensures { result ≡ line_sound (hall_at self.now.octets.now) (core_at self.now.octets.now).line }
+    {
+        let places = self.places_are_sound();
+        let behind = self.places_behind();
+        let within = self.waiting <= octets::wide(self.octets[LIMIT_PLACE]);
+        places & within & behind
     }
-    let cause = octets::number16(s, CAUSE_PLACE);
-    let two = cause == 2;
-    let four = cause == 4;
-    holder & (two | four)
+
+    // The floor and the counters.
+
+    #[tactic(auto, using(crate::proofs::InOctets::apart_in))]
+    fn holder_is_sound(&self) -> bool
+        ensures { result
+            ≡ holder_sound (hall_at self.now.octets.now) (line_in self.now.octets.now)
+            (nth_octet self.now.octets.now holder_place) }
+    {
+        let seat = self.octets[HOLDER_PLACE];
+        let present = self.is_present(seat);
+        let apart = self.are_others(seat, self.waiting);
+        present & apart
+    }
+
+    #[tactic(auto, using(crate::proofs::InOctets::floors))]
+    fn floor_is_sound(&self) -> bool
+        ensures { result
+            ≡ floor_sound (hall_at self.now.octets.now) (line_in self.now.octets.now)
+            (core_at self.now.octets.now).phase }
+    {
+        match self.octets[PHASE_PLACE] {
+            0 | 1 => self.waiting == 0,
+            2 => self.holder_is_sound(),
+            _ => {
+                let cause = octets::number16(self.octets, CAUSE_PLACE);
+                self.holder_is_sound() & ((cause == 2) | (cause == 4))
+            }
+        }
+    }
 }
 
 // Whether the core that octets stand for is sound.
+#[tactic(auto, using(crate::proofs::InOctets::few_wait, crate::proofs::InOctets::core_is))]
 pub fn core_is_sound(s: &[u8]) -> bool
     requires desk_size_in_bounds { desk_size ≤ length s.now }
     requires fits { core_fits s.now ≡ true }
     ensures { result ≡ core_sound (hall_at s.now) (core_at s.now) }
 {
-    let n = octets::wide(s[COUNT_PLACE]);
-    let queue = line_is_sound(s, n);
-    let floor = floor_is_sound(s, n);
+    let waiting = octets::wide(s[COUNT_PLACE]);
+    let lent = Lent { octets: s, waiting };
+    let line = lent.line_is_sound();
+    let floor = lent.floor_is_sound();
     let c7 = s[C7_PLACE] <= s[C7_LIMIT_PLACE];
     let c20 = s[C20_PLACE] <= s[C20_LIMIT_PLACE];
-    queue & floor & c7 & c20
+    line & floor & c7 & c20
 }

@@ -1,27 +1,29 @@
-// The octets of the letters, the floor and the line, written at their places (docs/FORMS.md; the definitions are those of crate desk_octets); the rest
-// of the room is untouched.
-#![tactic(auto)]
+// The octets of the letters, the floor and the line, written at their places (docs/FORMS.md; the definitions are those of crate
+// desk_octets); the rest of the room is untouched. That the room is as long as a desk is asked at each function: a type that holds it
+// would ask more of callers.
+#![tactic(auto, using(octets::proofs::Over::over_more), unfolding(crate::proofs::Pieces::pieces))]
 
-ghost use Rattle.std.specs.Prelude.{◌≡◌, ◌≤◌, length};
+ghost use Rattle.std.specs.Prelude.{◌≡◌, ℕ, ◌+◌, ◌≤◌, ◌<◌, length};
 ghost use Rattle.words.specs.Choice.{one as flag};
 ghost use Rattle.octets.specs.Octets.{over};
-ghost use Rattle.line.specs.Line.{empty};
 ghost use Rattle.desk_octets.specs.Columns.{column};
-ghost use Rattle.desk_octets.specs.Form.{desk_letters, kind_octet, also_octet, timers_octet, holder_in, cause_in, phase_octets, entry_seat, entry_priority, line_octets, core_octets};
-ghost use Rattle.desk_octets.specs.Places.{phase_place, count_place, waiting_column, priorities_column, desk_size};
+ghost use Rattle.desk_octets.specs.Form.{desk_letters, kind_octet, also_octet, timers_octet, holder_in, cause_in, phase_octets, line_octets, core_octets};
+ghost use Rattle.desk_octets.specs.Places.{phase_place, count_place, desk_size};
 
 use desk_octets::{
     C7_PLACE, CAUSE_PLACE, COUNT_PLACE, HOLDER_PLACE, PHASE_PLACE, PRIORITIES_COLUMN,
     PRIORITIES_ZERO, SEQUENCE_PLACE, WAITING_COLUMN, WAITING_ZERO,
 };
-use line::{Entry, Line};
+use line::{EMPTY, Entry, Line};
 use steps::{AlsoRuns, Core, Phase};
 
 pub fn flag_octet(b: bool) -> u8
     ensures { result ≡ flag b }
 {
-    if b { 1 } else { 0 }
+    u8::from(b)
 }
+
+// The numbers of docs/FORMS.md; no From can say them here, since the types and `u8` are of other crates.
 
 fn also_octet(beside: AlsoRuns) -> u8
     ensures { result ≡ also_octet beside }
@@ -49,19 +51,9 @@ fn timers_octet(phase: Phase) -> u8
     ensures { result ≡ timers_octet phase }
 {
     match phase {
-        Phase::Stopped => 0,
         Phase::Idle(t7) => flag_octet(t7),
         Phase::Taken(_, beside) => also_octet(beside),
-        Phase::Revoking(_, _) => 0,
-    }
-}
-
-fn no_one() -> Entry
-    ensures { result ≡ empty }
-{
-    Entry {
-        seat: 0,
-        priority: 0,
+        _ => 0,
     }
 }
 
@@ -69,10 +61,8 @@ fn holder_in(phase: Phase) -> Entry
     ensures { result ≡ holder_in phase }
 {
     match phase {
-        Phase::Stopped => no_one(),
-        Phase::Idle(_) => no_one(),
-        Phase::Taken(holder, _) => holder,
-        Phase::Revoking(holder, _) => holder,
+        Phase::Taken(holder, _) | Phase::Revoking(holder, _) => holder,
+        _ => EMPTY,
     }
 }
 
@@ -80,10 +70,20 @@ fn cause_in(phase: Phase) -> u16
     ensures { result ≡ cause_in phase }
 {
     match phase {
-        Phase::Stopped => 0,
-        Phase::Idle(_) => 0,
-        Phase::Taken(_, _) => 0,
         Phase::Revoking(_, cause) => cause,
+        _ => 0,
+    }
+}
+
+// Writes a column from `at` on: so many octets, each as it is given for its place.
+pub fn put_column<F: Fn(usize) -> u8>(room: &mut [u8], at: usize, count: usize, given: F)
+    requires in_bounds { at + count ≤ length room.old }
+    requires given_there { (i : ℕ) → i < count → F.pre given i }
+    ensures { (f : ℕ → ℕ) → ((i x : ℕ) → i < count → F.post given i x → x ≡ f i)
+        → room.new ≡ over room.old at (column f 0 count) }
+{
+    for i in 0..count {
+        room[at + i] = given(i);
     }
 }
 
@@ -99,37 +99,10 @@ fn put_phase(room: &mut [u8], phase: Phase)
     requires { desk_size ≤ length room.old }
     ensures { room.new ≡ over room.old phase_place (phase_octets phase) }
 {
-    let kind = kind_octet(phase);
-    let timers = timers_octet(phase);
     let holder = holder_in(phase);
-    let cause = cause_in(phase);
-    octets::put_pair(room, PHASE_PLACE, kind, timers);
+    octets::put_pair(room, PHASE_PLACE, kind_octet(phase), timers_octet(phase));
     octets::put_pair(room, HOLDER_PLACE, holder.seat, holder.priority);
-    octets::put16(room, CAUSE_PLACE, cause);
-}
-
-fn put_seats(room: &mut [u8], entries: [Entry; 15])
-    requires { desk_size ≤ length room.old }
-    ensures { room.new ≡ over room.old waiting_column (column (entry_seat entries) 0 15) }
-{
-    let mut i = 0;
-    while i < 15 {
-        let e = entries[i];
-        room[WAITING_COLUMN + i] = e.seat;
-        i += 1;
-    }
-}
-
-fn put_priorities(room: &mut [u8], entries: [Entry; 15])
-    requires { desk_size ≤ length room.old }
-    ensures { room.new ≡ over room.old priorities_column (column (entry_priority entries) 0 15) }
-{
-    let mut i = 0;
-    while i < 15 {
-        let e = entries[i];
-        room[PRIORITIES_COLUMN + i] = e.priority;
-        i += 1;
-    }
+    octets::put16(room, CAUSE_PLACE, cause_in(phase));
 }
 
 fn put_line(room: &mut [u8], line: Line)
@@ -139,9 +112,9 @@ fn put_line(room: &mut [u8], line: Line)
     let count = line::count(line) as u8;
     let entries = line.entries;
     octets::put_pair(room, COUNT_PLACE, count, 0);
-    put_seats(room, entries);
+    put_column(room, WAITING_COLUMN, 15, |i| entries[i].seat);
     copying::put_zeros(room, WAITING_ZERO, 1);
-    put_priorities(room, entries);
+    put_column(room, PRIORITIES_COLUMN, 15, |i| entries[i].priority);
     copying::put_zeros(room, PRIORITIES_ZERO, 1);
 }
 
@@ -149,10 +122,8 @@ pub fn put_core(room: &mut [u8], core: Core)
     requires { desk_size ≤ length room.old }
     ensures { room.new ≡ over room.old phase_place (core_octets core) }
 {
-    let phase = core.phase;
-    let line = core.line;
-    put_phase(room, phase);
+    put_phase(room, core.phase);
     octets::put16(room, SEQUENCE_PLACE, core.sequence);
     octets::put_pair(room, C7_PLACE, core.c7, core.c20);
-    put_line(room, line);
+    put_line(room, core.line);
 }

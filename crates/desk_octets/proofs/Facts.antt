@@ -4,13 +4,13 @@ use mathlib.Core.Path.{◌≡◌}
 use mathlib.Core.Bool.{true}
 use mathlib.Core.List.{List}
 use native.Mathlib.Omega.{arith}
-use lib.Dec.{eqb, leb}
+use lib.Dec.{leb}
 use lib.ListN.{length, get_or}
 use mir.Syntax.{w8}
 use mir.Val.{Fits}
-use borrow.Author.Tests.{eqb-true, leb-true}
+use borrow.Author.Tests.{leb-true}
 use Rattle.words.specs.Below.{below}
-use Rattle.words.proofs.Tests.{and_five}
+use Rattle.std.proofs.lemmas.Bool.Decides.{nat_tests}
 use Rattle.octets.specs.Octets.{be16, Octets, nth_octet}
 use Rattle.line.specs.Line.{entry_of}
 use Rattle.seat_octets.specs.Layout.{flags_top, unused_zero}
@@ -31,27 +31,31 @@ up_to_lem top s at n e i b = leb-true (nth_octet s (at + i)) top (below (λ k. l
 
 -- the whole
 module _ (s : List ℕ) (fits : canonical s ≡ true) where
-  parts : (eqb (length s) desk_size ≡ true) × (letters_fit s ≡ true) × (core_fits s ≡ true) × (hall_fits s ≡ true) × (names_fit s ≡ true)
-  unfolding canonical
-  parts = and_five (eqb (length s) desk_size) (letters_fit s) (core_fits s) (hall_fits s) (names_fit s) fits
-
   pub fits_whole : length s ≡ desk_size
-  fits_whole = eqb-true (length s) desk_size parts.0
+  unfolding canonical
+  fits_whole = grind (arith, nat_tests)
 
   pub fits_room : desk_size ≤ length s
   fits_room = omega (arith, fits_whole)
 
   pub fits-letters : letters_fit s ≡ true
-  fits-letters = parts.1
+  unfolding canonical
+  fits-letters = grind (arith, nat_tests)
 
   pub fits_core : core_fits s ≡ true
-  fits_core = parts.2
+  unfolding canonical
+  fits_core = grind (arith, nat_tests)
 
   pub fits_hall : hall_fits s ≡ true
-  fits_hall = parts.3
+  unfolding canonical
+  fits_hall = grind (arith, nat_tests)
 
   pub fits_names : names_fit s ≡ true
-  fits_names = parts.4
+  unfolding canonical
+  fits_names = grind (arith, nat_tests)
+
+-- the parts of the whole, as grind applies them
+pub ruleset parts = (fits_room, fits_core, fits_hall, fits_names)
 
 -- the floor and the line
 pub record CoreFacts (s : List ℕ) : Type 0 where
@@ -66,18 +70,12 @@ pub record CoreFacts (s : List ℕ) : Type 0 where
 pub core_facts : (s : List ℕ) → core_fits s ≡ true → CoreFacts s
 unfolding core_fits
 core_facts s e =
-    let f = and_five
-    (phase_fits (nth_octet s phase_place) (nth_octet s timers_place) (entry_of (nth_octet s holder_place) (nth_octet s held_at_place))
-    (be16 s cause_place))
-    (leb (nth_octet s count_place) 15) (eqb (nth_octet s count_zero) 0) (eqb (nth_octet s waiting_zero) 0)
-    (eqb (nth_octet s priorities_zero) 0)
-    e in
     record {
-      phase = f.0;
-      few = leb-true (nth_octet s count_place) 15 f.1;
-      behind_count = eqb-true (nth_octet s count_zero) 0 f.2;
-      behind-waiting = eqb-true (nth_octet s waiting_zero) 0 f.3;
-      behind_priorities = eqb-true (nth_octet s priorities_zero) 0 f.4;
+      phase = grind (arith, nat_tests);
+      few = grind (arith, nat_tests);
+      behind_count = grind (arith, nat_tests);
+      behind-waiting = grind (arith, nat_tests);
+      behind_priorities = grind (arith, nat_tests);
     }
 
 -- the seats
@@ -91,12 +89,15 @@ pub record HallFacts (s : List ℕ) : Type 0 where
 pub hall_facts : (s : List ℕ) → hall_fits s ≡ true → HallFacts s
 unfolding hall_fits
 hall_facts s e =
-    let f =
-    and_five (up_to 1 s taken_column 16) (up_to flags_top s flags_column 16) (up_to 0 s flags_zeros 16) (unused_zero s settings_start)
-    (up_to 0 s settings_end 4) e in
-    record { taken = f.0; flags = f.1; behind_flags = f.2; settings_unused = f.3; behind-settings = f.4 }
+    record {
+      taken = grind (arith, nat_tests);
+      flags = grind (arith, nat_tests);
+      behind_flags = grind (arith, nat_tests);
+      settings_unused = grind (arith, nat_tests);
+      behind-settings = grind (arith, nat_tests);
+    }
 
 -- the identities
-pub fits-length : (s : List ℕ) → names_fit s ≡ true → (seat : ℕ) → seat < 16 → nth_octet s (lengths_column + seat) ≤ 62
+pub fits_length : (s : List ℕ) → names_fit s ≡ true → (seat : ℕ) → seat < 16 → nth_octet s (lengths_column + seat) ≤ 62
 unfolding names_fit
-fits-length s q seat b = up_to_lem 62 s lengths_column 16 q seat b
+fits_length s q seat b = up_to_lem 62 s lengths_column 16 q seat b

@@ -6,10 +6,9 @@ use native.Mathlib.Omega.{arith}
 use mathlib.Core.Path.{◌≡◌, refl, sym, ap, ◌∙◌}
 use mathlib.Core.Bool.{true, false}
 use mathlib.Core.List.{List, ◌++◌, append_assoc, append-nil}
-use lib.Dec.{eqb}
 use lib.ListN.{length, get_or, drop, replicate, length-take, length-replicate, drop_of_length-le}
 use lib.Seq.{drop_at}
-use borrow.Author.Tests.{eqb-true, le-leb}
+use borrow.Author.Tests.{le-leb}
 use Rattle.line.specs.Line.{entry_of}
 use Rattle.words.specs.Choice.{one}
 use Rattle.octets.specs.Octets.{be16, be32, octets32, over, Octets, nth_octet}
@@ -37,7 +36,7 @@ use Rattle.desk_octets.specs.Form.{names_at}
 use Rattle.desk_octets.specs.Form.{up_to, phase_fits, letters_fit, core_fits, hall_fits, names_fit, canonical}
 use Rattle.desk_octets.proofs.Columns.{column_is, column-same, column-two, rows_same, length-column, get_d_column}
 use Rattle.desk_octets.proofs.Pieces.{name_of_seat, part-column}
-use Rattle.words.proofs.Tests.{and_four}
+use Rattle.std.proofs.lemmas.Bool.Decides.{nat_tests}
 use Rattle.desk_octets.proofs.Flags.{flag_forth}
 use Rattle.octets.proofs.Numbers.{octets16_forth, octets32_forth}
 use Rattle.desk_octets.proofs.Phases.{phase_forth}
@@ -61,9 +60,7 @@ bools_forth s at e =
 
 octets_forth : (s : List ℕ) (at : ℕ) → octet_column (octets_at s at) ≡ from s at 16
 unfolding octet_column octets_at
-octets_forth s at =
-    column-same (λ i. get_or (column (nth_octet s) at 16) i 0) (nth_octet s) 0 at 16
-    (λ i k. ap (λ (j : ℕ). get_or (column (nth_octet s) at 16) j 0) (zero-add i) ∙ get_d_column (nth_octet s) at 16 i 0 k)
+octets_forth s at = column_all (from s at 16) 16 0 (length-column (nth_octet s) at 16)
 
 four_forth : (s : List ℕ) (at : ℕ) → Octets s → octets32 (be32 s at) ≡ from s at 4
 unfolding column
@@ -206,14 +203,7 @@ names_forth s e = rw (lengths_forth s e, identities_forth s) (column-two (nth_oc
 -- the whole
 letters_forth : (s : List ℕ) → letters_fit s ≡ true → desk_letters ≡ from s 0 4
 unfolding letters_fit column
-letters_forth s e =
-    let f = and_four (eqb (nth_octet s 0) 70) (eqb (nth_octet s 1) 68) (eqb (nth_octet s 2) 1) (eqb (nth_octet s 3) 0) e in
-    rw (
-      eqb-true (nth_octet s 0) 70 f.0,
-      eqb-true (nth_octet s 1) 68 f.1,
-      eqb-true (nth_octet s 2) 1 f.2,
-      eqb-true (nth_octet s 3) 0 f.3,
-    )
+letters_forth s e = grind (arith, nat_tests)
 
 whole : (s : List ℕ) → length s ≡ desk_size → from s 0 desk_size ≡ s
 whole s l = column_all s desk_size 0 l

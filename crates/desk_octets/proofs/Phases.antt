@@ -1,18 +1,17 @@
 -- The phase and its octets, both ways. Assumes nothing.
 use Prim.Native.Nat.{ℕ}
 use native.Mathlib.Omega.{arith}
-use mathlib.Core.Path.{◌≡◌, refl, sym, ap}
+use mathlib.Core.Path.{◌≡◌, refl, ap}
 use mathlib.Core.Bool.{true}
-use lib.Dec.{eqb, leb}
-use Rattle.words.specs.Choice.{when◌then◌else◌, by_test}
-use borrow.Author.Tests.{eqb-true, eqb-false, leb-true}
+use lib.Dec.{leb}
+use Rattle.std.proofs.lemmas.Bool.Decides.{nat_tests}
+use Rattle.words.specs.Choice.{when◌then◌else◌}
 use Rattle.line.specs.declared.Entry.{Entry}
 use Rattle.steps.specs.declared.AlsoRuns.{AlsoRuns}
 use Rattle.steps.specs.declared.AlsoRuns.TheVariants.{NoMore, T2, T20}
 use Rattle.steps.specs.declared.Phase.{Phase}
 use Rattle.steps.specs.declared.Phase.TheVariants.{Stopped, Idle, Taken, Revoking}
 use Rattle.desk_octets.specs.Form.{kind_octet, timers_octet, also_octet, holder_in, cause_in, phase_of, also_of, phase_fits}
-use Rattle.words.proofs.Tests.{and_both, and_four}
 use Rattle.desk_octets.proofs.Flags.{flag_back, flag_fits, flag_forth}
 
 also_back : (b : AlsoRuns) → also_of (also_octet b) ≡ b
@@ -42,12 +41,7 @@ phase_fits_lem (Revoking e n) = refl
 
 also_forth : (n : ℕ) → leb n 2 ≡ true → also_octet (also_of n) ≡ n
 unfolding also_of when◌then◌else◌
-also_forth n h =
-    by_test (eqb n 0)
-    (λ t. rw t (sym (eqb-true n 0 t)))
-    (λ t. by_test (eqb n 1)
-    (λ u. rw (t, u) (sym (eqb-true n 1 u)))
-    (λ u. rw (t, u) (omega (arith, leb-true n 2 h, eqb-false n 0 t, eqb-false n 1 u))))
+also_forth n h = grind (arith, nat_tests)
 
 -- what a phase's octets are, once they fit
 pub record Octets4 (kind timers : ℕ) (holder : Entry) (cause : ℕ) (p : Phase) : Type 0 where
@@ -61,38 +55,10 @@ pub phase_forth : (kind timers : ℕ) (holder : Entry) (cause : ℕ) → phase_f
     Octets4 kind timers holder cause (phase_of kind timers holder cause)
 unfolding phase_of phase_fits when◌then◌else◌
 phase_forth k t e n h =
-    by_test (eqb k 0)
-    (λ a. let f = and_four (eqb t 0) (eqb e.seat 0) (eqb e.priority 0) (eqb n 0) (rw a at h) in
-    rw a (record {
-      kinds = sym (eqb-true k 0 a);
-      timed = sym (eqb-true t 0 f.0);
-      seats = sym (eqb-true e.seat 0 f.1);
-      priorities = sym (eqb-true e.priority 0 f.2);
-      causes = sym (eqb-true n 0 f.3);
-    }))
-    (λ a. by_test (eqb k 1)
-    (λ b. let f = and_four (leb t 1) (eqb e.seat 0) (eqb e.priority 0) (eqb n 0) (rw (a, b) at h) in
-    rw (a, b) (record {
-      kinds = sym (eqb-true k 1 b);
-      timed = flag_forth t f.0;
-      seats = sym (eqb-true e.seat 0 f.1);
-      priorities = sym (eqb-true e.priority 0 f.2);
-      causes = sym (eqb-true n 0 f.3);
-    }))
-    (λ b. by_test (eqb k 2)
-    (λ d. let f = and_both (leb t 2) (eqb n 0) (rw (a, b, d) at h) in
-    rw (a, b, d) (record {
-      kinds = sym (eqb-true k 2 d);
-      timed = also_forth t f.0;
-      seats = refl;
-      priorities = refl;
-      causes = sym (eqb-true n 0 f.1);
-    }))
-    (λ d. let f = and_both (eqb k 3) (eqb t 0) (rw (a, b, d) at h) in
-    rw (a, b, d) (record {
-      kinds = sym (eqb-true k 3 f.0);
-      timed = sym (eqb-true t 0 f.1);
-      seats = refl;
-      priorities = refl;
-      causes = refl;
-    }))))
+    record {
+      kinds = grind (arith, nat_tests);
+      timed = grind (arith, nat_tests, flag_forth, also_forth);
+      seats = grind (arith, nat_tests);
+      priorities = grind (arith, nat_tests);
+      causes = grind (arith, nat_tests);
+    }

@@ -1,8 +1,7 @@
 -- Laws of tests: two that pass together are the same, and a test of every number below n goes by each of them. Assumes nothing.
-use Prim.Native.Nat.{ℕ, zero, suc, ◌+◌, ◌<◌}
+use Prim.Native.Nat.{ℕ, zero, suc, ◌<◌}
 use mathlib.Core.Path.{◌≡◌, refl, sym}
-use mathlib.Core.Bool.{Bool, true, false, ◌&&◌}
-use native.Mathlib.Numerals.{add-one}
+use mathlib.Core.Bool.{Bool, true, false}
 use native.Mathlib.Omega.{arith}
 use Rattle.words.specs.Below.{all_below}
 use Rattle.words.proofs.Tests.{both}
@@ -25,7 +24,3 @@ below_same f g (suc n) h =
     let e : f n ≡ g n = h n (omega arith) in
     let r : all_below f n ≡ all_below g n = below_same f g n (λ i b. h i (omega arith)) in
     rw (e, r)
-
--- a loop that gathers a test, one number further
-pub more : (f : ℕ → Bool) (i : ℕ) (good ok : Bool) → good ≡ f i → ok ≡ all_below f i → (good && ok) ≡ all_below f (i + 1)
-more f i good ok p q = rw (p, q, add-one i)

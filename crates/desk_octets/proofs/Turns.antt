@@ -1,14 +1,9 @@
 -- Writing piece behind piece, and what a turn of each loop leaves. Assumes nothing.
 use Prim.Native.Nat.{ℕ, ◌+◌, ◌*◌, ◌≤◌, ◌<◌}
 use native.Mathlib.Nat.{zero-add}
-use native.Mathlib.Omega.{arith}
 use mathlib.Core.Path.{◌≡◌, ap, ◌∙◌}
 use mathlib.Core.List.{List, ◌++◌}
-use lib.ListN.{length, get_or, set}
-use lib.Dec.{eqb}
-use lib.Seq.{get_or-set_same, get_or-set_other}
-use borrow.Author.Tests.{eqb-true, eqb-false}
-use Rattle.words.specs.Choice.{by_test}
+use lib.ListN.{length, set}
 use Rattle.octets.specs.Octets.{over}
 use Rattle.octets.proofs.Over.{over-two, over_turn}
 use Rattle.desk_octets.specs.Columns.{column, rows}
@@ -23,15 +18,6 @@ over-behind room₀ room at bt xs ys e q h = rw (e, ← q) (over-two room₀ at 
 pub next_piece : (room₀ room₁ room₂ : List ℕ) (at bt : ℕ) (xs ys : List ℕ) → room₁ ≡ over room₀ at xs → room₂ ≡ over room₁ bt ys →
     at + length xs ≡ bt → at ≤ length room₀ → room₂ ≡ over room₀ at (xs ++ ys)
 next_piece room₀ room₁ room₂ at bt xs ys e d q h = d ∙ over-behind room₀ room₁ at bt xs ys e q h
-
--- a turn of a loop that fills an array
-pub fill_turn : {A : Type 0} (z : A) (f : ℕ → A) (a : List A) (i : ℕ) (x : A) → i < length a → ((j : ℕ) → j < i → get_or a j z ≡ f j) →
-    x ≡ f i →
-    (j : ℕ) → j < i + 1 → get_or (set a i x) j z ≡ f j
-fill_turn z f a i x h k q j b =
-    by_test (eqb j i)
-    (λ t. let s : j ≡ i = eqb-true j i t in rw s (get_or-set_same a i x z h ∙ q))
-    (λ t. get_or-set_other a i j x z (eqb-false j i t) ∙ k j (omega (arith, eqb-false j i t)))
 
 -- a turn of a loop that writes a column, and of one that writes rows
 pub column_turn : (f : ℕ → ℕ) (room₀ room : List ℕ) (at i x : ℕ) → at + i < length room₀ → room ≡ over room₀ at (column f 0 i) → x ≡ f i →

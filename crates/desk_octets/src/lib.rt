@@ -1,6 +1,9 @@
-// The places of the desk in lent octets (docs/FORMS.md has the table), as code names them; specs/Places.antt has the same names. What stands
-// there is in specs/Form.antt; crates desk_reading, core_writing, desk_writing and table_test read, write and test it.
+// The places of the desk in lent octets (docs/FORMS.md has the table), as code names them; specs/Places.antt has the same names. What
+// stands there is in specs/Form.antt; crates desk_reading, core_writing, desk_writing and table_test read, write and test it.
 #![tactic(auto)]
+
+ghost use Rattle.std.specs.Prelude.{◌≡◌, ℕ, ◌<◌, Bool};
+ghost use Rattle.words.specs.Below.{all_below};
 
 pub const DESK_SIZE: usize = 1200;
 
@@ -55,3 +58,17 @@ pub const SETTINGS_END: usize = SETTINGS_START + seat_octets::SETTINGS_SIZE;
 pub const LENGTHS_COLUMN: usize = 192;
 
 pub const IDENTITIES_COLUMN: usize = 208;
+
+// Whether a test passes at every number below n. It has no early exit, so that a test of octets is made of many of them at once.
+pub fn all_below<F: Fn(usize) -> bool>(n: usize, test: F) -> bool
+    requires { (i : ℕ) → i < n → F.pre test i }
+    ensures { (f : ℕ → Bool) → ((i : ℕ) (b : Bool) → i < n → F.post test i b → b ≡ f i)
+        → result ≡ all_below f n }
+{
+    let mut ok = true;
+    for i in 0..n {
+        let here = test(i);
+        ok = here & ok;
+    }
+    ok
+}

@@ -4,6 +4,7 @@
 ghost use Rattle.std.specs.Prelude.{◌≡◌};
 ghost use Rattle.desk_test.specs.Lent.{formed};
 
+#[tactic(auto, using(desk_octets::proofs::Facts::parts), unfolding(crate::specs::Lent::formed, crate::specs::Lent::is_sound))]
 pub fn is_desk(desk: &[u8]) -> bool
     ensures { result ≡ formed desk.now }
 {

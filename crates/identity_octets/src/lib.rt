@@ -3,7 +3,7 @@
 // Zeros are asked from two places more: a shorter turn would be unrolled octet by octet before it is made vectors.
 #![tactic(auto)]
 
-ghost use Rattle.std.specs.Prelude.{◌≡◌, ◌+◌, ◌-◌, ◌≤◌, min, length};
+ghost use Rattle.std.specs.Prelude.{◌≡◌, ◌+◌, ◌-◌, ◌≤◌, length};
 ghost use Rattle.words.specs.Below.{all_below};
 ghost use Rattle.desk_octets.specs.Form.{up_to};
 ghost use Rattle.identity_octets.specs.Identity.{agree, same_octets};
@@ -12,17 +12,8 @@ pub fn none_at(s: &[u8], at: usize) -> bool
     requires { at + 62 ≤ length s.now }
     ensures { result ≡ up_to 0 s.now at 62 }
 {
-    let mut ok = true;
-    let mut i = 0;
-    while i < 32 {
-        let j = 10 + i;
-        let k = 20 + i;
-        let l = 30 + i;
-        let here = (s[at + i] <= 0) & (s[at + j] <= 0) & (s[at + k] <= 0) & (s[at + l] <= 0);
-        ok = here & ok;
-        i += 1;
-    }
-    ok
+    let zero = |i: usize| s[at + i] <= 0;
+    desk_octets::all_below(32, |i| zero(i) & zero(10 + i) & zero(20 + i) & zero(30 + i))
 }
 
 fn same_octets(s: &[u8], a: usize, b: usize) -> bool
@@ -30,43 +21,26 @@ fn same_octets(s: &[u8], a: usize, b: usize) -> bool
     requires b_in_bounds { b + 62 ≤ length s.now }
     ensures { result ≡ same_octets s.now a b }
 {
-    let mut ok = true;
-    let mut i = 0;
-    while i < 32 {
-        let j = 30 + i;
-        let here = (s[a + i] == s[b + i]) & (s[a + j] == s[b + j]);
-        ok = here & ok;
-        i += 1;
-    }
-    ok
+    let same = |i: usize| s[a + i] == s[b + i];
+    desk_octets::all_below(32, |i| same(i) & same(30 + i))
 }
 
 // The zeros behind a seat's identity: four times sixteen octets at once, a later sixteen moved back where it would pass the end. Only an
 // identity of more than 46 octets has fewer than sixteen behind it.
-
-fn at_most_46(n: usize) -> usize
-    ensures { result ≡ min n 46 }
-{
-    if n < 46 { n } else { 46 }
-}
-
 pub fn zero_from(s: &[u8], at: usize, len: usize) -> bool
     requires at_in_bounds { at + 62 ≤ length s.now }
     requires len_bound { len ≤ 46 }
     ensures { result ≡ up_to 0 s.now (at + len) (62 - len) }
 {
     let a = at + len;
-    let b = at + at_most_46(len + 16);
-    let c = at + at_most_46(len + 32);
+    let b = at + (len + 16).min(46);
+    let c = at + (len + 32).min(46);
     let d = at + 46;
-    let mut ok = true;
-    let mut i = 0;
-    while i < 16 {
-        let here = (s[a + i] <= 0) & (s[b + i] <= 0) & (s[c + i] <= 0) & (s[d + i] <= 0);
-        ok = here & ok;
-        i += 1;
-    }
-    ok
+    let zero = |i: usize| s[i] <= 0;
+    desk_octets::all_below(
+        16,
+        |i| zero(a + i) & zero(b + i) & zero(c + i) & zero(d + i),
+    )
 }
 
 // Most identities differ in their first sixteen octets.
@@ -75,14 +49,7 @@ fn same_start(s: &[u8], a: usize, b: usize) -> bool
     requires b_in_bounds { b + 62 ≤ length s.now }
     ensures { result ≡ all_below (agree s.now a b) 16 }
 {
-    let mut ok = true;
-    let mut i = 0;
-    while i < 16 {
-        let here = s[a + i] == s[b + i];
-        ok = here & ok;
-        i += 1;
-    }
-    ok
+    desk_octets::all_below(16, |i| s[a + i] == s[b + i])
 }
 
 pub fn same_name(s: &[u8], a: usize, b: usize) -> bool
@@ -90,9 +57,5 @@ pub fn same_name(s: &[u8], a: usize, b: usize) -> bool
     requires b_in_bounds { b + 62 ≤ length s.now }
     ensures { result ≡ same_octets s.now a b }
 {
-    if same_start(s, a, b) {
-        same_octets(s, a, b)
-    } else {
-        false
-    }
+    same_start(s, a, b) && same_octets(s, a, b)
 }

@@ -7,8 +7,7 @@ use lib.Dec.{eqb}
 use borrow.Author.Tests.{eqb-true}
 use Rattle.words.specs.Choice.{when◌then◌else◌, by_test}
 use Rattle.words.proofs.Tests.{clash}
-use Rattle.hall.specs.declared.Found.{Found}
-use Rattle.hall.specs.declared.Found.TheVariants.{At, Nowhere}
+use Rattle.std.specs.Prelude.{Option, Some, None}
 use Rattle.hall.specs.Seats.{finds}
 use Rattle.identities.specs.Identity.{same}
 
@@ -24,6 +23,6 @@ same_is (x ∷ a) (y ∷ b) q =
     (λ t. clash (rw t at q) refl)
 
 -- a search that finds a seat
-pub finds-at : (f : Found) (s : ℕ) → finds f s ≡ true → f ≡ At s
-finds-at (At t) s q = ap At (eqb-true t s q)
-finds-at Nowhere s q = clash q refl
+pub finds-at : (f : Option ℕ) (s : ℕ) → finds f s ≡ true → f ≡ Some s
+finds-at (Some t) s q = ap Some (eqb-true t s q)
+finds-at None s q = clash q refl

@@ -19,7 +19,7 @@ use Rattle.seats_test.specs.Seats.{name_sound, taken_sound, free_sound, seat_sou
 use Rattle.seats_test.specs.Seats as test
 use Rattle.desk_octets.proofs.Tests.{together, below_same}
 use Rattle.desk_octets.proofs.InOctets.{present_is, flags_are, highest_is, ssrc_is, settings_are}
-use Rattle.desk_octets.proofs.Facts.{fits-length}
+use Rattle.desk_octets.proofs.Facts.{fits_length}
 use Rattle.identities.proofs.Same.{same_self}
 use Rattle.seats_test.specs.Seated.{taken_at, ssrc_in_octets, name_length_at, identity_start, has_ssrc_of, has_name_of, ssrc_first}
 use Rattle.seats_test.specs.Seated.{name_first}
@@ -37,7 +37,7 @@ own_is s = refl
 -- the searches, for octets whose lengths fit
 module _ (s : List ℕ) (hall : hall_fits s ≡ true) (fits : names_fit s ≡ true) where
   len : (seat : ℕ) → seat < 16 → name_length_at s seat ≤ 62
-  len = fits-length s fits
+  len = fits_length s fits
 
   ssrc_same : (x t : ℕ) → t < 16 → has_ssrc_of s x t ≡ has_ssrc (hall_at s) x t
   unfolding has_ssrc_of

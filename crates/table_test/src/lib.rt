@@ -1,5 +1,5 @@
-// Whether octets hold what the table of docs/FORMS.md says (the definitions are those of crate desk_octets). A test of a column has no early exit, so
-// that it runs on many octets at once.
+// Whether octets hold what the table of docs/FORMS.md says (the definitions are those of crate desk_octets). A test of a column has no
+// early exit, so that it runs on many octets at once.
 #![tactic(auto)]
 
 ghost use Rattle.std.specs.Prelude.{◌≡◌, ◌+◌, ◌≤◌, length};
@@ -13,35 +13,28 @@ use desk_octets::{
 };
 use line::Entry;
 
+#[tactic(auto, unfolding(desk_octets::specs::Form::up_to))]
 pub fn up_to(s: &[u8], top: u8, at: usize, count: usize) -> bool
     requires { at + count ≤ length s.now }
     ensures { result ≡ up_to top s.now at count }
 {
-    let mut ok = true;
-    let mut i = 0;
-    while i < count {
-        let here = s[at + i] <= top;
-        ok = here & ok;
-        i += 1;
-    }
-    ok
+    desk_octets::all_below(count, |i| s[at + i] <= top)
 }
 
+#[tactic(auto, unfolding(desk_octets::specs::Form::phase_fits), using(words::specs::Choice::if_yes, words::specs::Choice::if_no))]
 fn phase_fits(kind: u8, timers: u8, holder: Entry, cause: u16) -> bool
     ensures { result ≡ phase_fits kind timers holder cause }
 {
-    if kind == 0 {
-        return (timers == 0) & (holder.seat == 0) & (holder.priority == 0) & (cause == 0);
+    match kind {
+        0 => (timers == 0) & (holder.seat == 0) & (holder.priority == 0) & (cause == 0),
+        1 => (timers <= 1) & (holder.seat == 0) & (holder.priority == 0) & (cause == 0),
+        2 => (timers <= 2) & (cause == 0),
+        3 => timers == 0,
+        _ => false,
     }
-    if kind == 1 {
-        return (timers <= 1) & (holder.seat == 0) & (holder.priority == 0) & (cause == 0);
-    }
-    if kind == 2 {
-        return (timers <= 2) & (cause == 0);
-    }
-    (kind == 3) & (timers == 0)
 }
 
+#[tactic(auto, unfolding(desk_octets::specs::Form::letters_fit))]
 fn letters_fit(s: &[u8]) -> bool
     requires { desk_size ≤ length s.now }
     ensures { result ≡ letters_fit s.now }
@@ -49,6 +42,7 @@ fn letters_fit(s: &[u8]) -> bool
     (s[0] == 70) & (s[1] == 68) & (s[2] == 1) & (s[3] == 0)
 }
 
+#[tactic(auto, unfolding(desk_octets::specs::Form::core_fits))]
 fn core_fits(s: &[u8]) -> bool
     requires { desk_size ≤ length s.now }
     ensures { result ≡ core_fits s.now }
@@ -66,6 +60,7 @@ fn core_fits(s: &[u8]) -> bool
         & (s[PRIORITIES_ZERO] == 0)
 }
 
+#[tactic(auto, unfolding(desk_octets::specs::Form::hall_fits))]
 fn hall_fits(s: &[u8]) -> bool
     requires { desk_size ≤ length s.now }
     ensures { result ≡ hall_fits s.now }
@@ -78,6 +73,7 @@ fn hall_fits(s: &[u8]) -> bool
     present & flags & behind_flags & unused & behind_settings
 }
 
+#[tactic(auto, unfolding(desk_octets::specs::Form::canonical, desk_octets::specs::Form::names_fit))]
 pub fn is_canonical(s: &[u8]) -> bool
     ensures { result ≡ canonical s.now }
 {

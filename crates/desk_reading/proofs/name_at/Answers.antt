@@ -8,8 +8,8 @@ pub returns-then-at-lt16 : goal.returns-then-at-lt16
 returns-then-at-lt16 c =
     let a = c.args in
     identity_is a.s.now a.seat c.wide-at.result c.wide-len.result
-    c.at_most_62.result c.wide-at.ensures c.wide-len.ensures
-    c.at_most_62.ensures c.if-at-lt16.true
+    c.min.result c.wide-at.ensures c.wide-len.ensures
+    c.min.ensures c.if-at-lt16.true
     c.requires
 
 pub returns-else-at-lt16 : goal.returns-else-at-lt16

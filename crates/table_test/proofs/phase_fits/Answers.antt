@@ -1,21 +1,10 @@
 -- `table_test::phase_fits` keeps its promise, `result ≡ phase_fits kind timers holder cause`. Assumes nothing.
-use Rattle.desk_octets.specs.Form.{phase_fits}
+use Rattle.std.proofs.Common.{arith, ◌≤◌}
+use Rattle.std.proofs.lemmas.Bool.Decides.{nat_tests}
 use Rattle.words.specs.Choice.{when◌then◌else◌}
-use borrow.Author.Tests.{eq-eqb, ne_eqb}
+use Rattle.desk_octets.specs.Form.{phase_fits}
 use Rattle.table_test.proofs.phase_fits.Goals as goal
 
-pub returns-then-kind-eq0 : goal.returns-then-kind-eq0
+pub returns-in_default : goal.returns-in_default
 unfolding phase_fits when◌then◌else◌
-returns-then-kind-eq0 c = simp (eq-eqb _ _ c.if-kind-eq0.true)
-
-pub returns-then-kind-eq1 : goal.returns-then-kind-eq1
-unfolding phase_fits when◌then◌else◌
-returns-then-kind-eq1 c = simp (eq-eqb _ _ c.if-kind-eq1.true, ne_eqb _ _ c.if-kind-eq0.false)
-
-pub returns-then-kind-eq2 : goal.returns-then-kind-eq2
-unfolding phase_fits when◌then◌else◌
-returns-then-kind-eq2 c = simp (eq-eqb _ _ c.if-kind-eq2.true, ne_eqb _ _ c.if-kind-eq1.false, ne_eqb _ _ c.if-kind-eq0.false)
-
-pub returns : goal.returns
-unfolding phase_fits when◌then◌else◌
-returns c = simp (ne_eqb _ _ c.if-kind-eq2.false, ne_eqb _ _ c.if-kind-eq1.false, ne_eqb _ _ c.if-kind-eq0.false)
+returns-in_default c = let far : 4 ≤ c.args.kind = omega arith in grind (arith, nat_tests)
