@@ -12,10 +12,9 @@ use Rattle.writing.specs.Wire.{wire}
 use Rattle.writing.specs.Writing.{writing}
 use Rattle.readable.specs.Readable.{readable}
 use Rattle.writing.proofs.Lengths.{wire_whole}
-use Rattle.outgoing.specs.declared.Outgoing.{Outgoing}
-use Rattle.outgoing.specs.declared.Outgoing.TheVariants.{Packet, Silence}
 use Rattle.outgoing.specs.Outgoing.{sending}
-use Rattle.message_octets.specs.Held.{Held, Is, Nothing, writing_of}
+use Rattle.std.specs.Prelude.{Option, Some, None}
+use Rattle.message_octets.specs.Held.{writing_of}
 use Rattle.desk_looking.specs.Looking.{size_in}
 
 writing_short : (m : Message) (src : List ℕ) (room : ℕ) → size_in (writing m src room) ≤ longest_packet
@@ -26,10 +25,10 @@ writing_short m src room =
     (λ t. rw (r, t) (omega (arith, (wire_whole m src r).most))))
     (λ r. rw r (omega arith))
 
-pub sending_short : (o : Outgoing) (src : List ℕ) (room : ℕ) → size_in (sending o src room) ≤ longest_packet
-sending_short Silence src room = omega arith
-sending_short (Packet m) src room = writing_short m src room
+pub sending_short : (o : Option Message) (src : List ℕ) (room : ℕ) → size_in (sending o src room) ≤ longest_packet
+sending_short None src room = omega arith
+sending_short (Some m) src room = writing_short m src room
 
-pub held_short : (h : Held) (src : List ℕ) (room : ℕ) → size_in (writing_of h src room) ≤ longest_packet
-held_short Nothing src room = omega arith
-held_short (Is m) src room = writing_short m src room
+pub held_short : (h : Option Message) (src : List ℕ) (room : ℕ) → size_in (writing_of h src room) ≤ longest_packet
+held_short None src room = omega arith
+held_short (Some m) src room = writing_short m src room

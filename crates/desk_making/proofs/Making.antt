@@ -1,8 +1,8 @@
 -- What making, loading and joining leave, a law for each way they can end, and settings that octets hold. Assumes nothing.
-use Rattle.words.specs.Choice.{when◌then◌else◌}
+use Rattle.words.specs.Choice.{when◌then◌else◌, by_test}
 use Rattle.desk_octets.specs.Places.{desk_size}
 use Prim.Native.Nat.{ℕ, ◌<◌}
-use mathlib.Core.Path.{◌≡◌, refl, sym}
+use mathlib.Core.Path.{◌≡◌}
 use mathlib.Core.Bool.{Bool, true, false, ◌&&◌}
 use mathlib.Core.List.{List}
 use lib.Dec.{eqb, leb, ltb}
@@ -12,18 +12,19 @@ use Rattle.octets.specs.Octets.{over}
 use Rattle.message.specs.Answers.{refused, result}
 use Rattle.signed.specs.Signed.{answers}
 use Rattle.steps.specs.declared.Core.{Core}
-use Rattle.hall.specs.declared.Answer.TheVariants.{Done, OutsideRange}
+use Rattle.std.specs.Prelude.{ℤ, Result, Ok, Err}
+use Rattle.hall.specs.declared.Refusal.{Refusal}
 use Rattle.hall.specs.declared.Hall.{Hall}
 use Rattle.hall.specs.declared.Settings.{Settings}
-use Rattle.hall.specs.Answers.{answer_number, settings_answer}
-use Rattle.hall.specs.Seats.{in_range, empty_hall}
+use Rattle.hall.specs.Answers.{desk_refusal_number, settings_answer}
+use Rattle.hall.specs.Seats.{empty_hall}
 use Rattle.identities.specs.declared.Names.{Names}
 use Rattle.identities.specs.Identity.{no_names}
 use Rattle.events.specs.Events.{fresh}
 use Rattle.seat_octets.specs.Layout.{SettingsFit}
 use Rattle.desk_octets.specs.Form.{octets_of_desk}
 use Rattle.words.proofs.Tests.{and_both, and_five, both, five}
-use Rattle.desk_making.specs.Making.{desk_written, in_octets, settable, make_on}
+use Rattle.desk_making.specs.Making.{desk_written, in_octets, held_settings, usable_settings, settable, make_on}
 
 module _ (room : List ℕ) (n k : ℕ) (c : Core) (h : Hall) (ns : Names) where
   pub unwritten : eqb n 0 ≡ false → desk_written room n k c h ns ≡ answers (refused n) room
@@ -68,19 +69,17 @@ module _ (s : Settings) where
       (lt-ltb s.duration 65536 f.duration))
       (lt-ltb s.normal 256 f.normal)
 
--- a desk is made by the answer to its settings
-module _ (room : List ℕ) (s : Settings) where
-  made_by : (b : Bool)
-      → (when b then desk_written room 0 0 fresh (empty_hall s) no_names else answers (refused (answer_number OutsideRange)) room)
-      ≡ desk_written room (answer_number (when b then Done else OutsideRange)) 0 fresh (empty_hall s) no_names
-  unfolding desk_written when◌then◌else◌
-  made_by true = refl
-  made_by false = refl
+-- a desk is made by what its settings come to
+module _ (room : List ℕ) where
+  abbrev pub made_into : Result Settings Refusal → ℤ × List ℕ
+  made_into (Ok s) = desk_written room 0 0 fresh (empty_hall s) no_names
+  made_into (Err r) = answers (refused (desk_refusal_number r)) room
 
-  pub made_so : in_octets s ≡ true → desk_written room (answer_number (settings_answer s)) 0 fresh (empty_hall s) no_names ≡ make_on room s
-  unfolding settable settings_answer
-  made_so q = rw q (sym (made_by (in_range s)))
+  pub made_as : (s : Settings) (r : Result Settings Refusal) → usable_settings s ≡ r → made_into r ≡ make_on room s
+  unfolding usable_settings when◌then◌else◌
+  made_as s r e = rw (← e) (by_test (settable s) (λ t. rw t) (λ t. rw t))
 
-  pub not_made : in_octets s ≡ false → make_on room s ≡ answers (refused (answer_number OutsideRange)) room
-  unfolding settable when◌then◌else◌
-  not_made q = rw q
+-- what the search opens where settings are judged
+unfoldable pub choosing : Type 0
+unfolding held_settings usable_settings settable settings_answer when◌then◌else◌
+choosing = ℕ

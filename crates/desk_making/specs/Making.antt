@@ -2,25 +2,27 @@
 -- the tests: 20, where a desk is lent; then the paper's refusals; then 13. A refusal leaves all as it was. Made and loaded in any room that
 -- is long enough: what stood there is not asked. Assumes nothing.
 use Rattle.desk_octets.specs.Places.{desk_size}
-use Rattle.std.specs.Prelude.{ℕ, Bool, not, ◌&&◌, List, eqb, leb, ltb, ℤ, length}
+use Rattle.std.specs.Prelude.{ℕ, Bool, not, ◌&&◌, List, eqb, leb, ltb, ℤ, length, Option, None, Some, Result, Ok, Err}
 use Rattle.words.specs.Choice.{when◌then◌else◌}
 use Rattle.octets.specs.Octets.{over}
 use Rattle.message.specs.Answers.{refused, result}
 use Rattle.signed.specs.Signed.{answers}
-use Rattle.hall.specs.declared.Answer.TheVariants.{OutsideRange}
+use Rattle.hall.specs.declared.Refusal.{Refusal}
+use Rattle.hall.specs.declared.Refusal.TheVariants.{OutsideRange}
 use Rattle.hall.specs.Answers.{answer_number}
 use Rattle.hall.specs.declared.Settings.{Settings}
 use Rattle.hall.specs.declared.Hall.{Hall}
 use Rattle.identities.specs.declared.Names.{Names}
 use Rattle.hall.specs.declared.Newcomer.{Newcomer}
 use Rattle.joining.specs.declared.Joined.{Joined}
-use Rattle.hall.specs.declared.Found.{Found}
-use Rattle.hall.specs.declared.Found.TheVariants.{At, Nowhere}
 use Rattle.hall.specs.Seats.{settings_of, newcomer_of, in_range, empty_hall}
 use Rattle.identities.specs.Identity.{no_names}
 use Rattle.joining.specs.Join.{join}
 use Rattle.steps.specs.declared.Core.{Core}
+use Rattle.events.specs.declared.Desk.{Desk}
 use Rattle.events.specs.Events.{fresh}
+use Rattle.sheet.specs.declared.Refusal as sheets
+use Rattle.sheet.specs.Framing.{sheet_refusal_number}
 use Rattle.loading.specs.Loading.{loading}
 use Rattle.desk_octets.specs.Form.{octets_of_desk, core_at, hall_at, names_at}
 use Rattle.desk_test.specs.Lent.{formed}
@@ -44,12 +46,24 @@ in_octets s =
 unfoldable pub settable : Settings → Bool
 settable s = in_octets s && in_range s
 
+-- settings as octets hold them, and those that a desk can be made with
+unfoldable pub held_settings : Settings → Result Settings Refusal
+held_settings s = when in_octets s then Ok s else Err OutsideRange
+
+unfoldable pub usable_settings : Settings → Result Settings Refusal
+usable_settings s = when settable s then Ok s else Err OutsideRange
+
 abbrev pub make_on : List ℕ → Settings → ℤ × List ℕ
 make_on room s =
-    when settable s then desk_written room 0 0 fresh (empty_hall s) no_names else answers (refused (answer_number OutsideRange)) room
+    when settable s then desk_written room 0 0 fresh (empty_hall s) no_names else answers (refused (answer_number (Err OutsideRange))) room
+
+-- what a sheet comes to: its desk, or the number of its refusal
+abbrev pub loaded_into : List ℕ → Result Desk sheets.Refusal → ℤ × List ℕ
+loaded_into room (Ok d) = desk_written room 0 0 d.core d.hall d.names
+loaded_into room (Err r) = answers (refused (sheet_refusal_number r)) room
 
 abbrev pub load_on : List ℕ → List ℕ → ℤ × List ℕ
-load_on room sheet = desk_written room (loading sheet).number 0 (loading sheet).core (loading sheet).hall (loading sheet).names
+load_on room sheet = loaded_into room (loading sheet)
 
 -- a flag from C: 0 for no, anything else for yes
 abbrev pub newcomer : ℕ → ℕ → ℕ → ℕ → Newcomer
@@ -57,9 +71,9 @@ newcomer ssrc highest queueing receive_only =
     newcomer_of ssrc highest (record { queueing = not (eqb queueing 0); receive_only = not (eqb receive_only 0) })
 
 -- a join that is done answers the seat that was taken; one that took none is refused, and its number of a seat is not told
-abbrev pub seat_taken : Found → ℕ
-seat_taken (At s) = s
-seat_taken Nowhere = 0
+abbrev pub seat_taken : Option ℕ → ℕ
+seat_taken (Some s) = s
+seat_taken None = 0
 
 abbrev pub joined_on : List ℕ → Joined → ℤ × List ℕ
 joined_on d j =

@@ -3,10 +3,10 @@
 #![tactic(auto)]
 
 ghost use Rattle.std.specs.Prelude.{◌≡◌, true};
-ghost use Rattle.desk_making.specs.Making.{desk_written, narrowed, in_octets, make_on, seat_taken};
+ghost use Rattle.desk_making.specs.Making.{desk_written, narrowed, in_octets, held_settings, usable_settings, make_on, seat_taken};
 
 use desk_octets::DESK_SIZE;
-use hall::{Answer, Found, Hall, Settings};
+use hall::{Hall, Refusal, Settings};
 use identities::Names;
 use steps::Core;
 
@@ -22,18 +22,15 @@ pub struct WideSettings {
     pub normal: u32,
 }
 
-// Writes a desk, unless its number refuses it or the room is too short for it. What is done is answered by `done`.
-pub fn write_desk(desk: &mut [u8], n: u8, done: u8, core: Core, hall: Hall, names: Names) -> i32
-    ensures { (result, desk.new) ≡ desk_written desk.old n done core hall names }
+// Writes a desk, unless the room is too short for it. What is done is answered by `done`.
+pub fn write_desk(desk: &mut [u8], done: u8, core: Core, hall: Hall, names: Names) -> i32
+    ensures { (result, desk.new) ≡ desk_written desk.old 0 done core hall names }
 {
-    if n != 0 {
-        return signed::refusal(n);
-    }
     if desk.len() < DESK_SIZE {
-        return signed::refusal(13);
+        return signed::refused(message::Refusal::NoRoom);
     }
     desk_writing::put_desk(desk, core, hall, names);
-    signed::found(done as u32)
+    signed::found(u32::from(done))
 }
 
 // Whether each setting is one that its octets hold.
@@ -63,27 +60,50 @@ fn narrow(wide: WideSettings) -> Settings
     )
 }
 
+impl TryFrom<WideSettings> for Settings {
+    type Error = Refusal;
+
+    ghost try_from_gives = { λ wide r. r ≡ held_settings (narrowed wide) };
+
+    #[tactic(auto, using(words::specs::Choice::if_yes, words::specs::Choice::if_no), unfolding(crate::specs::Making::held_settings))]
+    fn try_from(wide: WideSettings) -> Result<Settings, Refusal> {
+        if in_octets(wide) {
+            Ok(narrow(wide))
+        } else {
+            Err(Refusal::OutsideRange)
+        }
+    }
+}
+
+// The settings that a desk can be made with.
+#[tactic(auto, using(std::proofs::lemmas::Bool::Decides::nat_tests), unfolding(crate::proofs::Making::choosing))]
+fn usable(wide: WideSettings) -> Result<Settings, Refusal>
+    ensures { result ≡ usable_settings (narrowed wide) }
+{
+    let settings = Settings::try_from(wide)?;
+    hall::check_settings(settings)?;
+    Ok(settings)
+}
+
 // A fresh desk with these settings, unless they are outside their ranges.
 pub fn make_desk(desk: &mut [u8], wide: WideSettings) -> i32
     ensures { (result, desk.new) ≡ make_on desk.old (narrowed wide) }
 {
-    if !in_octets(wide) {
-        return signed::refusal(hall::number_of(Answer::OutsideRange));
+    match usable(wide) {
+        Ok(settings) => write_desk(
+            desk,
+            0,
+            events::fresh_core(),
+            hall::empty_hall(settings),
+            identities::no_names(),
+        ),
+        Err(refusal) => signed::refused(refusal),
     }
-    let settings = narrow(wide);
-    let answer = hall::check_settings(settings);
-    let core = events::fresh_core();
-    let hall = hall::empty_hall(settings);
-    let names = identities::no_names();
-    write_desk(desk, hall::number_of(answer), 0, core, hall, names)
 }
 
 // The seat that a join took.
-pub fn seat_taken(seat: Found) -> u8
+pub fn seat_taken(seat: Option<u8>) -> u8
     ensures { result ≡ seat_taken seat }
 {
-    match seat {
-        Found::At(s) => s,
-        Found::Nowhere => 0,
-    }
+    seat.unwrap_or(0)
 }

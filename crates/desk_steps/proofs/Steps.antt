@@ -1,6 +1,7 @@
 -- What a step on lent octets leaves, a law for each way it can end. Assumes nothing.
-use Rattle.words.specs.Choice.{when◌then◌else◌}
-use Prim.Native.Nat.{ℕ}
+use Rattle.words.specs.Choice.{when◌then◌else◌, by_test}
+use borrow.Author.Tests.{eqb-true, leb-true}
+use Prim.Native.Nat.{ℕ, ◌≤◌}
 use mathlib.Core.Path.{◌≡◌}
 use mathlib.Core.Bool.{true, false}
 use mathlib.Core.List.{List}
@@ -33,3 +34,16 @@ module _ (d : List ℕ) (q : formed d ≡ true) where
 pub no_desk_so : (d r : List ℕ) (n : ℕ) (desk report : List ℕ) → formed d ≡ false → settles d r n desk report ≡ refusal 20 d r
 unfolding settles when◌then◌else◌
 no_desk_so d r n desk report q = rw q
+
+-- what would be written counts only where it is
+pub settles_by : (d r : List ℕ) (n : ℕ) (desk desk' report : List ℕ) → (n ≡ 0 → report_size ≤ length r → desk ≡ desk') →
+    settles d r n desk report ≡ settles d r n desk' report
+unfolding settles when◌then◌else◌
+settles_by d r n desk desk' report w =
+    by_test (formed d)
+    (λ q. by_test (eqb n 0)
+    (λ e. by_test (leb report_size (length r))
+    (λ l. rw (q, e, l, w (eqb-true n 0 e) (leb-true report_size (length r) l)))
+    (λ l. rw (q, e, l)))
+    (λ e. rw (q, e)))
+    (λ q. rw q)

@@ -1,7 +1,7 @@
 -- Steps on the desk in lent octets (document 01, "The desk": "For C programs the desk rests in lent octets, their form fixed in docs/.
 -- Octets not in that form get 20, before all else"): each is its rule between decoding and encoding, what it answers, and what it leaves in
 -- every lent buffer. The order of the tests: 20; then the paper's refusals; then 13. A refusal leaves all as it was. Assumes nothing.
-use Rattle.std.specs.Prelude.{ℕ, List, eqb, leb, ltb, ℤ, length}
+use Rattle.std.specs.Prelude.{ℕ, List, eqb, leb, ltb, ℤ, length, Option}
 use Rattle.words.specs.Choice.{when◌then◌else◌}
 use Rattle.octets.specs.Octets.{over}
 use Rattle.message.specs.Answers.{refused, result}
@@ -54,7 +54,7 @@ step_on d r s = outcome_on d r (outcome s (hall_at d) (names_at d))
 abbrev pub event_on : List ℕ → List ℕ → Event → Leaves
 event_on d r e = step_on d r (step (core_at d) (hall_at d) e)
 
-abbrev pub fired_on : List ℕ → List ℕ → Timer → Leaves
+abbrev pub fired_on : List ℕ → List ℕ → Option Timer → Leaves
 fired_on d r t = event_on d r (Expiry t)
 
 abbrev pub packet_on : List ℕ → List ℕ → List ℕ → Leaves

@@ -9,7 +9,6 @@ ghost use Rattle.floor.specs.Promises.{VersionPromise, MakePromise, JoinPromise,
 use desk_making::WideSettings;
 use events::Event;
 use hall::Flags;
-use report_octets::Told;
 
 // Which face this is. A header and an archive that answer the same number belong together.
 const VERSION: u32 = 4;
@@ -45,14 +44,11 @@ pub fn floor_media(desk: &mut [u8], ssrc: u32, report: &mut [u8]) -> i32
 pub fn floor_packet(desk: &mut [u8], packet: &[u8], report: &mut [u8]) -> i32
     ensures { PacketPromise desk.old packet.now report.old result desk.new report.new }
 {
-    if desk_test::is_desk(desk) {
-        let core = desk_reading::core_at(desk);
-        let hall = desk_reading::hall_at(desk);
-        let step = packet_events::hear(core, hall, packet);
-        desk_steps::settle(desk, report, step)
-    } else {
-        signed::refusal(20)
-    }
+    desk_steps::step_with(
+        desk,
+        report,
+        |core, hall| packet_events::hear(core, hall, packet),
+    )
 }
 
 // A timer fired.
@@ -67,15 +63,15 @@ pub fn floor_timer(desk: &mut [u8], timer: u32, report: &mut [u8]) -> i32
 pub fn floor_leave(desk: &mut [u8], seat: u32, report: &mut [u8]) -> i32
     ensures { LeavePromise desk.old seat report.old result desk.new report.new }
 {
-    if desk_test::is_desk(desk) {
-        let core = desk_reading::core_at(desk);
-        let hall = desk_reading::hall_at(desk);
-        let names = desk_reading::names_at(desk);
-        let outcome = events::leave_call(core, hall, names, desk_steps::seat_numbered(seat));
-        desk_steps::settle_outcome(desk, report, outcome)
-    } else {
-        signed::refusal(20)
+    // a guard of its own, as in `floor_join`: this settles an outcome, that writes no report, so that a closure would serve one function
+    if !desk_test::is_desk(desk) {
+        return signed::refusal(signed::NO_DESK);
     }
+    let core = desk_reading::core_at(desk);
+    let hall = desk_reading::hall_at(desk);
+    let names = desk_reading::names_at(desk);
+    let outcome = events::leave_call(core, hall, names, desk_steps::seat_numbered(seat));
+    desk_steps::settle_outcome(desk, report, outcome)
 }
 
 // Makes a fresh desk.
@@ -109,13 +105,10 @@ pub fn floor_make(
 pub fn floor_load(desk: &mut [u8], sheet: &[u8]) -> i32
     ensures { LoadPromise desk.old sheet.now result desk.new }
 {
-    let loading = loading::load(sheet);
-    let verdict = loading.verdict;
-    let core = loading.core;
-    let hall = loading.hall;
-    let names = loading.names;
-    let n = sheet::verdict_number(verdict);
-    desk_making::write_desk(desk, n, 0, core, hall, names)
+    match loading::load(sheet) {
+        Ok(made) => desk_making::write_desk(desk, 0, made.core, made.hall, made.names),
+        Err(refusal) => signed::refused(refusal),
+    }
 }
 
 // Takes the lowest free seat, and answers it.
@@ -129,141 +122,128 @@ pub fn floor_join(
 ) -> i32
     ensures { JoinPromise desk.old identity.now ssrc highest queueing receive_only result desk.new }
 {
-    if desk_test::is_desk(desk) {
-        let flags = Flags {
-            queueing: queueing != 0,
-            receive_only: receive_only != 0,
-        };
-        let who = hall::newcomer_of(ssrc, highest, flags);
-        let core = desk_reading::core_at(desk);
-        let hall = desk_reading::hall_at(desk);
-        let names = desk_reading::names_at(desk);
-        let joined = joining::join_call(hall, names, identity, who);
-        let answer = joined.answer;
-        let seat = joined.seat;
-        let more = joined.hall;
-        let named = joined.names;
-        let n = hall::number_of(answer);
-        desk_making::write_desk(desk, n, desk_making::seat_taken(seat), core, more, named)
-    } else {
-        signed::refusal(20)
+    // a guard of its own, as in `floor_leave`: that settles an outcome, this writes no report, so that a closure would serve one function
+    if !desk_test::is_desk(desk) {
+        return signed::refusal(signed::NO_DESK);
+    }
+    let flags = Flags {
+        queueing: queueing != 0,
+        receive_only: receive_only != 0,
+    };
+    let who = hall::newcomer_of(ssrc, highest, flags);
+    let core = desk_reading::core_at(desk);
+    let hall = desk_reading::hall_at(desk);
+    let names = desk_reading::names_at(desk);
+    let joined = joining::join_call(hall, names, identity, who);
+    match joined.answer {
+        Ok(()) => desk_making::write_desk(
+            desk,
+            desk_making::seat_taken(joined.seat),
+            core,
+            joined.hall,
+            joined.names,
+        ),
+        Err(refusal) => signed::refused(refusal),
     }
 }
+
+// Look-ups: a function for each, as floor.h has them; they differ in what is asked.
 
 pub fn floor_phase(desk: &[u8]) -> i32
     ensures { PhasePromise desk.now result }
 {
-    if desk_test::is_desk(desk) {
-        let core = desk_reading::core_at(desk);
-        let phase = core.phase;
-        signed::found(core_writing::kind_octet(phase) as u32)
-    } else {
-        signed::refusal(20)
-    }
+    desk_looking::on_desk(
+        desk,
+        |desk| signed::found(u32::from(core_writing::kind_octet(
+            desk_reading::core_at(desk).phase,
+        ))),
+    )
 }
 
 pub fn floor_holder(desk: &[u8]) -> i32
     ensures { HolderPromise desk.now result }
 {
-    if desk_test::is_desk(desk) {
-        let core = desk_reading::core_at(desk);
-        let phase = core.phase;
-        desk_looking::holder_seat(phase)
-    } else {
-        signed::refusal(20)
-    }
+    desk_looking::on_desk(
+        desk,
+        |desk| desk_looking::holder_seat(desk_reading::core_at(desk).phase),
+    )
 }
 
 pub fn floor_holder_priority(desk: &[u8]) -> i32
     ensures { HolderPriorityPromise desk.now result }
 {
-    if desk_test::is_desk(desk) {
-        let core = desk_reading::core_at(desk);
-        let phase = core.phase;
-        desk_looking::holder_priority(phase)
-    } else {
-        signed::refusal(20)
-    }
+    desk_looking::on_desk(
+        desk,
+        |desk| desk_looking::holder_priority(desk_reading::core_at(desk).phase),
+    )
 }
 
 pub fn floor_running(desk: &[u8]) -> i32
     ensures { RunningPromise desk.now result }
 {
-    if desk_test::is_desk(desk) {
-        let core = desk_reading::core_at(desk);
-        let phase = core.phase;
-        signed::found(clocks_looking::timer_set(timers::running_timers(phase)))
-    } else {
-        signed::refusal(20)
-    }
+    desk_looking::on_desk(
+        desk,
+        |desk| signed::found(clocks_looking::timer_set(timers::running_timers(
+            desk_reading::core_at(desk).phase,
+        ))),
+    )
 }
 
 pub fn floor_sequence(desk: &[u8]) -> i32
     ensures { SequencePromise desk.now result }
 {
-    if desk_test::is_desk(desk) {
-        let core = desk_reading::core_at(desk);
-        signed::found(core.sequence as u32)
-    } else {
-        signed::refusal(20)
-    }
+    desk_looking::on_desk(
+        desk,
+        |desk| signed::found(u32::from(desk_reading::core_at(desk).sequence)),
+    )
 }
 
 pub fn floor_c7(desk: &[u8]) -> i32
     ensures { C7Promise desk.now result }
 {
-    if desk_test::is_desk(desk) {
-        let core = desk_reading::core_at(desk);
-        signed::found(core.c7 as u32)
-    } else {
-        signed::refusal(20)
-    }
+    desk_looking::on_desk(
+        desk,
+        |desk| signed::found(u32::from(desk_reading::core_at(desk).c7)),
+    )
 }
 
 pub fn floor_c20(desk: &[u8]) -> i32
     ensures { C20Promise desk.now result }
 {
-    if desk_test::is_desk(desk) {
-        let core = desk_reading::core_at(desk);
-        signed::found(core.c20 as u32)
-    } else {
-        signed::refusal(20)
-    }
+    desk_looking::on_desk(
+        desk,
+        |desk| signed::found(u32::from(desk_reading::core_at(desk).c20)),
+    )
 }
 
 pub fn floor_seats(desk: &[u8]) -> i32
     ensures { SeatsPromise desk.now result }
 {
-    if desk_test::is_desk(desk) {
-        let hall = desk_reading::hall_at(desk);
-        let present = hall.present;
-        signed::found(report_octets::mask_of(present) as u32)
-    } else {
-        signed::refusal(20)
-    }
+    desk_looking::on_desk(
+        desk,
+        |desk| signed::found(u32::from(report_octets::mask_of(
+            desk_reading::hall_at(desk).present,
+        ))),
+    )
 }
 
 pub fn floor_seat_by_ssrc(desk: &[u8], ssrc: u32) -> i32
     ensures { SeatBySsrcPromise desk.now ssrc result }
 {
-    if desk_test::is_desk(desk) {
-        let hall = desk_reading::hall_at(desk);
-        desk_looking::seat_number(hall::seat_of(hall, ssrc))
-    } else {
-        signed::refusal(20)
-    }
+    desk_looking::on_desk(
+        desk,
+        |desk| desk_looking::seat_number(hall::seat_of(desk_reading::hall_at(desk), ssrc)),
+    )
 }
 
 pub fn floor_seat_by_identity(desk: &[u8], identity: &[u8]) -> i32
     ensures { SeatByIdentityPromise desk.now identity.now result }
 {
-    if desk_test::is_desk(desk) {
+    desk_looking::on_desk(desk, |desk| {
         let hall = desk_reading::hall_at(desk);
         let names = desk_reading::names_at(desk);
         desk_looking::seat_number(identities::seat_named(hall, names, identity))
-    } else {
-        signed::refusal(20)
-    }
+    })
 }
 
 // A seat as the sheet lays it out.
@@ -298,46 +278,43 @@ pub fn floor_stops(before: u32, after: u32) -> i32
 pub fn floor_screen(desk: &[u8], room: &mut [u8]) -> i32
     ensures { ScreenPromise desk.now room.old result room.new }
 {
-    if desk_test::is_desk(desk) {
-        let core = desk_reading::core_at(desk);
-        let line = core.line;
-        desk_looking::show(line, room)
-    } else {
-        signed::refusal(20)
-    }
+    desk_looking::from_desk(
+        desk,
+        room,
+        |room| desk_looking::show(desk_reading::core_at(desk).line, room),
+    )
 }
 
 // Saves seats and settings.
 pub fn floor_save(desk: &[u8], room: &mut [u8]) -> i32
     ensures { SavePromise desk.now room.old result room.new }
 {
-    if desk_test::is_desk(desk) {
+    desk_looking::from_desk(desk, room, |room| {
         let hall = desk_reading::hall_at(desk);
         let names = desk_reading::names_at(desk);
         desk_looking::saved_number(saving::save(hall, names, room))
-    } else {
-        signed::refusal(20)
-    }
+    })
 }
 
 // A report's message as its packet.
 pub fn floor_message(desk: &[u8], report: &[u8], which: u32, room: &mut [u8]) -> i32
     ensures { MessagePromise desk.now report.now which room.old result room.new }
 {
-    if !desk_test::is_desk(desk) {
-        return signed::refusal(20);
-    }
-    match report_octets::message_in(report, which) {
-        Told::Says(kind) => desk_looking::tell(desk, kind, room),
-        Told::NoMessage => signed::refusal(12),
-    }
+    desk_looking::from_desk(
+        desk,
+        room,
+        |room| desk_looking::tell(desk, report_octets::message_in(report, which), room),
+    )
 }
 
 // Reads a packet into a message's 40 octets.
 pub fn floor_read(packet: &[u8], message: &mut [u8]) -> i32
     ensures { ReadPromise packet.now message.old result message.new }
 {
-    signed::refusal(message_octets::read_held(packet, message))
+    match message_octets::read_held(packet, message) {
+        Ok(()) => 0,
+        Err(refusal) => signed::refused(refusal),
+    }
 }
 
 // Writes a message as a packet.

@@ -9,19 +9,20 @@ use Rattle.words.specs.Choice.{when◌then◌else◌}
 use Rattle.octets.specs.Octets.{be16, over, nth_octet}
 use Rattle.message.specs.Types.{typed}
 use Rattle.message.specs.Answers.{refused, result}
-use Rattle.message.specs.declared.Typed.{Typed}
+use Rattle.std.specs.Prelude.{Option}
+use Rattle.message.specs.declared.MessageType.{MessageType}
 use Rattle.message.specs.declared.Message.{Message}
 use Rattle.reading.specs.Reading.{reading}
 use Rattle.message_octets.specs.Held.{held_octets, unlisted_field, held_of_type, held_at, read_held, kept_in}
 use Rattle.message_octets.specs.Places.{type_place, ack_place, fields_place, message_size}
 
 -- octets in the form hold a message if their type is listed
-pub held_is : (s : List ℕ) (t : Typed) → length s ≡ message_size → nth_octet s ack_place ≤ 1 →
+pub held_is : (s : List ℕ) (t : Option MessageType) → length s ≡ message_size → nth_octet s ack_place ≤ 1 →
     unlisted_field (be16 s fields_place) ≡ false →
     typed (nth_octet s type_place) ≡ t
     → held_at s ≡ held_of_type t s
 unfolding held_at when◌then◌else◌
-held_is s t l a u e = simp (eq-eqb _ _ l, le-ltb _ _ a, u) (ap (λ (x : Typed). held_of_type x s) e)
+held_is s t l a u e = simp (eq-eqb _ _ l, le-ltb _ _ a, u) (ap (λ (x : Option MessageType). held_of_type x s) e)
 
 module _ (packet room : List ℕ) where
   pub refused_is : (n : ℕ) → reading packet ≡ refused n → (n ≡ read_held packet (length room)) × (room ≡ kept_in packet room)

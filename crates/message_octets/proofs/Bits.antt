@@ -7,7 +7,8 @@ use mathlib.Core.List.{[]}
 use mathlib.Core.Path.{◌≡◌, refl, sym, ap, ◌∙◌}
 use Rattle.words.specs.Choice.{when◌then◌else◌, one}
 use lib.Dec.{eqb}
-use Rattle.message.specs.Message.{fields_of, is_there, of_octet, of_word, of_number, of_queue, of_part, of_cause, has}
+use Rattle.std.specs.Prelude.{Option, None, Some, is_some, option_map}
+use Rattle.message.specs.Message.{fields_of, has}
 use Rattle.message.specs.declared.Message.{Message}
 use Rattle.message_octets.specs.Held.{bits, worth_if, which, is_set}
 
@@ -36,21 +37,36 @@ in_order b₀ b₁ b₂ b₃ b₄ b₅ b₆ b₈ b₁₀ b₁₂ b₁₃ b₁₄
       worth_is b₁₄ 16384,
     ) (omega arith)
 
+there : {X Y : Type 0} (f : X → Y) (o : Option X) → is_some (option_map f o) ≡ is_some o
+there f None = refl
+there f (Some x) = refl
+
 pub which_is : (m : Message) →
-    worth_if (is_there (of_octet m.priority)) 1 + worth_if (is_there (of_word m.duration)) 2
-    + worth_if (is_there (of_cause [] m.cause)) 4 + worth_if (is_there (of_queue m.queue)) 8
-    + worth_if (is_there (of_part [] m.granted)) 16 + worth_if (is_there (of_word m.permission)) 32
-    + worth_if (is_there (of_part [] m.user)) 64 + worth_if (is_there (of_word m.sequence)) 256
-    + worth_if (is_there (of_word m.source)) 1024 + worth_if (is_there (of_octet m.message_type)) 4096
-    + worth_if (is_there (of_word m.indicator)) 8192 + worth_if (is_there (of_number m.ssrc_field)) 16384
+    worth_if (is_some m.priority) 1 + worth_if (is_some m.duration) 2
+    + worth_if (is_some m.cause) 4 + worth_if (is_some m.queue) 8
+    + worth_if (is_some m.granted) 16 + worth_if (is_some m.permission) 32
+    + worth_if (is_some m.user) 64 + worth_if (is_some m.sequence) 256
+    + worth_if (is_some m.source) 1024 + worth_if (is_some m.message_type) 4096
+    + worth_if (is_some m.indicator) 8192 + worth_if (is_some m.ssrc_field) 16384
     ≡ which m
 unfolding which has when◌then◌else◌
 which_is m =
-    in_order (is_there (of_octet m.priority)) (is_there (of_word m.duration)) (is_there (of_cause [] m.cause))
-    (is_there (of_queue m.queue)) (is_there (of_part [] m.granted)) (is_there (of_word m.permission)) (is_there (of_part [] m.user))
-    (is_there (of_word m.sequence)) (is_there (of_word m.source)) (is_there (of_octet m.message_type))
-    (is_there (of_word m.indicator))
-    (is_there (of_number m.ssrc_field))
+    rw (
+      there _ m.priority,
+      there _ m.duration,
+      there _ m.cause,
+      there _ m.queue,
+      there _ m.granted,
+      there _ m.permission,
+      there _ m.user,
+      there _ m.sequence,
+      there _ m.source,
+      there _ m.message_type,
+      there _ m.indicator,
+      there _ m.ssrc_field,
+    )
+    (in_order (is_some m.priority) (is_some m.duration) (is_some m.cause) (is_some m.queue) (is_some m.granted) (is_some m.permission)
+    (is_some m.user) (is_some m.sequence) (is_some m.source) (is_some m.message_type) (is_some m.indicator) (is_some m.ssrc_field))
 
 -- the lowest bit, and what is left above it
 lowest : (b : Bool) (n : ℕ) → (one b + 2 * n) % 2 ≡ one b

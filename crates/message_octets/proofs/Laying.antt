@@ -9,7 +9,7 @@ use native.Mathlib.Nat.{zero-add, add_assoc}
 use native.Mathlib.Omega.{arith}
 use mathlib.Core.Bool.{Bool, true, false}
 use mathlib.Core.Path.{◌≡◌, refl, sym, ap, ◌∙◌}
-use mathlib.Core.List.{List, [], ◌∷◌, ◌++◌, append_assoc}
+use mathlib.Core.List.{List, ◌∷◌, ◌++◌, append_assoc}
 use lib.Dec.{eqb}
 use lib.ListN.{length, take, drop, replicate, length-append, length-drop, length-replicate, take-append-drop, replicate-append-replicate}
 use lib.Seq.{take_at, drop_at, take-take, take-add, drop-drop, length-take-le}
@@ -17,12 +17,12 @@ use Rattle.words.specs.Choice.{one}
 use Rattle.octets.specs.Octets.{be32, over, part, octets16, octets32}
 use Rattle.octets.proofs.Over.{length_over, head_length, over-two, over-before}
 use Rattle.message.specs.Types.{type_number}
-use Rattle.message.specs.Message.{of_octet, of_word, of_number, of_queue, of_cause, is_there}
+use Rattle.std.specs.Prelude.{is_some}
 use Rattle.message.specs.declared.MessageType.{MessageType}
 use Rattle.message.specs.declared.Message.{Message}
 use Rattle.header.specs.Header.{ssrc_place, ack_bit}
 use Rattle.reading.specs.Reading.{message_at}
-use Rattle.message_octets.specs.Held.{worth_if, which, head_octets, first_octets, next_octets, part_octets, place_octets, held_octets}
+use Rattle.message_octets.specs.Held.{worth_if, which, head_octets, first_octets, next_octets, part_octets, part_in_four, held_octets}
 use Rattle.message_octets.specs.Laying.{Blank, Lays, first_worth, next_worth, parts_worth, head_by}
 use Rattle.message_octets.proofs.Bits.{which_is}
 use Rattle.message_octets.specs.Places.{priority_place, permission_place, phrase_place, message_size}
@@ -121,11 +121,11 @@ unfolding first_worth
 first_most m =
     omega (
       arith,
-      worth_most (is_there (of_octet m.priority)) 1,
-      worth_most (is_there (of_octet m.message_type)) 4096,
-      worth_most (is_there (of_word m.duration)) 2,
-      worth_most (is_there (of_cause [] m.cause)) 4,
-      worth_most (is_there (of_queue m.queue)) 8,
+      worth_most (is_some m.priority) 1,
+      worth_most (is_some m.message_type) 4096,
+      worth_most (is_some m.duration) 2,
+      worth_most (is_some m.cause) 4,
+      worth_most (is_some m.queue) 8,
     )
 
 pub next-most : (has : ℕ) (m : Message) → next_worth has m ≤ has + 25888
@@ -133,11 +133,11 @@ unfolding next_worth
 next-most has m =
     omega (
       arith,
-      worth_most (is_there (of_word m.permission)) 32,
-      worth_most (is_there (of_word m.sequence)) 256,
-      worth_most (is_there (of_word m.source)) 1024,
-      worth_most (is_there (of_word m.indicator)) 8192,
-      worth_most (is_there (of_number m.ssrc_field)) 16384,
+      worth_most (is_some m.permission) 32,
+      worth_most (is_some m.sequence) 256,
+      worth_most (is_some m.source) 1024,
+      worth_most (is_some m.indicator) 8192,
+      worth_most (is_some m.ssrc_field) 16384,
     )
 
 head_is : (k : MessageType) (s : List ℕ) (start : ℕ → ℕ) → head_by k s (which (message_at k s start)) ≡ head_octets (message_at k s start)
@@ -151,7 +151,7 @@ pub held_by_rows : (k : MessageType) (s : List ℕ) (start : ℕ → ℕ) (room 
     → Lays first permission_place (next_octets (message_at k s start)) next →
     Lays next phrase_place (part_octets (message_at k s start)) parts
     → all ≡ over parts 0 (head_by k s (which (message_at k s start))) → all ≡ over room 0 (held_octets (message_at k s start))
-unfolding held_octets head_octets first_octets next_octets part_octets place_octets octets16 octets32
+unfolding held_octets head_octets first_octets next_octets part_octets part_in_four octets16 octets32
 held_by_rows k s start room zeros first next parts all h z p q r e =
     let m : Message = message_at k s start in
     let b : Blank zeros priority_place = blank_room room zeros h z in

@@ -2,24 +2,21 @@
 -- order; the message that octets hold, or that they hold none; what is answered when a packet is read into such octets, and when a message
 -- is written out of them (document 01, "What is answered to packets", 1 to 13). Assumes nothing.
 use Rattle.std.specs.Prelude.{ℕ, zero, suc, ◌+◌, ◌*◌, ◌/◌, ◌%◌, ◌^◌, Bool, true, false, not, ◌||◌, List, [], ◌∷◌, ◌++◌, ltb, eqb, length}
-use Rattle.message.specs.Message.{count_of, fields_of, has}
+use Rattle.std.specs.Prelude.{Option, None, Some, unwrap_or, option_map, Result, Ok, Err}
+use Rattle.std.specs.Bool.{then_some}
+use Rattle.message.specs.Message.{fields_of, has}
 use Rattle.words.specs.Choice.{when◌then◌else◌, one}
 use Rattle.octets.specs.Octets.{be16, be32, octets16, octets32, over, nth_octet}
 use Rattle.message.specs.Types.{typed, type_number}
-use Rattle.message.specs.Answers.{Answer, refused, result}
+use Rattle.message.specs.Answers.{Answer, refused, result, refusal_number}
 use Rattle.message.specs.declared.MessageType.{MessageType}
-use Rattle.message.specs.declared.Typed.{Typed}
-use Rattle.message.specs.declared.Typed.TheVariants.{Listed, Unlisted}
-use Rattle.message.specs.declared.Octet.{Octet}
-use Rattle.message.specs.declared.Word.{Word}
-use Rattle.message.specs.declared.Number.{Number}
-use Rattle.message.specs.declared.Queue.{Queue}
+use Rattle.message.specs.declared.Refusal.{Refusal}
+use Rattle.message.specs.declared.QueueInfo.{QueueInfo}
 use Rattle.message.specs.declared.Part.{Part}
-use Rattle.message.specs.declared.Cause.{Cause}
+use Rattle.message.specs.declared.RejectCause.{RejectCause}
 use Rattle.message.specs.declared.Message.{Message}
 use Rattle.reading.specs.Reading.{reading}
 use Rattle.writing.specs.Writing.{writing, written, Tells}
-use Rattle.writing.specs.declared.Writing.{Writing}
 use Rattle.message_octets.specs.Places.{type_place, ack_place, fields_place, message_ssrc_place, priority_place, message_type_place}
 use Rattle.message_octets.specs.Places.{duration_place}
 use Rattle.message_octets.specs.Places.{message_cause_place, queue_place, permission_place, message_sequence_place, source_place}
@@ -43,37 +40,26 @@ worth_if true worth = worth
 worth_if false worth = 0
 
 -- what a field holds, and "zeros where a field is absent"
-abbrev pub octet_in : Octet → ℕ
-octet_in Octet.Absent = 0
-octet_in (Octet.Is n) = n
+abbrev pub number_in : Option ℕ → ℕ
+number_in o = unwrap_or o 0
 
-abbrev pub word_in : Word → ℕ
-word_in Word.Absent = 0
-word_in (Word.Is n) = n
+abbrev pub no_place : QueueInfo
+no_place = record { place = 0; priority = 0 }
 
-abbrev pub number_in : Number → ℕ
-number_in Number.Absent = 0
-number_in (Number.Is n) = n
+abbrev pub queue_in : Option QueueInfo → QueueInfo
+queue_in o = unwrap_or o no_place
 
-abbrev pub position_in : Queue → ℕ
-position_in Queue.Absent = 0
-position_in (Queue.Is position priority) = position
+abbrev pub reject_cause_in : Option RejectCause → ℕ
+reject_cause_in o = number_in (option_map (λ c. c.cause) o)
 
-abbrev pub queue_priority_in : Queue → ℕ
-queue_priority_in Queue.Absent = 0
-queue_priority_in (Queue.Is position priority) = priority
+abbrev pub phrase_in : Option RejectCause → Option Part
+phrase_in o = option_map (λ c. c.phrase) o
 
-abbrev pub reject_cause_in : Cause → ℕ
-reject_cause_in Cause.Absent = 0
-reject_cause_in (Cause.Is cause from count) = cause
+abbrev pub no_part : Part
+no_part = record { from = 0; count = 0 }
 
-abbrev pub phrase_in : Cause → Part
-phrase_in Cause.Absent = Part.Absent
-phrase_in (Cause.Is cause from count) = Part.At from count
-
-abbrev pub part_start : Part → ℕ
-part_start Part.Absent = 0
-part_start (Part.At from count) = from
+abbrev pub part_start : Option Part → ℕ
+part_start o = (unwrap_or o no_part).from
 
 -- 0 to 7: type, Ack bit, which fields it has, SSRC
 unfoldable pub head_octets : Message → List ℕ
@@ -82,18 +68,21 @@ head_octets m = type_number m.kind ∷ one m.ack ∷ octets16 (which m) ++ octet
 -- 8 to 15: Floor Priority, Message Type, Duration, the cause, Queue Info
 unfoldable pub first_octets : Message → List ℕ
 first_octets m =
-    octet_in m.priority ∷ octet_in m.message_type ∷ octets16 (word_in m.duration)
-    ++ octets16 (reject_cause_in m.cause) ++ (position_in m.queue ∷ queue_priority_in m.queue ∷ [])
+    number_in m.priority ∷ number_in m.message_type ∷ octets16 (number_in m.duration)
+    ++ octets16 (reject_cause_in m.cause) ++ ((queue_in m.queue).place ∷ (queue_in m.queue).priority ∷ [])
 
 -- 16 to 27: Permission to Request, Message Sequence-Number, Source, Floor Indicator, SSRC
 unfoldable pub next_octets : Message → List ℕ
 next_octets m =
-    octets16 (word_in m.permission) ++ octets16 (word_in m.sequence) ++ octets16 (word_in m.source)
-    ++ octets16 (word_in m.indicator) ++ octets32 (number_in m.ssrc_field)
+    octets16 (number_in m.permission) ++ octets16 (number_in m.sequence) ++ octets16 (number_in m.source)
+    ++ octets16 (number_in m.indicator) ++ octets32 (number_in m.ssrc_field)
 
 -- where a part starts in the source and how many octets it has, each in 16 bits
-unfoldable pub place_octets : Part → List ℕ
-place_octets p = octets16 (part_start p % 65536) ++ octets16 (count_of p % 65536)
+unfoldable pub part_in_four : Part → List ℕ
+part_in_four p = octets16 (p.from % 65536) ++ octets16 (p.count % 65536)
+
+abbrev pub place_octets : Option Part → List ℕ
+place_octets o = part_in_four (unwrap_or o no_part)
 
 -- 28 to 39: the phrase, Granted Party's Identity, User ID
 unfoldable pub part_octets : Message → List ℕ
@@ -104,11 +93,6 @@ held_octets m = head_octets m ++ first_octets m ++ next_octets m ++ part_octets 
 
 -- THE MESSAGE THAT OCTETS HOLD, IF THEY HOLD ONE
 
--- a message, or none; `Held` of crate writing is something else, what its functions know of a message that they lay
-pub data Held : Type 0 where
-  Is : Message → Held
-  Nothing : Held
-
 -- whether the bit of this worth is set, and bit i
 abbrev pub bit_of : ℕ → ℕ → Bool
 bit_of n worth = eqb (n / worth % 2) 1
@@ -116,66 +100,45 @@ bit_of n worth = eqb (n / worth % 2) 1
 abbrev pub is_set : ℕ → ℕ → Bool
 is_set n i = bit_of n (2 ^ i)
 
--- "A writer looks at a field only where its bit is set"
-abbrev pub octet_if : Bool → ℕ → Octet
-octet_if true n = Octet.Is n
-octet_if false n = Octet.Absent
+-- a part of the source, by where its octets stand
+abbrev pub place_at : List ℕ → ℕ → Part
+place_at s at = record { from = be16 s at; count = be16 s (at + 2) }
 
-abbrev pub word_if : Bool → ℕ → Word
-word_if true n = Word.Is n
-word_if false n = Word.Absent
-
-abbrev pub number_if : Bool → ℕ → Number
-number_if true n = Number.Is n
-number_if false n = Number.Absent
-
-abbrev pub queue_if : Bool → ℕ → ℕ → Queue
-queue_if true position priority = Queue.Is position priority
-queue_if false position priority = Queue.Absent
-
-abbrev pub part_if : Bool → ℕ → ℕ → Part
-part_if true from count = Part.At from count
-part_if false from count = Part.Absent
-
-abbrev pub cause_if : Bool → ℕ → ℕ → ℕ → Cause
-cause_if true cause from count = Cause.Is cause from count
-cause_if false cause from count = Cause.Absent
-
--- the message of this type, by the bits of the fields that it has
+-- the message of this type, by the bits of the fields that it has: "A writer looks at a field only where its bit is set"
 unfoldable pub message_with : MessageType → List ℕ → ℕ → Message
 message_with k s fields =
     record {
       kind = k;
       ack = eqb (nth_octet s ack_place) 1;
       ssrc = be32 s message_ssrc_place;
-      priority = octet_if (is_set fields 0) (nth_octet s priority_place);
-      duration = word_if (is_set fields 1) (be16 s duration_place);
-      cause = cause_if (is_set fields 2) (be16 s message_cause_place) (be16 s phrase_place) (be16 s (phrase_place + 2));
-      queue = queue_if (is_set fields 3) (nth_octet s queue_place) (nth_octet s (queue_place + 1));
-      granted = part_if (is_set fields 4) (be16 s granted_place) (be16 s (granted_place + 2));
-      permission = word_if (is_set fields 5) (be16 s permission_place);
-      user = part_if (is_set fields 6) (be16 s user_place) (be16 s (user_place + 2));
-      sequence = word_if (is_set fields 8) (be16 s message_sequence_place);
-      source = word_if (is_set fields 10) (be16 s source_place);
-      message_type = octet_if (is_set fields 12) (nth_octet s message_type_place);
-      indicator = word_if (is_set fields 13) (be16 s indicator_place);
-      ssrc_field = number_if (is_set fields 14) (be32 s ssrc_field_place);
+      priority = then_some (is_set fields 0) (nth_octet s priority_place);
+      duration = then_some (is_set fields 1) (be16 s duration_place);
+      cause = then_some (is_set fields 2) (record { cause = be16 s message_cause_place; phrase = place_at s phrase_place });
+      queue = then_some (is_set fields 3) (record { place = nth_octet s queue_place; priority = nth_octet s (queue_place + 1) });
+      granted = then_some (is_set fields 4) (place_at s granted_place);
+      permission = then_some (is_set fields 5) (be16 s permission_place);
+      user = then_some (is_set fields 6) (place_at s user_place);
+      sequence = then_some (is_set fields 8) (be16 s message_sequence_place);
+      source = then_some (is_set fields 10) (be16 s source_place);
+      message_type = then_some (is_set fields 12) (nth_octet s message_type_place);
+      indicator = then_some (is_set fields 13) (be16 s indicator_place);
+      ssrc_field = then_some (is_set fields 14) (be32 s ssrc_field_place);
     }
 
 -- "a bit for an ID that is not in the table": 7, 9, 11 and 15 are not
 unfoldable pub unlisted_field : ℕ → Bool
 unlisted_field fields = is_set fields 7 || is_set fields 9 || is_set fields 11 || is_set fields 15
 
-abbrev pub held_of_type : Typed → List ℕ → Held
-held_of_type Unlisted s = Nothing
-held_of_type (Listed k) s = Is (message_with k s (be16 s fields_place))
+abbrev pub held_of_type : Option MessageType → List ℕ → Option Message
+held_of_type None s = None
+held_of_type (Some k) s = Some (message_with k s (be16 s fields_place))
 
 -- octets that are not 40, an Ack bit above 1, an unlisted field and an unlisted type hold no message
-unfoldable pub held_at : List ℕ → Held
+unfoldable pub held_at : List ℕ → Option Message
 held_at s =
-    when not (eqb (length s) message_size) then Nothing
-    else when ltb 1 (nth_octet s ack_place) then Nothing
-    else when unlisted_field (be16 s fields_place) then Nothing
+    when not (eqb (length s) message_size) then None
+    else when ltb 1 (nth_octet s ack_place) then None
+    else when unlisted_field (be16 s fields_place) then None
     else held_of_type (typed (nth_octet s type_place)) s
 
 -- WHAT IS ANSWERED
@@ -197,14 +160,19 @@ read_held packet room = read_number (reading packet) room
 unfoldable pub kept_in : List ℕ → List ℕ → List ℕ
 kept_in packet room = keeping (reading packet) room
 
+-- the code's answer in the paper's numbers
+abbrev pub read_answer : Result (Unit {0}) Refusal → ℕ
+read_answer (Ok done) = 0
+read_answer (Err r) = refusal_number r
+
 -- a message written out of octets: 12 where they hold none, else as the writer answers
-abbrev pub writing_of : Held → List ℕ → ℕ → Answer ℕ
-writing_of Nothing src room = refused 12
-writing_of (Is m) src room = writing m src room
+abbrev pub writing_of : Option Message → List ℕ → ℕ → Answer ℕ
+writing_of None src room = refused 12
+writing_of (Some m) src room = writing m src room
 
-abbrev pub written_of : Held → List ℕ → List ℕ → List ℕ
-written_of Nothing src room = room
-written_of (Is m) src room = written m src room
+abbrev pub written_of : Option Message → List ℕ → List ℕ → List ℕ
+written_of None src room = room
+written_of (Some m) src room = written m src room
 
-abbrev pub WritesOf : Held → List ℕ → List ℕ → Writing → List ℕ → Type 0
+abbrev pub WritesOf : Option Message → List ℕ → List ℕ → Result ℕ Refusal → List ℕ → Type 0
 WritesOf held src room answer after = Tells (writing_of held src (length room)) (written_of held src room) answer after

@@ -1,14 +1,14 @@
 -- How a packet's message gets into its 40 octets in the code: the octets are zeros first, and then each field that the packet has is laid
 -- over them at its place, from front to back. What the octets are stands in Held. Assumes nothing.
-use Rattle.std.specs.Prelude.{ℕ, ◌+◌, ◌-◌, ◌≤◌, List, [], ◌∷◌, ◌++◌, ◌≡◌, length, replicate}
+use Rattle.std.specs.Prelude.{ℕ, ◌+◌, ◌-◌, ◌≤◌, List, ◌∷◌, ◌++◌, ◌≡◌, length, get_or, replicate, is_some}
 use Rattle.octets.specs.Octets.{be32, octets16, octets32, part, over}
 use Rattle.message.specs.Types.{type_number}
-use Rattle.message.specs.Message.{of_octet, of_word, of_number, of_queue, of_part, of_cause, is_there}
 use Rattle.message.specs.declared.MessageType.{MessageType}
-use Rattle.message.specs.declared.Queue.{Queue}
 use Rattle.message.specs.declared.Message.{Message}
 use Rattle.header.specs.Header.{ssrc_place, ack_bit}
-use Rattle.message_octets.specs.Held.{worth_if, position_in, queue_priority_in}
+use Rattle.message_octets.specs.Held.{worth_if}
+use Rattle.reading.specs.Reading.{message_at}
+use Rattle.reading.specs.declared.Judged.{Judged}
 use Rattle.message_octets.specs.Places.{message_size}
 
 -- a room for a message that has zeros from a place on
@@ -21,26 +21,27 @@ pub record Lays (room : List ℕ) (at : ℕ) (octets after : List ℕ) : Type 0 
   pub is : after ≡ over room at octets
   pub blank : Blank after (at + length octets)
 
-abbrev pub queue_octets : Queue → List ℕ
-queue_octets q = position_in q ∷ queue_priority_in q ∷ []
+-- the message of a packet that was judged
+abbrev pub message_by : List ℕ → Judged → Message
+message_by s j = message_at j.kind s (λ i. get_or j.starts i 0)
 
 -- what the bits of the fields are worth whose places stand in a row, with those before them
 unfoldable pub first_worth : Message → ℕ
 first_worth m =
-    0 + worth_if (is_there (of_octet m.priority)) 1 + worth_if (is_there (of_octet m.message_type)) 4096
-    + worth_if (is_there (of_word m.duration)) 2
-    + worth_if (is_there (of_cause [] m.cause)) 4
-    + worth_if (is_there (of_queue m.queue)) 8
+    0 + worth_if (is_some m.priority) 1 + worth_if (is_some m.message_type) 4096
+    + worth_if (is_some m.duration) 2
+    + worth_if (is_some m.cause) 4
+    + worth_if (is_some m.queue) 8
 
 unfoldable pub next_worth : ℕ → Message → ℕ
 next_worth has m =
-    has + worth_if (is_there (of_word m.permission)) 32 + worth_if (is_there (of_word m.sequence)) 256
-    + worth_if (is_there (of_word m.source)) 1024
-    + worth_if (is_there (of_word m.indicator)) 8192
-    + worth_if (is_there (of_number m.ssrc_field)) 16384
+    has + worth_if (is_some m.permission) 32 + worth_if (is_some m.sequence) 256
+    + worth_if (is_some m.source) 1024
+    + worth_if (is_some m.indicator) 8192
+    + worth_if (is_some m.ssrc_field) 16384
 
 unfoldable pub parts_worth : ℕ → Message → ℕ
-parts_worth has m = has + worth_if (is_there (of_part [] m.granted)) 16 + worth_if (is_there (of_part [] m.user)) 64
+parts_worth has m = has + worth_if (is_some m.granted) 16 + worth_if (is_some m.user) 64
 
 -- type, Ack bit and SSRC out of the packet's header, and the fields' bits
 unfoldable pub head_by : MessageType → List ℕ → ℕ → List ℕ

@@ -2,19 +2,18 @@
 // beside it. A packet is read into such octets here; crate message_writing writes a message out of them.
 #![tactic(auto)]
 
-ghost use Rattle.std.specs.Prelude.{◌≡◌, [], ◌∷◌, ◌+◌, ◌-◌, ◌≤◌, ◌<◌, length, get_or};
-ghost use Rattle.octets.specs.Octets.{octets16, octets32, over};
-ghost use Rattle.message.specs.Message.{of_octet, of_word, of_number, of_queue, of_part, of_cause, is_there};
-ghost use Rattle.message.specs.declared.Part.TheVariants as part;
-ghost use Rattle.reading.specs.Reading as reads;
+ghost use Rattle.std.specs.Prelude.{◌≡◌, ℕ, List, [], ◌∷◌, ◌+◌, ◌%◌, ◌≤◌, ◌<◌, length, get_or, replicate, refl, is_some, unwrap_or};
+ghost use Rattle.octets.specs.Octets.{be16, be32, octets16, octets32, over};
+ghost use Rattle.octets.proofs.Numbers.{length16, length32};
 ghost use Rattle.walk.specs.Walk.{Reach};
 ghost use Rattle.header.specs.Header.{header_size};
 ghost use Rattle.message_octets.specs.Places.{priority_place, permission_place, phrase_place, message_size};
-ghost use Rattle.message_octets.specs.Held.{worth_if, octet_in, word_in, number_in, reject_cause_in, phrase_in, first_octets, next_octets, place_octets, part_octets, held_octets, read_held, kept_in};
-ghost use Rattle.message_octets.specs.Laying.{Blank, Lays, queue_octets, first_worth, next_worth, parts_worth, head_by};
+ghost use Rattle.message_octets.specs.Held.{worth_if, no_place, no_part, place_at, part_in_four, first_octets, next_octets, part_octets, held_octets, read_held, kept_in, read_answer};
+ghost use Rattle.message_octets.specs.Laying.{Blank, Lays, first_worth, next_worth, parts_worth, head_by, message_by};
+ghost use Rattle.message_octets.specs.Zeros.{zeros16, zeros32, zeros_part, four_long};
 
-use header::Opening;
-use message::MessageType;
+use message::{Part, QueueInfo, Refusal};
+use reading::Judged;
 
 // Where each thing stands in the octets of a message, and how many there are: in a field's place its number, in a part's place where it starts
 // and, two octets further, how many octets it has.
@@ -55,214 +54,282 @@ pub const USER: usize = 36;
 pub const MESSAGE_SIZE: usize = 40;
 
 // What the bit of each field is worth: 2 to the field's ID.
-pub const HAS_PRIORITY: u16 = 1;
+pub const HAS_PRIORITY: u16 = 1 << 0;
 
-pub const HAS_DURATION: u16 = 2;
+pub const HAS_DURATION: u16 = 1 << 1;
 
-pub const HAS_CAUSE: u16 = 4;
+pub const HAS_CAUSE: u16 = 1 << 2;
 
-pub const HAS_QUEUE: u16 = 8;
+pub const HAS_QUEUE: u16 = 1 << 3;
 
-pub const HAS_GRANTED: u16 = 16;
+pub const HAS_GRANTED: u16 = 1 << 4;
 
-pub const HAS_PERMISSION: u16 = 32;
+pub const HAS_PERMISSION: u16 = 1 << 5;
 
-pub const HAS_USER: u16 = 64;
+pub const HAS_USER: u16 = 1 << 6;
 
-pub const HAS_SEQUENCE: u16 = 256;
+pub const HAS_SEQUENCE: u16 = 1 << 8;
 
-pub const HAS_SOURCE: u16 = 1024;
+pub const HAS_SOURCE: u16 = 1 << 10;
 
-pub const HAS_MESSAGE_TYPE: u16 = 4096;
+pub const HAS_MESSAGE_TYPE: u16 = 1 << 12;
 
-pub const HAS_INDICATOR: u16 = 8192;
+pub const HAS_INDICATOR: u16 = 1 << 13;
 
-pub const HAS_SSRC_FIELD: u16 = 16384;
+pub const HAS_SSRC_FIELD: u16 = 1 << 14;
 
-// A packet's message is laid into zeros, from its fields' starts: what it lacks is there already. Each field that it has adds the worth of
-// its bit to that of the fields before it.
+// What stands at a place among the octets of a message: a number of one, two or four octets, a place in line with its priority, or a part of
+// the source.
+pub trait Placed: Copy {
+    // the octets that it stands as, how many they are, and what stands where a field is absent
+    ghost octets: { Self → List ℕ };
 
-fn lay_octet(room: &mut [u8], to: usize, s: &[u8], at: usize, has: u16, worth: u16) -> u16
-    requires blank { Blank room.old to × (to + 1 ≤ message_size) }
-    requires at_in_bounds { (at + 2 ≤ length s.now) × (has + worth < 65536) }
-    ensures lays { Lays room.old to (octet_in (reads.octet_at s.now at) ∷ []) room.new }
-    ensures value { result ≡ has + worth_if (is_there (of_octet (reads.octet_at s.now at))) worth }
+    ghost size: { ℕ };
+
+    ghost absent: { Self };
+
+    // what octets hold at a place
+    ghost held: { List ℕ → ℕ → Self };
+
+    fn get(s: &[u8], at: usize) -> Self
+        requires { at + size ≤ length s.now }
+        ensures { result ≡ held s.now at };
+
+    fn put(self, room: &mut [u8], at: usize)
+        requires { at + size ≤ length room.old }
+        ensures { room.new ≡ over room.old at (octets self) };
+
+    ghost long: { (x : Self) → length (octets x) ≡ size };
+
+    ghost zeros: { octets absent ≡ replicate size 0 };
+}
+
+impl Placed for u8 {
+    ghost octets = { λ n. n ∷ [] };
+
+    ghost size = { 1 };
+
+    ghost absent = { 0 };
+
+    ghost held = { λ s at. get_or s at 0 };
+
+    ghost long = { λ n. refl };
+
+    ghost zeros = { refl };
+
+    fn get(s: &[u8], at: usize) -> u8 {
+        s[at]
+    }
+
+    fn put(self, room: &mut [u8], at: usize) {
+        room[at] = self;
+    }
+}
+
+impl Placed for u16 {
+    ghost octets = { octets16 };
+
+    ghost size = { 2 };
+
+    ghost absent = { 0 };
+
+    ghost held = { be16 };
+
+    ghost long = { length16 };
+
+    ghost zeros = { zeros16 };
+
+    fn get(s: &[u8], at: usize) -> u16 {
+        octets::number16(s, at)
+    }
+
+    fn put(self, room: &mut [u8], at: usize) {
+        octets::put16(room, at, self);
+    }
+}
+
+impl Placed for u32 {
+    ghost octets = { octets32 };
+
+    ghost size = { 4 };
+
+    ghost absent = { 0 };
+
+    ghost held = { be32 };
+
+    ghost long = { length32 };
+
+    ghost zeros = { zeros32 };
+
+    fn get(s: &[u8], at: usize) -> u32 {
+        octets::number32(s, at)
+    }
+
+    fn put(self, room: &mut [u8], at: usize) {
+        octets::put32(room, at, self);
+    }
+}
+
+impl Placed for QueueInfo {
+    ghost octets = { λ q. q.place ∷ q.priority ∷ [] };
+
+    ghost size = { 2 };
+
+    ghost absent = { no_place };
+
+    ghost held = { λ s at. record { place = get_or s at 0; priority = get_or s (at + 1) 0 } };
+
+    ghost long = { λ q. refl };
+
+    ghost zeros = { refl };
+
+    fn get(s: &[u8], at: usize) -> QueueInfo {
+        QueueInfo {
+            place: s[at],
+            priority: s[at + 1],
+        }
+    }
+
+    fn put(self, room: &mut [u8], at: usize) {
+        octets::put_pair(room, at, self.place, self.priority);
+    }
+}
+
+// A part is where it starts and how many octets it has, each in 16 bits: a packet has at most 1,024 octets.
+impl Placed for Part {
+    ghost octets = { part_in_four };
+
+    ghost size = { 4 };
+
+    ghost absent = { no_part };
+
+    ghost held = { place_at };
+
+    ghost long = { four_long };
+
+    ghost zeros = { zeros_part };
+
+    fn get(s: &[u8], at: usize) -> Part {
+        Part {
+            from: octets::number16(s, at) as usize,
+            count: octets::number16(s, at + 2) as usize,
+        }
+    }
+
+    fn put(self, room: &mut [u8], at: usize) {
+        octets::put16(room, at, (self.from % 65536) as u16);
+        octets::put16(room, at + 2, (self.count % 65536) as u16);
+    }
+}
+
+// A packet's message is laid into zeros: what it lacks is there already. Each field that it has adds the worth of its bit to that of the
+// fields before it.
+fn lay<T: Placed>(room: &mut [u8], to: usize, field: Option<T>, has: u16, worth: u16) -> u16
+    requires blank { Blank room.old to × (to + T.size ≤ message_size) }
+    requires worth_bound { has + worth < 65536 }
+    ensures lays { Lays room.old to (T.octets (unwrap_or field T.absent)) room.new }
+    ensures value { result ≡ has + worth_if (is_some field) worth }
     ensures upper_bound { result ≤ has + worth }
 {
-    if at == 0 {
+    let Some(x) = field else {
         return has;
-    }
-    room[to] = s[at];
+    };
+    x.put(room, to);
     has + worth
 }
 
-fn lay_word(room: &mut [u8], to: usize, s: &[u8], at: usize, has: u16, worth: u16) -> u16
-    requires blank { Blank room.old to × (to + 2 ≤ message_size) }
-    requires at_in_bounds { (at + 2 ≤ length s.now) × (has + worth < 65536) }
-    ensures lays { Lays room.old to (octets16 (word_in (reads.word_at s.now at))) room.new }
-    ensures value { result ≡ has + worth_if (is_there (of_word (reads.word_at s.now at))) worth }
-    ensures upper_bound { result ≤ has + worth }
-{
-    if at == 0 {
-        return has;
-    }
-    octets::put16(room, to, octets::number16(s, at));
-    has + worth
-}
-
-fn lay_number(room: &mut [u8], to: usize, s: &[u8], at: usize, has: u16, worth: u16) -> u16
-    requires blank { Blank room.old to × (to + 4 ≤ message_size) }
-    requires at_in_bounds { (at + 4 ≤ length s.now) × (has + worth < 65536) }
-    ensures lays { Lays room.old to (octets32 (number_in (reads.number_at s.now at))) room.new }
-    ensures value { result ≡ has + worth_if (is_there (of_number (reads.number_at s.now at))) worth }
-    ensures upper_bound { result ≤ has + worth }
-{
-    if at == 0 {
-        return has;
-    }
-    octets::put32(room, to, octets::number32(s, at));
-    has + worth
-}
-
-fn lay_queue(room: &mut [u8], to: usize, s: &[u8], at: usize, has: u16, worth: u16) -> u16
-    requires blank { Blank room.old to × (to + 2 ≤ message_size) }
-    requires at_in_bounds { (at + 2 ≤ length s.now) × (has + worth < 65536) }
-    ensures lays { Lays room.old to (queue_octets (reads.queue_at s.now at)) room.new }
-    ensures value { result ≡ has + worth_if (is_there (of_queue (reads.queue_at s.now at))) worth }
-    ensures upper_bound { result ≤ has + worth }
-{
-    if at == 0 {
-        return has;
-    }
-    octets::put_pair(room, to, s[at], s[at + 1]);
-    has + worth
-}
-
-fn lay_cause(room: &mut [u8], to: usize, s: &[u8], at: usize, has: u16, worth: u16) -> u16
-    requires blank { Blank room.old to × (to + 2 ≤ message_size) }
-    requires at_in_bounds { (at + 2 ≤ length s.now) × (has + worth < 65536) }
-    ensures lays { Lays room.old to (octets16 (reject_cause_in (reads.cause_at s.now at))) room.new }
-    ensures value { result ≡ has + worth_if (is_there (of_cause [] (reads.cause_at s.now at))) worth }
-    ensures upper_bound { result ≤ has + worth }
-{
-    if at == 0 {
-        return has;
-    }
-    octets::put16(room, to, octets::number16(s, at));
-    has + worth
-}
-
-// A place in a packet fits 16 bits: a packet has at most 1,024 octets.
-fn put_place(room: &mut [u8], at: usize, from: usize, count: usize)
-    requires { at + 4 ≤ length room.old }
-    ensures { room.new ≡ over room.old at (place_octets (part.At from count)) }
-{
-    octets::put16(room, at, (from % 65536) as u16);
-    octets::put16(room, at + 2, (count % 65536) as u16);
-}
-
-fn lay_part(room: &mut [u8], to: usize, s: &[u8], at: usize, has: u16, worth: u16) -> u16
-    requires blank { Blank room.old to × (to + 4 ≤ message_size) }
-    requires at_in_bounds { (at + 2 ≤ length s.now) × (has + worth < 65536) }
-    ensures lays { Lays room.old to (place_octets (reads.part_at s.now at)) room.new }
-    ensures value { result ≡ has + worth_if (is_there (of_part [] (reads.part_at s.now at))) worth }
-    ensures upper_bound { result ≤ has + worth }
-{
-    if at == 0 {
-        return has;
-    }
-    put_place(room, to, at, s[at - 1] as usize);
-    has + worth
-}
-
-// Where a cause's phrase stands; the bit of its field is added where the cause is laid.
-fn lay_phrase(room: &mut [u8], to: usize, s: &[u8], at: usize)
-    requires blank { Blank room.old to × (to + 4 ≤ message_size) }
-    requires at_in_bounds { at + 2 ≤ length s.now }
-    requires bound { (at ≡ 0 → ⊥) → 2 ≤ get_or s.now (at - 1) 0 }
-    ensures { Lays room.old to (place_octets (phrase_in (reads.cause_at s.now at))) room.new }
-{
-    if at == 0 {
-        return;
-    }
-    put_place(room, to, at + 2, s[at - 1] as usize - 2);
-}
-
-fn lay_first(room: &mut [u8], s: &[u8], starts: &[usize; 16]) -> u16
+// The fields of one row of the octets, from what is known of a packet that was judged.
+fn lay_first(room: &mut [u8], s: &[u8], judged: &Judged) -> u16
     requires blank { Blank room.old priority_place }
-    requires reach { Reach s.now (λ i. get_or starts.now i 0) }
-    ensures lays { (k : MessageType) → Lays room.old priority_place (first_octets (reads.message_at k s.now (λ i. get_or starts.now i 0))) room.new }
-    ensures value { (k : MessageType) → result ≡ first_worth (reads.message_at k s.now (λ i. get_or starts.now i 0)) }
+    requires reach { Reach s.now (λ i. get_or judged.now.starts i 0) }
+    ensures lays { Lays room.old priority_place (first_octets (message_by s.now judged.now)) room.new }
+    ensures value { result ≡ first_worth (message_by s.now judged.now) }
 {
-    let has = lay_octet(room, PRIORITY, s, starts[0], 0, HAS_PRIORITY);
-    let has = lay_octet(room, MESSAGE_TYPE, s, starts[12], has, HAS_MESSAGE_TYPE);
-    let has = lay_word(room, DURATION, s, starts[1], has, HAS_DURATION);
-    let has = lay_cause(room, CAUSE, s, starts[2], has, HAS_CAUSE);
-    lay_queue(room, QUEUE, s, starts[3], has, HAS_QUEUE)
+    let starts = &judged.starts;
+    let priority = reading::octet_at(s, starts[0]);
+    let has = lay(room, PRIORITY, priority, 0, HAS_PRIORITY);
+    let message_type = reading::octet_at(s, starts[12]);
+    let has = lay(room, MESSAGE_TYPE, message_type, has, HAS_MESSAGE_TYPE);
+    let duration = reading::word_at(s, starts[1]);
+    let has = lay(room, DURATION, duration, has, HAS_DURATION);
+    let cause = reading::cause_at(s, starts[2]).map(|reject| reject.cause);
+    let has = lay(room, CAUSE, cause, has, HAS_CAUSE);
+    let queue = reading::queue_at(s, starts[3]);
+    lay(room, QUEUE, queue, has, HAS_QUEUE)
 }
 
-fn lay_next(room: &mut [u8], s: &[u8], starts: &[usize; 16], has: u16) -> u16
+fn lay_next(room: &mut [u8], s: &[u8], judged: &Judged, has: u16) -> u16
     requires blank { Blank room.old permission_place }
-    requires reach { Reach s.now (λ i. get_or starts.now i 0) }
+    requires reach { Reach s.now (λ i. get_or judged.now.starts i 0) }
     requires has_bound { has + 25888 < 65536 }
-    ensures lays { (k : MessageType) → Lays room.old permission_place (next_octets (reads.message_at k s.now (λ i. get_or starts.now i 0))) room.new }
-    ensures value { (k : MessageType) → result ≡ next_worth has (reads.message_at k s.now (λ i. get_or starts.now i 0)) }
+    ensures lays { Lays room.old permission_place (next_octets (message_by s.now judged.now)) room.new }
+    ensures value { result ≡ next_worth has (message_by s.now judged.now) }
 {
-    let has = lay_word(room, PERMISSION, s, starts[5], has, HAS_PERMISSION);
-    let has = lay_word(room, SEQUENCE, s, starts[8], has, HAS_SEQUENCE);
-    let has = lay_word(room, SOURCE, s, starts[10], has, HAS_SOURCE);
-    let has = lay_word(room, INDICATOR, s, starts[13], has, HAS_INDICATOR);
-    lay_number(room, SSRC_FIELD, s, starts[14], has, HAS_SSRC_FIELD)
+    let starts = &judged.starts;
+    let permission = reading::word_at(s, starts[5]);
+    let has = lay(room, PERMISSION, permission, has, HAS_PERMISSION);
+    let sequence = reading::word_at(s, starts[8]);
+    let has = lay(room, SEQUENCE, sequence, has, HAS_SEQUENCE);
+    let source = reading::word_at(s, starts[10]);
+    let has = lay(room, SOURCE, source, has, HAS_SOURCE);
+    let indicator = reading::word_at(s, starts[13]);
+    let has = lay(room, INDICATOR, indicator, has, HAS_INDICATOR);
+    let ssrc = reading::number_at(s, starts[14]);
+    lay(room, SSRC_FIELD, ssrc, has, HAS_SSRC_FIELD)
 }
 
-fn lay_parts(room: &mut [u8], s: &[u8], starts: &[usize; 16], has: u16) -> u16
+// The phrase has no bit of its own: that of its field was added where the cause was laid.
+fn lay_parts(room: &mut [u8], s: &[u8], judged: &Judged, has: u16) -> u16
     requires blank { Blank room.old phrase_place }
-    requires reach { Reach s.now (λ i. get_or starts.now i 0) }
+    requires reach { Reach s.now (λ i. get_or judged.now.starts i 0) }
     requires has_bound { has + 80 < 65536 }
-    ensures lays { (k : MessageType) → Lays room.old phrase_place (part_octets (reads.message_at k s.now (λ i. get_or starts.now i 0))) room.new }
-    ensures value { (k : MessageType) → result ≡ parts_worth has (reads.message_at k s.now (λ i. get_or starts.now i 0)) }
+    ensures lays { Lays room.old phrase_place (part_octets (message_by s.now judged.now)) room.new }
+    ensures value { result ≡ parts_worth has (message_by s.now judged.now) }
 {
-    lay_phrase(room, PHRASE, s, starts[2]);
-    let has = lay_part(room, GRANTED, s, starts[4], has, HAS_GRANTED);
-    lay_part(room, USER, s, starts[6], has, HAS_USER)
+    let starts = &judged.starts;
+    let phrase = reading::cause_at(s, starts[2]).map(|reject| reject.phrase);
+    let has = lay(room, PHRASE, phrase, has, 0);
+    let has = lay(
+        room,
+        GRANTED,
+        reading::part_at(s, starts[4]),
+        has,
+        HAS_GRANTED,
+    );
+    lay(room, USER, reading::part_at(s, starts[6]), has, HAS_USER)
 }
 
-fn put_head(room: &mut [u8], s: &[u8], kind: MessageType, fields: u16)
+fn put_head(room: &mut [u8], s: &[u8], judged: &Judged, fields: u16)
     requires { (header_size ≤ length s.now) × (message_size ≤ length room.old) }
-    ensures { room.new ≡ over room.old 0 (head_by kind s.now fields) }
+    ensures { room.new ≡ over room.old 0 (head_by judged.now.kind s.now fields) }
 {
-    octets::put_pair(room, TYPE, message::type_number(kind), s[0] / 16 % 2);
+    octets::put_pair(room, TYPE, message::type_number(judged.kind), s[0] / 16 % 2);
     octets::put16(room, FIELDS, fields);
     octets::put32(room, SSRC, octets::number32(s, header::SSRC));
 }
 
 // Writes a packet's message into the first 40 octets of a room.
-fn put_held(room: &mut [u8], s: &[u8], kind: MessageType, starts: &[usize; 16])
+fn put_held(room: &mut [u8], s: &[u8], judged: &Judged)
     requires message_size_in_bounds { message_size ≤ length room.old }
-    requires reach { Reach s.now (λ i. get_or starts.now i 0) }
-    ensures { room.new ≡ over room.old 0 (held_octets (reads.message_at kind s.now (λ i. get_or starts.now i 0))) }
+    requires reach { Reach s.now (λ i. get_or judged.now.starts i 0) }
+    ensures { room.new ≡ over room.old 0 (held_octets (message_by s.now judged.now)) }
 {
     copying::put_zeros(room, 0, MESSAGE_SIZE);
-    let has = lay_first(room, s, starts);
-    let has = lay_next(room, s, starts, has);
-    let has = lay_parts(room, s, starts, has);
-    put_head(room, s, kind, has);
+    let has = lay_first(room, s, judged);
+    let has = lay_next(room, s, judged, has);
+    let has = lay_parts(room, s, judged, has);
+    put_head(room, s, judged, has);
 }
 
-// Reads a packet into a room for a message: 0, or the number of a refusal, 1 to 11 or 14 before 13.
-pub fn read_held(packet: &[u8], room: &mut [u8]) -> u8
-    ensures value { result ≡ read_held packet.now (length room.old) }
+// Reads a packet into a room for a message, or refuses it: the reader's refusals come before NoRoom.
+pub fn read_held(packet: &[u8], room: &mut [u8]) -> Result<(), Refusal>
+    ensures value { read_answer result ≡ read_held packet.now (length room.old) }
     ensures room_after { room.new ≡ kept_in packet.now room.old }
 {
-    let mut starts = [0usize; 16];
-    match reading::judge(packet, &mut starts) {
-        Opening::Refused(r) => message::refusal_number(r),
-        Opening::Of(kind) => {
-            if room.len() < MESSAGE_SIZE {
-                return 13;
-            }
-            put_held(room, packet, kind, &starts);
-            0
-        }
+    let judged = reading::judge(packet)?;
+    if room.len() < MESSAGE_SIZE {
+        return Err(Refusal::NoRoom);
     }
+    put_held(room, packet, &judged);
+    Ok(())
 }

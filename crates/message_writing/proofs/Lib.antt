@@ -1,2 +1,3 @@
 -- Laws that the functions here share.
 pub mod Laws
+pub mod Forms

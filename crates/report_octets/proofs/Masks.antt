@@ -5,12 +5,22 @@ use native.Mathlib.Omega.{arith}
 use native.Mathlib.Numerals.{add-one}
 use mathlib.Core.Bool.{Bool, true, false}
 use mathlib.Core.List.{List, [], ◌∷◌}
-use mathlib.Core.Path.{◌≡◌, ap, sym}
+use mathlib.Core.Path.{◌≡◌, refl, ap, sym}
+use mir.Val.{bool_byte}
 use lib.ListN.{length, get_or, take, drop, length-take, length-drop, drop_of_length-le}
 use lib.Pow.{pow_pos}
 use lib.Seq.{drop-cons}
 use Rattle.words.specs.Choice.{one}
 use Rattle.report_octets.specs.Report.{mask_of}
+
+-- `u8::from` counts a test
+pub one_byte : (b : Bool) → bool_byte b ≡ one b
+one_byte true = refl
+one_byte false = refl
+
+pub byte-most : (b : Bool) → bool_byte b ≤ 1
+byte-most true = omega arith
+byte-most false = omega arith
 
 one-most : (b : Bool) → one b ≤ 1
 one-most true = omega arith

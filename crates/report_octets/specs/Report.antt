@@ -1,31 +1,27 @@
 -- A report as 24 octets (docs/FORMS.md, "A report: 24 octets"; document 01, "The desk": "at most two messages with the set of seats they go
 -- to, and four marks"), and the messages that the code reads out of them. What the octets say as a whole: crate report_octets_laws. Assumes
 -- nothing.
-use Rattle.std.specs.Prelude.{ℕ, ◌+◌, ◌*◌, ◌%◌, Bool, not, ◌&&◌, List, [], ◌∷◌, ◌++◌, eqb, length, get_or}
+use Rattle.std.specs.Prelude.{ℕ, ◌+◌, ◌*◌, ◌%◌, Bool, not, ◌&&◌, Option, Some, None, List, [], ◌∷◌, ◌++◌, eqb, length, get_or}
 use Rattle.words.specs.Choice.{when◌then◌else◌, one}
 use Rattle.octets.specs.Octets.{be16, octets16}
 use Rattle.steps.specs.declared.Kind.{Kind}
 use Rattle.steps.specs.declared.Kind.TheVariants as say
 use Rattle.steps.specs.declared.Sending.{Sending}
-use Rattle.steps.specs.declared.Mark.{Mark}
-use Rattle.steps.specs.declared.Mark.TheVariants.{NoSeat, Seat}
 use Rattle.steps.specs.declared.Given.{Given}
 use Rattle.steps.specs.declared.Given.TheVariants.{NotGiven, AtOnce, OutOfLine}
 use Rattle.steps.specs.declared.Marks.{Marks}
 use Rattle.steps.specs.declared.Report.{Report}
 use Rattle.report_octets.specs.Places.{report_size, first_place, second_place, seat_within, number_within, priority_within, zero_within}
 use Rattle.report_octets.specs.declared.Particulars.{Particulars}
-use Rattle.report_octets.specs.declared.Told.{Told}
-use Rattle.report_octets.specs.declared.Told.TheVariants.{Says, NoMessage}
 
 -- a set of seats as a number, seat 0 the lowest bit
 abbrev pub mask_of : List Bool → ℕ
 mask_of [] = 0
 mask_of (b ∷ bs) = one b + 2 * mask_of bs
 
-abbrev pub seat_octet : Mark → ℕ
-seat_octet NoSeat = 255
-seat_octet (Seat s) = s
+abbrev pub seat_octet : Option ℕ → ℕ
+seat_octet None = 255
+seat_octet (Some s) = s
 
 abbrev pub given_octet : Given → ℕ
 given_octet NotGiven = 255
@@ -78,17 +74,17 @@ kind_of q =
     else say.Nothing
 
 unfoldable pub alike : Particulars → Particulars → Bool
-alike q p = eqb q.kind p.kind && eqb q.seat p.seat && eqb q.number p.number && eqb q.priority p.priority
+alike q p = eqb q.kind p.kind && (eqb q.seat p.seat && (eqb q.number p.number && eqb q.priority p.priority))
 
 -- it has them: what its kind has not is zero, and so is the octet behind its priority
-unfoldable pub said_by : Particulars → ℕ → Told
-said_by q behind = when alike q (particulars (kind_of q)) && eqb behind 0 then Says (kind_of q) else NoMessage
+unfoldable pub said_by : Particulars → ℕ → Option Kind
+said_by q behind = when alike q (particulars (kind_of q)) && eqb behind 0 then Some (kind_of q) else None
 
-abbrev pub said_at : List ℕ → ℕ → Told
+abbrev pub said_at : List ℕ → ℕ → Option Kind
 said_at r at = said_by (particulars_at r at) (get_or r (at + zero_within) 0)
 
 -- message 0 or 1 of a report; there is no third
-unfoldable pub told_in : List ℕ → ℕ → Told
+unfoldable pub told_in : List ℕ → ℕ → Option Kind
 told_in r which =
-    when not (eqb (length r) report_size) then NoMessage else when eqb which 0 then said_at r first_place
-    else when eqb which 1 then said_at r second_place else Says say.Nothing
+    when not (eqb (length r) report_size) then None else when eqb which 0 then said_at r first_place
+    else when eqb which 1 then said_at r second_place else Some say.Nothing

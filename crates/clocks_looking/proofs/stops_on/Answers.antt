@@ -12,4 +12,4 @@ pub returns : goal.returns
 returns c =
     passed c.found.type_inv ∙ c.found.ensures
     ∙ ap pos (c.timer_set.ensures.value ∙ ap timer_set (c.stopped-set.ensures
-    ∙ rw (c.running_in-ran.ensures, c.running_in-run.ensures)))
+    ∙ rw (c.running_in.ensures, c.running_in-2.ensures)))

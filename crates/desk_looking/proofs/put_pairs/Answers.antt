@@ -11,33 +11,24 @@ use Rattle.octets.specs.Octets.{over}
 use lib.ListN.{length}
 use Prim.Native.Nat.{ℕ, ◌*◌, zero-le}
 use mathlib.Core.Path.{◌≡◌, refl, sym, ◌∙◌, ap}
-use borrow.Author.Rules.{rules}
 use native.Mathlib.Omega.{arith}
 use Rattle.desk_looking.proofs.put_pairs.Goals as goal
 
 pub loop-i-init : goal.loop-i-init
 unfolding rows
-loop-i-init c = (search rules, refl, sym (over_none c.args.room.now 0))
+loop-i-init c = (refl, sym (over_none c.args.room.now 0))
 
 pub put_pair-requires : goal.put_pair-requires
-put_pair-requires c =
-    omega (
-      arith,
-      c.requires,
-      c.count-n.ensures.0,
-      c.loop-i-test.true,
-      c.loop-i.invariant.1,
-    )
+put_pair-requires c = omega (arith, c.count-i-end.ensures.0, c.loop-i.invariant.0)
 
 pub loop-i-preserved : goal.loop-i-preserved
 loop-i-preserved c =
     let w = waiting c.args.line in
     let e = c.entry_at-e.ensures in (
       omega arith,
-      omega arith,
       rows_turn (pair_at w) 2 c.args.room.now
           c.loop-i.room _ 0 c.loop-i.i _
-          _ (λ k. refl) zero-le c.loop-i.invariant.2 refl (λ k. (e k).seat ∷ (e k).priority ∷ [])
+          _ (λ k. refl) zero-le c.loop-i.invariant.1 refl (λ k. (e k).seat ∷ (e k).priority ∷ [])
           (rw (zero-add (2 * c.loop-i.i)) c.put_pair.ensures),
     )
 
@@ -45,7 +36,7 @@ pub returns : goal.returns
 unfolding pairs
 returns c =
     let e : c.loop-i.i ≡ length (waiting c.args.line) =
-    omega (arith, c.count-n.ensures.0) in
-    c.loop-i.invariant.2
+    omega (arith, c.count-i-end.ensures.0) in
+    c.loop-i.invariant.1
     ∙ ap (λ (n : ℕ). over c.args.room.now 0
     (rows (pair_at (waiting c.args.line)) 0 n)) e

@@ -5,13 +5,9 @@ use Rattle.line.specs.Line.{waiting}
 use Rattle.desk_octets.specs.Columns.{rows}
 use Rattle.octets.specs.Octets.{over}
 use lib.ListN.{length}
-use Prim.Native.Nat.{◌-◌, ◌≤◌}
 use mathlib.Core.Path.{◌≡◌}
 use Rattle.desk_looking.proofs.put_pairs.Given as goal
 
 abbrev pub invariant-loop-i : goal.invariant-loop-i
 invariant-loop-i l =
-    (l.i ≤ l.n) × (length l.room ≡ length l.initial.room) × (l.room ≡ over l.initial.room 0 (rows (pair_at (waiting l.line)) 0 l.i))
-
-abbrev pub decreases-loop-i : goal.decreases-loop-i
-decreases-loop-i l = l.n - l.i
+    (length l.room ≡ length l.initial.room) × (l.room ≡ over l.initial.room 0 (rows (pair_at (waiting l.line)) 0 l.i))

@@ -5,7 +5,7 @@ use lib.ListN.{length}
 use Prim.Native.Nat.{◌*◌, ◌≤◌, ◌<◌}
 use Rattle.desk_looking.specs.Looking.{screened}
 use borrow.Author.Tests.{lt-leb, le-leb}
-use Rattle.signed.proofs.Signed.{passed, pair_same}
+use Rattle.signed.proofs.Signed.{passed, numbered, pair_same}
 use Rattle.words.specs.Choice.{if_yes, if_no}
 use mathlib.Core.Path.{refl, sym, ◌∙◌, ap}
 use native.Mathlib.Omega.{arith}
@@ -17,7 +17,7 @@ returns-then-room-n c =
     let l : length c.args.room.now
     < 2 * length (waiting c.args.line) =
     omega (arith, c.count-n.ensures.0, c.if-room-n.true) in
-    pair_same (passed c.refusal.type_inv ∙ c.refusal.ensures) refl ∙ sym (if_no _ _ _ (lt-leb _ _ l))
+    pair_same (passed c.refused.type_inv ∙ numbered c.refused.ensures) refl ∙ sym (if_no _ _ _ (lt-leb _ _ l))
 
 pub put_pairs-requires : goal.put_pairs-requires
 put_pairs-requires c = omega (arith, c.count-n.ensures.0, c.if-room-n.false)

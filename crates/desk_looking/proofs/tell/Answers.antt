@@ -18,15 +18,15 @@ written_number-requires c =
     let identity = c.name_at-identity.result.now in
     rw c.send.ensures.0
     (sending_short (outgoing c.settings_at-settings.result
-    c.args.kind (length identity)) identity
+    c.in-Some.kind (length identity)) identity
     (length c.args.room.now))
 
 pub returns : goal.returns
 returns c =
-    pair_same (passed c.written_number.type_inv ∙ c.written_number.ensures ∙ ap signed c.send.ensures.0)
+    rw c.in-Some.is (pair_same (passed c.written_number.type_inv ∙ c.written_number.ensures ∙ ap signed c.send.ensures.0)
     c.send.ensures.1
     ∙ rw (
       c.settings_at-settings.ensures,
       c.name_at-identity.ensures,
       c.particulars_of-particulars.ensures,
-    )
+    ))

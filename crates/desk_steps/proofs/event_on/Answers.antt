@@ -1,32 +1,23 @@
 -- `desk_steps::event_on` meets its contract. Assumes nothing.
+use Rattle.std.proofs.Common.{rules, ◌≡◌, sym, ap, ◌∙◌}
+use Rattle.steps.specs.declared.Step.{Step}
+use Rattle.events.specs.Events.{step}
+use Rattle.desk_octets.specs.Form.{core_at, hall_at}
+use Rattle.desk_test.specs.Lent.{formed}
+use Rattle.words.specs.Choice.{by_test}
 use Rattle.signed.proofs.Signed.{passed}
-use Rattle.desk_test.proofs.Desks.{has_room}
-use Rattle.desk_steps.proofs.Steps.{same_leaves, no_desk_so}
 use Rattle.desk_steps.specs.Steps.{outcome_on, step_on}
-use mathlib.Core.Path.{sym, ◌∙◌}
+use Rattle.desk_steps.proofs.Steps.{same_leaves, no_desk_so}
 use Rattle.desk_steps.proofs.event_on.Goals as goal
 
-pub core_at-core-requires : goal.core_at-core-requires
-core_at-core-requires c = has_room _ (sym c.is_desk.ensures ∙ c.if-is_desk.true)
-
-pub hall_at-hall-requires : goal.hall_at-hall-requires
-hall_at-hall-requires c = has_room _ (sym c.is_desk.ensures ∙ c.if-is_desk.true)
-
-pub settle-requires : goal.settle-requires
-settle-requires c =
-    sym c.is_desk.ensures
-    ∙ c.if-is_desk.true
-
-pub returns-then-is_desk : goal.returns-then-is_desk
-returns-then-is_desk c =
-    rw (
-      ← c.core_at-core.ensures,
-      ← c.hall_at-hall.ensures,
-      ← c.make_step-step.ensures,
-    ) (same_leaves (passed c.settle.type_inv) ∙ c.settle.ensures)
-
-pub returns-else-is_desk : goal.returns-else-is_desk
+pub returns : goal.returns
 unfolding outcome_on step_on
-returns-else-is_desk c =
-    same_leaves (passed c.refusal.type_inv ∙ c.refusal.ensures)
-    ∙ sym (no_desk_so _ _ _ _ _ (sym c.is_desk.ensures ∙ c.if-is_desk.false))
+returns c =
+    same_leaves (passed c.step_with.type_inv)
+    ∙ by_test (formed c.args.desk.now)
+    (λ q. let e = c.step_with.ensures.made q in
+    let p = e.1 in
+    let d = c.args.desk.now in
+    let s : e.0 ≡ step (core_at d) (hall_at d) c.args.event = search rules in
+    e.2 ∙ ap (λ (s : Step). step_on d c.args.report.now s) s)
+    (λ q. c.step_with.ensures.no_desk q ∙ sym (no_desk_so _ _ _ _ _ q))

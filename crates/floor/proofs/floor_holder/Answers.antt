@@ -1,22 +1,14 @@
--- `floor::floor_holder` keeps its promise, `HolderPromise desk.now result`. Assumes nothing.
-use Rattle.signed.proofs.Signed.{passed}
-use Rattle.signed.specs.Signed.{signed}
-use Rattle.desk_looking.specs.Looking.{holder_seat}
-use Rattle.steps.specs.declared.Core.{Core}
+-- `floor::floor_holder` keeps its promise. Assumes nothing.
+use Rattle.std.proofs.Common.{rules, ◌∙◌}
 use Rattle.desk_test.proofs.Desks.{has_room}
-use Rattle.desk_looking.proofs.Looks.{looks_so, looks-not}
-use mathlib.Core.Path.{sym, ◌∙◌, ap}
+use Rattle.desk_looking.proofs.Looks.{looked}
+use Rattle.signed.proofs.Signed.{passed}
 use Rattle.floor.proofs.floor_holder.Goals as goal
 
-pub core_at-core-requires : goal.core_at-core-requires
-core_at-core-requires c = has_room _ (sym c.is_desk.ensures ∙ c.if-is_desk.true)
+pub on_desk-requires : goal.on_desk-requires
+on_desk-requires c = λ q. let h = has_room c.args.desk.now q in search rules
 
-pub returns-then-is_desk : goal.returns-then-is_desk
-returns-then-is_desk c =
-    passed c.holder_seat.type_inv ∙ c.holder_seat.ensures
-    ∙ ap (λ (k : Core). signed (holder_seat k.phase)) c.core_at-core.ensures
-    ∙ sym (looks_so _ _ (sym c.is_desk.ensures ∙ c.if-is_desk.true))
-
-pub returns-else-is_desk : goal.returns-else-is_desk
-returns-else-is_desk c =
-    passed c.refusal.type_inv ∙ c.refusal.ensures ∙ sym (looks-not _ _ (sym c.is_desk.ensures ∙ c.if-is_desk.false))
+pub returns : goal.returns
+returns c =
+    passed c.on_desk.type_inv
+    ∙ looked c.args.desk.now c.on_desk.result _ (λ q. let e = c.on_desk.ensures.asked q in search rules) c.on_desk.ensures.no_desk

@@ -8,23 +8,23 @@ use mathlib.Core.Path.{sym, ◌∙◌}
 use Rattle.floor.proofs.floor_leave.Goals as goal
 
 pub core_at-core-requires : goal.core_at-core-requires
-core_at-core-requires c = has_room _ (sym c.is_desk.ensures ∙ c.if-is_desk.true)
+core_at-core-requires c = has_room _ (sym c.is_desk.ensures ∙ c.if-not-is_desk.false)
 
 pub hall_at-hall-requires : goal.hall_at-hall-requires
-hall_at-hall-requires c = has_room _ (sym c.is_desk.ensures ∙ c.if-is_desk.true)
+hall_at-hall-requires c = has_room _ (sym c.is_desk.ensures ∙ c.if-not-is_desk.false)
 
 pub names_at-names-requires : goal.names_at-names-requires
 names_at-names-requires c =
     has_room _ (sym c.is_desk.ensures
-    ∙ c.if-is_desk.true)
+    ∙ c.if-not-is_desk.false)
 
 pub settle_outcome-requires : goal.settle_outcome-requires
 settle_outcome-requires c =
     sym c.is_desk.ensures
-    ∙ c.if-is_desk.true
+    ∙ c.if-not-is_desk.false
 
-pub returns-then-is_desk : goal.returns-then-is_desk
-returns-then-is_desk c =
+pub returns : goal.returns
+returns c =
     rw (
       ← c.core_at-core.ensures,
       ← c.hall_at-hall.ensures,
@@ -35,8 +35,8 @@ returns-then-is_desk c =
     (same_leaves (passed c.settle_outcome.type_inv)
     ∙ c.settle_outcome.ensures)
 
-pub returns-else-is_desk : goal.returns-else-is_desk
+pub returns-then-not-is_desk : goal.returns-then-not-is_desk
 unfolding outcome_on
-returns-else-is_desk c =
+returns-then-not-is_desk c =
     same_leaves (passed c.refusal.type_inv ∙ c.refusal.ensures)
-    ∙ sym (no_desk_so _ _ _ _ _ (sym c.is_desk.ensures ∙ c.if-is_desk.false))
+    ∙ sym (no_desk_so _ _ _ _ _ (sym c.is_desk.ensures ∙ c.if-not-is_desk.true))

@@ -1,26 +1,14 @@
--- `floor::floor_phase` keeps its promise, `PhasePromise desk.now result`. Assumes nothing.
-use Rattle.signed.proofs.Signed.{passed}
-use Rattle.steps.specs.declared.Core.{Core}
-use Rattle.desk_octets.specs.Form.{kind_octet}
-use lib.IntN.{pos}
+-- `floor::floor_phase` keeps its promise. Assumes nothing.
+use Rattle.std.proofs.Common.{rules, ◌∙◌}
 use Rattle.desk_test.proofs.Desks.{has_room}
-use Rattle.desk_looking.proofs.Looks.{looks_so, looks-not}
-use mathlib.Core.Path.{sym, ◌∙◌, ap}
-use native.Mathlib.Omega.{arith}
+use Rattle.desk_looking.proofs.Looks.{looked}
+use Rattle.signed.proofs.Signed.{passed}
 use Rattle.floor.proofs.floor_phase.Goals as goal
 
-pub core_at-core-requires : goal.core_at-core-requires
-core_at-core-requires c = has_room _ (sym c.is_desk.ensures ∙ c.if-is_desk.true)
+pub on_desk-requires : goal.on_desk-requires
+on_desk-requires c = λ q. let h = has_room c.args.desk.now q in search rules
 
-pub found-requires : goal.found-requires
-found-requires c = omega arith
-
-pub returns-then-is_desk : goal.returns-then-is_desk
-returns-then-is_desk c =
-    passed c.found.type_inv ∙ c.found.ensures
-    ∙ ap pos (c.kind_octet.ensures ∙ ap (λ (k : Core). kind_octet k.phase) c.core_at-core.ensures)
-    ∙ sym (looks_so _ _ (sym c.is_desk.ensures ∙ c.if-is_desk.true))
-
-pub returns-else-is_desk : goal.returns-else-is_desk
-returns-else-is_desk c =
-    passed c.refusal.type_inv ∙ c.refusal.ensures ∙ sym (looks-not _ _ (sym c.is_desk.ensures ∙ c.if-is_desk.false))
+pub returns : goal.returns
+returns c =
+    passed c.on_desk.type_inv
+    ∙ looked c.args.desk.now c.on_desk.result _ (λ q. let e = c.on_desk.ensures.asked q in search rules) c.on_desk.ensures.no_desk

@@ -1,76 +1,39 @@
--- `message_octets::put_held` keeps its promise, `room.new ≡ over room.old 0 (held_octets (reads.message_at kind s.now (λ i. get_or
--- starts.now i 0)))`. Writes a packet's message into the first 40 octets of a room. Assumes nothing.
-use Prim.Native.Nat.{ℕ}
+-- `message_octets::put_held` writes the three rows over zeros, and the head at last. Assumes nothing.
 use mathlib.Core.Path.{◌≡◌}
 use lib.ListN.{get_or}
 use Rattle.octets.specs.Octets.{octets16, octets32}
-use Rattle.reading.specs.Reading.{message_at}
 use Rattle.message_octets.specs.Held.{which, first_octets, next_octets}
+use Rattle.message_octets.specs.Laying.{message_by}
 use Rattle.message_octets.proofs.Laying.{blank_room, first_most, next-most, which_by_rows, held_by_rows}
 use native.Mathlib.Omega.{arith}
 use Rattle.message_octets.proofs.put_held.Goals as goal
 
-pub lay_first-has-requires : goal.lay_first-has-requires
-lay_first-has-requires c = record {
-  blank = blank_room c.args.room.now _
-      c.requires.message_size_in_bounds c.put_zeros.ensures;
-  reach = c.requires.reach;
-}
+pub lay_first-has-requires-clause-blank : goal.lay_first-has-requires-clause-blank
+lay_first-has-requires-clause-blank c = blank_room c.args.room.now _ c.requires.message_size_in_bounds c.put_zeros.ensures
 
-pub lay_next-has-requires : goal.lay_next-has-requires
+pub lay_next-has-requires-clause-blank : goal.lay_next-has-requires-clause-blank
 unfolding first_octets octets16
-lay_next-has-requires c = record {
-  blank = (c.lay_first-has.ensures.lays
-      c.args.kind).blank;
-  reach = c.requires.reach;
-  has_bound = omega (
-    arith,
-    first_most
-        (message_at c.args.kind
-        c.args.s.now
-        (λ i. get_or c.args.starts.now i 0)),
-    c.lay_first-has.ensures.value
-        c.args.kind,
-  );
-}
+lay_next-has-requires-clause-blank c = c.lay_first-has.ensures.lays.blank
 
-pub lay_parts-has-requires : goal.lay_parts-has-requires
+pub lay_next-has-requires-clause-has_bound : goal.lay_next-has-requires-clause-has_bound
+lay_next-has-requires-clause-has_bound c =
+    omega (arith, first_most (message_by c.args.s.now c.args.judged.now), c.lay_first-has.ensures.value)
+
+pub lay_parts-has-requires-clause-blank : goal.lay_parts-has-requires-clause-blank
 unfolding next_octets octets16 octets32
-lay_parts-has-requires c = record {
-  blank = (c.lay_next-has.ensures.lays
-      c.args.kind).blank;
-  reach = c.requires.reach;
-  has_bound = omega (
-    arith,
-    first_most
-        (message_at c.args.kind c.args.s.now
-        (λ i. get_or c.args.starts.now i 0)),
-    next-most c.lay_first-has.result
-        (message_at c.args.kind c.args.s.now
-        (λ i. get_or c.args.starts.now i 0)),
-    c.lay_first-has.ensures.value
-        c.args.kind,
-    c.lay_next-has.ensures.value
-        c.args.kind,
-  );
-}
+lay_parts-has-requires-clause-blank c = c.lay_next-has.ensures.lays.blank
+
+pub lay_parts-has-requires-clause-has_bound : goal.lay_parts-has-requires-clause-has_bound
+lay_parts-has-requires-clause-has_bound c =
+    let m = message_by c.args.s.now c.args.judged.now in
+    omega (arith, first_most m, next-most c.lay_first-has.result m, c.lay_first-has.ensures.value, c.lay_next-has.ensures.value)
 
 pub returns : goal.returns
 returns c =
-    let a =
-    c.args in
-    let start : ℕ → ℕ = λ i. get_or a.starts.now i 0 in
-    let m = message_at a.kind a.s.now start in
+    let a = c.args in
+    let j = a.judged.now in
+    let m = message_by a.s.now j in
     let sum : c.lay_parts-has.result ≡ which m =
-    rw (
-      c.lay_parts-has.ensures.value a.kind,
-      c.lay_next-has.ensures.value a.kind,
-      c.lay_first-has.ensures.value a.kind,
-    ) (which_by_rows m) in
-    held_by_rows a.kind a.s.now start a.room.now _ _ _ _ _
-    c.requires.message_size_in_bounds
-    c.put_zeros.ensures
-    (c.lay_first-has.ensures.lays a.kind)
-    (c.lay_next-has.ensures.lays a.kind)
-    (c.lay_parts-has.ensures.lays a.kind)
-    (rw sum at c.put_head.ensures)
+    rw (c.lay_parts-has.ensures.value, c.lay_next-has.ensures.value, c.lay_first-has.ensures.value) (which_by_rows m) in
+    held_by_rows j.kind a.s.now (λ i. get_or j.starts i 0) a.room.now _ _ _ _ _ c.requires.message_size_in_bounds c.put_zeros.ensures
+    c.lay_first-has.ensures.lays c.lay_next-has.ensures.lays c.lay_parts-has.ensures.lays (rw sum at c.put_head.ensures)

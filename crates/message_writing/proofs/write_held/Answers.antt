@@ -18,51 +18,44 @@ returns-then-held-ne-MESSAGE_SIZE c = rw (nothing_length c.args.held.now c.if-he
 pub number16-fields-requires : goal.number16-fields-requires
 number16-fields-requires c = omega (arith, c.if-held-ne-MESSAGE_SIZE.false)
 
-pub readable_in-requires : goal.readable_in-requires
-readable_in-requires c = record { s_len = c.if-held-ne-MESSAGE_SIZE.false; fields_value = c.number16-fields.ensures }
-
-pub size_in-size-requires : goal.size_in-size-requires
-size_in-size-requires c =
+pub size-size-requires : goal.size-size-requires
+size-size-requires c =
     let facts =
     holds c.args.held.now c.args.source.now c.number16-fields.ensures c.if-held-ne-MESSAGE_SIZE.false
-    (sym c.readable_in.ensures ∙ c.if-readable_in.true) in
-    record {
-      message_size_in_bounds = omega (arith, c.if-held-ne-MESSAGE_SIZE.false);
-      short = (held_by (message_in c.args.held.now c.number16-fields.result)
-          c.args.source.now facts.accepted).short;
-    }
+    (sym c.is_readable.ensures ∙ c.if-not-is_readable.false) in
+    (held_by (message_in c.args.held.now c.number16-fields.result) c.args.source.now facts.accepted).short
 
 pub returns-then-room-size : goal.returns-then-room-size
 returns-then-room-size c =
     let facts =
     holds c.args.held.now c.args.source.now c.number16-fields.ensures c.if-held-ne-MESSAGE_SIZE.false
-    (sym c.readable_in.ensures ∙ c.if-readable_in.true) in
+    (sym c.is_readable.ensures ∙ c.if-not-is_readable.false) in
     rw facts.is
     (refused_13 (message_in c.args.held.now
     c.number16-fields.result)
     c.args.source.now
     c.args.room.now facts.accepted
-    c.size_in-size.ensures c.if-room-size.true)
+    c.size-size.ensures c.if-room-size.true)
 
 pub overflow_mul-first : goal.overflow_mul-first
 overflow_mul-first c =
     let facts =
     holds c.args.held.now c.args.source.now c.number16-fields.ensures c.if-held-ne-MESSAGE_SIZE.false
-    (sym c.readable_in.ensures ∙ c.if-readable_in.true) in
+    (sym c.is_readable.ensures ∙ c.if-not-is_readable.false) in
     omega (arith, facts.ack)
 
 pub overflow_add-first : goal.overflow_add-first
 overflow_add-first c =
     let facts =
     holds c.args.held.now c.args.source.now c.number16-fields.ensures c.if-held-ne-MESSAGE_SIZE.false
-    (sym c.readable_in.ensures ∙ c.if-readable_in.true) in
+    (sym c.is_readable.ensures ∙ c.if-not-is_readable.false) in
     omega (arith, facts.ack)
 
-pub overflow_add-first-then-readable_in : goal.overflow_add-first-then-readable_in
-overflow_add-first-then-readable_in c =
+pub overflow_add-first-2 : goal.overflow_add-first-2
+overflow_add-first-2 c =
     let facts =
     holds c.args.held.now c.args.source.now c.number16-fields.ensures c.if-held-ne-MESSAGE_SIZE.false
-    (sym c.readable_in.ensures ∙ c.if-readable_in.true) in
+    (sym c.is_readable.ensures ∙ c.if-not-is_readable.false) in
     omega (arith, facts.ack, type_small c.args.held.now facts.type)
 
 pub number32-ssrc-requires : goal.number32-ssrc-requires
@@ -72,7 +65,7 @@ pub put_header-requires : goal.put_header-requires
 put_header-requires c =
     let facts =
     holds c.args.held.now c.args.source.now c.number16-fields.ensures c.if-held-ne-MESSAGE_SIZE.false
-    (sym c.readable_in.ensures ∙ c.if-readable_in.true) in
+    (sym c.is_readable.ensures ∙ c.if-not-is_readable.false) in
     let w =
     size_whole (message_in
     c.args.held.now
@@ -80,7 +73,7 @@ put_header-requires c =
     c.args.source.now
     c.args.room.now
     facts.accepted
-    c.size_in-size.ensures in
+    c.size-size.ensures in
     record { header_size_le_size = w; header_size_in_bounds = omega (arith, w.0, c.if-room-size.false) }
 
 pub put_front-at-requires : goal.put_front-at-requires
@@ -88,15 +81,14 @@ unfolding message_in message_with
 put_front-at-requires c =
     let facts =
     holds c.args.held.now c.args.source.now c.number16-fields.ensures c.if-held-ne-MESSAGE_SIZE.false
-    (sym c.readable_in.ensures ∙ c.if-readable_in.true) in
+    (sym c.is_readable.ensures ∙ c.if-not-is_readable.false) in
     let m = message_in c.args.held.now c.number16-fields.result in
-    let headed_is : c.put_header.new.room ≡ over c.args.room.now 0 (headed (first_octet m.kind m.ack) m.ssrc c.size_in-size.result) =
+    let headed_is : c.put_header.new.room ≡ over c.args.room.now 0 (headed (first_octet m.kind m.ack) m.ssrc c.size-size.result) =
     c.put_header.ensures
-    ∙ ap (λ (first : ℕ). over c.args.room.now 0 (headed first c.number32-ssrc.result c.size_in-size.result))
+    ∙ ap (λ (first : ℕ). over c.args.room.now 0 (headed first c.number32-ssrc.result c.size-size.result))
     (first_is c.args.held.now c.number16-fields.result facts.type facts.ack)
-    ∙ ap (λ (ssrc : ℕ). over c.args.room.now 0 (headed (first_octet m.kind m.ack) ssrc c.size_in-size.result)) c.number32-ssrc.ensures in
+    ∙ ap (λ (ssrc : ℕ). over c.args.room.now 0 (headed (first_octet m.kind m.ack) ssrc c.size-size.result)) c.number32-ssrc.ensures in
     record {
-      message_size_in_bounds = omega (arith, c.if-held-ne-MESSAGE_SIZE.false);
       fields_fit = held_by (message_in c.args.held.now
           c.number16-fields.result)
           c.args.source.now facts.accepted;
@@ -105,7 +97,7 @@ put_front-at-requires c =
           c.number16-fields.result)
           c.args.source.now
           c.args.room.now facts.accepted
-          c.size_in-size.ensures
+          c.size-size.ensures
           c.if-room-size.false headed_is;
     }
 
@@ -114,18 +106,14 @@ unfolding message_in message_with
 put_rest-requires c =
     let facts =
     holds c.args.held.now c.args.source.now c.number16-fields.ensures c.if-held-ne-MESSAGE_SIZE.false
-    (sym c.readable_in.ensures ∙ c.if-readable_in.true) in
+    (sym c.is_readable.ensures ∙ c.if-not-is_readable.false) in
     let m = message_in c.args.held.now c.number16-fields.result in
-    let headed_is : c.put_header.new.room ≡ over c.args.room.now 0 (headed (first_octet m.kind m.ack) m.ssrc c.size_in-size.result) =
+    let headed_is : c.put_header.new.room ≡ over c.args.room.now 0 (headed (first_octet m.kind m.ack) m.ssrc c.size-size.result) =
     c.put_header.ensures
-    ∙ ap (λ (first : ℕ). over c.args.room.now 0 (headed first c.number32-ssrc.result c.size_in-size.result))
+    ∙ ap (λ (first : ℕ). over c.args.room.now 0 (headed first c.number32-ssrc.result c.size-size.result))
     (first_is c.args.held.now c.number16-fields.result facts.type facts.ack)
-    ∙ ap (λ (ssrc : ℕ). over c.args.room.now 0 (headed (first_octet m.kind m.ack) ssrc c.size_in-size.result)) c.number32-ssrc.ensures in
+    ∙ ap (λ (ssrc : ℕ). over c.args.room.now 0 (headed (first_octet m.kind m.ack) ssrc c.size-size.result)) c.number32-ssrc.ensures in
     record {
-      message_size_in_bounds = omega (
-        arith,
-        c.if-held-ne-MESSAGE_SIZE.false,
-      );
       fields_fit = held_by (message_in c.args.held.now
           c.number16-fields.result) c.args.source.now
           facts.accepted;
@@ -133,22 +121,22 @@ put_rest-requires c =
           (message_in c.args.held.now
           c.number16-fields.result) c.args.source.now
           c.args.room.now
-          facts.accepted c.size_in-size.ensures c.if-room-size.false
+          facts.accepted c.size-size.ensures c.if-room-size.false
           headed_is c.put_front-at.ensures;
     }
 
-pub returns-else-room-size : goal.returns-else-room-size
+pub returns : goal.returns
 unfolding message_in message_with
-returns-else-room-size c =
+returns c =
     let facts =
     holds c.args.held.now c.args.source.now c.number16-fields.ensures c.if-held-ne-MESSAGE_SIZE.false
-    (sym c.readable_in.ensures ∙ c.if-readable_in.true) in
+    (sym c.is_readable.ensures ∙ c.if-not-is_readable.false) in
     let m = message_in c.args.held.now c.number16-fields.result in
-    let headed_is : c.put_header.new.room ≡ over c.args.room.now 0 (headed (first_octet m.kind m.ack) m.ssrc c.size_in-size.result) =
+    let headed_is : c.put_header.new.room ≡ over c.args.room.now 0 (headed (first_octet m.kind m.ack) m.ssrc c.size-size.result) =
     c.put_header.ensures
-    ∙ ap (λ (first : ℕ). over c.args.room.now 0 (headed first c.number32-ssrc.result c.size_in-size.result))
+    ∙ ap (λ (first : ℕ). over c.args.room.now 0 (headed first c.number32-ssrc.result c.size-size.result))
     (first_is c.args.held.now c.number16-fields.result facts.type facts.ack)
-    ∙ ap (λ (ssrc : ℕ). over c.args.room.now 0 (headed (first_octet m.kind m.ack) ssrc c.size_in-size.result)) c.number32-ssrc.ensures in
+    ∙ ap (λ (ssrc : ℕ). over c.args.room.now 0 (headed (first_octet m.kind m.ack) ssrc c.size-size.result)) c.number32-ssrc.ensures in
     rw facts.is
     (laid_whole (message_in
     c.args.held.now
@@ -156,11 +144,11 @@ returns-else-room-size c =
     c.args.source.now
     c.args.room.now
     facts.accepted
-    c.size_in-size.ensures c.if-room-size.false headed_is
+    c.size-size.ensures c.if-room-size.false headed_is
     c.put_front-at.ensures c.put_rest.ensures)
 
-pub returns-else-readable_in : goal.returns-else-readable_in
-returns-else-readable_in c =
+pub returns-then-not-is_readable : goal.returns-then-not-is_readable
+returns-then-not-is_readable c =
     refused_in (held_at c.args.held.now)
     c.args.source.now
-    c.args.room.now (sym c.readable_in.ensures ∙ c.if-readable_in.false)
+    c.args.room.now (sym c.is_readable.ensures ∙ c.if-not-is_readable.true)

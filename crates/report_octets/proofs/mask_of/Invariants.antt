@@ -1,5 +1,4 @@
 -- `report_octets::mask_of` meets its contract. Assumes nothing.
-use Prim.Native.Nat.{◌≤◌}
 use mathlib.Core.Path.{◌≡◌}
 use lib.ListN.{length, take, drop}
 use Rattle.report_octets.specs.Report.{mask_of}
@@ -7,7 +6,4 @@ use Rattle.report_octets.proofs.mask_of.Given as goal
 
 abbrev pub invariant-loop-i : goal.invariant-loop-i
 invariant-loop-i l =
-    (l.i ≤ 8) × (length l.set ≡ 16) × (l.low ≡ mask_of (drop l.i (take 8 l.set))) × (l.high ≡ mask_of (drop l.i (drop 8 l.set)))
-
-abbrev pub decreases-loop-i : goal.decreases-loop-i
-decreases-loop-i l = l.i
+    (length l.set ≡ 16) × (l.low ≡ mask_of (drop l.i (take 8 l.set))) × (l.high ≡ mask_of (drop l.i (drop 8 l.set)))

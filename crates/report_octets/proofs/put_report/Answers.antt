@@ -11,13 +11,9 @@ use Rattle.report_octets.proofs.put_report.Goals as goal
 pub returns : goal.returns
 unfolding octets_of_report octets_of_message marks_octets octets16
 returns c =
-    let a =
-    c.args in
-    let r = a.room.now in
-    let one = c.put_marks in
-    let two = c.put_message in
-    let three = c.put_message-2 in
-    run r two.new.room three.new.room 0 second_place (marks_octets a.report.marks ++ octets_of_message a.report.first)
-    (octets_of_message a.report.second) zero-le refl
-    (run r one.new.room two.new.room 0 first_place (marks_octets a.report.marks) (octets_of_message a.report.first) zero-le refl
-    one.ensures two.ensures) three.ensures
+    let a = c.args in
+    let m = marks_octets a.report.marks in
+    let n = octets_of_message a.report.first in
+    run a.room.now c.put_message.new.room c.put_message-2.new.room 0 second_place (m ++ n) (octets_of_message a.report.second) zero-le refl
+    (run a.room.now c.put_marks.new.room c.put_message.new.room 0 first_place m n zero-le refl c.put_marks.ensures c.put_message.ensures)
+    c.put_message-2.ensures

@@ -1,48 +1,15 @@
--- `seat_looking::seat_on` keeps its promise, `(result, room.new) ≡ seat_shown desk.now seat room.old`. Writes a seat: 7 octets and its
--- identity. Assumes nothing.
+-- `seat_looking::seat_on` keeps its promise. Assumes nothing.
+use Rattle.std.proofs.Common.{rules, refl, ◌∙◌}
 use Rattle.desk_test.proofs.Desks.{has_room}
+use Rattle.desk_looking.proofs.Looks.{told_from}
 use Rattle.signed.proofs.Signed.{passed, pair_same}
-use Rattle.words.specs.Choice.{if_yes, if_no}
-use Rattle.hall.specs.declared.Hall.{Hall}
-use Rattle.hall.specs.Seats.{is_present}
-use mathlib.Core.Path.{refl, sym, ap, ◌∙◌}
 use Rattle.seat_looking.proofs.seat_on.Goals as goal
 
-pub hall_at-hall-requires : goal.hall_at-hall-requires
-hall_at-hall-requires c = has_room _ (sym c.is_desk.ensures ∙ c.if-is_desk.true)
+pub from_desk-requires : goal.from_desk-requires
+from_desk-requires c = λ q. let h = has_room c.args.desk.now q in search rules
 
-pub names_at-names-requires : goal.names_at-names-requires
-names_at-names-requires c = has_room _ (sym c.is_desk.ensures ∙ c.if-is_desk.true)
-
-pub show_taken-requires : goal.show_taken-requires
-show_taken-requires c =
-    let q = c.if-is_taken.true in
-    (c.is_taken.ensures.seat_bound q, sym c.is_taken.ensures.value ∙ q)
-
-pub returns-then-is_taken : goal.returns-then-is_taken
-returns-then-is_taken c =
-    let p =
-    sym (ap (λ (h : Hall). is_present h
-    c.args.seat)
-    c.hall_at-hall.ensures)
-    ∙ sym c.is_taken.ensures.value
-    ∙ c.if-is_taken.true in
-    pair_same (passed c.show_taken.type_inv) refl ∙ c.show_taken.ensures
-    ∙ rw (c.hall_at-hall.ensures, c.names_at-names.ensures)
-    (sym (if_yes _ _ _ p)
-    ∙ sym (if_yes _ _ _ (sym c.is_desk.ensures
-    ∙ c.if-is_desk.true)))
-
-pub returns-else-is_taken : goal.returns-else-is_taken
-returns-else-is_taken c =
-    let p =
-    sym (ap (λ (h : Hall). is_present h c.args.seat)
-    c.hall_at-hall.ensures)
-    ∙ sym c.is_taken.ensures.value ∙ c.if-is_taken.false in
-    pair_same (passed c.refusal.type_inv ∙ c.refusal.ensures) refl ∙ sym (if_no _ _ _ p)
-    ∙ sym (if_yes _ _ _ (sym c.is_desk.ensures ∙ c.if-is_desk.true))
-
-pub returns-else-is_desk : goal.returns-else-is_desk
-returns-else-is_desk c =
-    pair_same (passed c.refusal-else-is_desk.type_inv ∙ c.refusal-else-is_desk.ensures) refl
-    ∙ sym (if_no _ _ _ (sym c.is_desk.ensures ∙ c.if-is_desk.false))
+pub returns : goal.returns
+returns c =
+    pair_same (passed c.from_desk.type_inv) refl
+    ∙ told_from c.args.desk.now c.args.room.now c.from_desk.result c.from_desk.new.room _
+    (λ q. let e = c.from_desk.ensures.written q in search rules) c.from_desk.ensures.no_desk

@@ -1,22 +1,15 @@
--- `seat_looking::settings_on` keeps its promise, `(result, room.new) ≡ settings_shown desk.now room.old`. Writes the settings: 12 octets.
--- Assumes nothing.
+-- `seat_looking::settings_on` keeps its promise. Assumes nothing.
+use Rattle.std.proofs.Common.{rules, refl, ◌∙◌}
 use Rattle.desk_test.proofs.Desks.{has_room}
+use Rattle.desk_looking.proofs.Looks.{told_from}
 use Rattle.signed.proofs.Signed.{passed, pair_same}
-use Rattle.words.specs.Choice.{if_yes, if_no}
-use mathlib.Core.Path.{refl, sym, ◌∙◌}
 use Rattle.seat_looking.proofs.settings_on.Goals as goal
 
-pub settings_at-settings-requires : goal.settings_at-settings-requires
-settings_at-settings-requires c = has_room _ (sym c.is_desk.ensures ∙ c.if-is_desk.true)
+pub from_desk-requires : goal.from_desk-requires
+from_desk-requires c = λ q. let h = has_room c.args.desk.now q in search rules
 
-pub returns-then-is_desk : goal.returns-then-is_desk
-returns-then-is_desk c =
-    pair_same (passed c.show_settings.type_inv) refl ∙ c.show_settings.ensures
-    ∙ rw c.settings_at-settings.ensures
-    (sym (if_yes _ _ _ (sym c.is_desk.ensures
-    ∙ c.if-is_desk.true)))
-
-pub returns-else-is_desk : goal.returns-else-is_desk
-returns-else-is_desk c =
-    pair_same (passed c.refusal.type_inv ∙ c.refusal.ensures) refl
-    ∙ sym (if_no _ _ _ (sym c.is_desk.ensures ∙ c.if-is_desk.false))
+pub returns : goal.returns
+returns c =
+    pair_same (passed c.from_desk.type_inv) refl
+    ∙ told_from c.args.desk.now c.args.room.now c.from_desk.result c.from_desk.new.room _
+    (λ q. let e = c.from_desk.ensures.written q in search rules) c.from_desk.ensures.no_desk
