@@ -1,9 +1,10 @@
 -- The laws of each timer. Assumes nothing.
+use Rattle.std.proofs.Common.{Option, Some, None}
 use mathlib.Core.Bool.{Bool, true, false, not, ◌&&◌, ◌||◌}
 use mathlib.Core.Path.{◌≡◌, refl, sym, ◌∙◌}
 use Rattle.words.specs.Below.{and_left, and_right}
 use Rattle.timers.specs.declared.Timer.{Timer}
-use Rattle.timers.specs.declared.Timer.TheVariants.{T1, T2, T3, T4, T7, T8, T20, NoSuchTimer}
+use Rattle.timers.specs.declared.Timer.TheVariants.{T1, T2, T3, T4, T7, T8, T20}
 use Rattle.timers.specs.declared.Running.{Running}
 use Rattle.timers.specs.Timers.{runs}
 use Rattle.clocks.specs.Clocks.{is_timer, runs_for_holder, starts_again, is_started, runs_no_more, starts_anew, stopped_timers}
@@ -12,38 +13,38 @@ use Rattle.clocks_laws.specs.Clockwork.{StartedRuns, StoppedRunsNot, NotBoth, Cl
 
 -- each timer's answer is its own
 module _ (before after : Running) where
-  started : (fired : Timer) (given : Bool) (t : Timer) →
+  started : (fired : Option Timer) (given : Bool) (t : Option Timer) →
       runs (starts_anew before after fired given) t ≡ is_started before after fired given t
   unfolding starts_anew
-  started fired given T1 = refl
-  started fired given T2 = refl
-  started fired given T3 = refl
-  started fired given T4 = refl
-  started fired given T7 = refl
-  started fired given T8 = refl
-  started fired given T20 = refl
-  started fired given NoSuchTimer = refl
+  started fired given (Some T1) = refl
+  started fired given (Some T2) = refl
+  started fired given (Some T3) = refl
+  started fired given (Some T4) = refl
+  started fired given (Some T7) = refl
+  started fired given (Some T8) = refl
+  started fired given (Some T20) = refl
+  started fired given None = refl
 
-  ended : (t : Timer) → runs (stopped_timers before after) t ≡ runs_no_more before after t
+  ended : (t : Option Timer) → runs (stopped_timers before after) t ≡ runs_no_more before after t
   unfolding stopped_timers
-  ended T1 = refl
-  ended T2 = refl
-  ended T3 = refl
-  ended T4 = refl
-  ended T7 = refl
-  ended T8 = refl
-  ended T20 = refl
-  ended NoSuchTimer = refl
+  ended (Some T1) = refl
+  ended (Some T2) = refl
+  ended (Some T3) = refl
+  ended (Some T4) = refl
+  ended (Some T7) = refl
+  ended (Some T8) = refl
+  ended (Some T20) = refl
+  ended None = refl
 
-itself : (t : Timer) → is_timer t t ≡ true
-itself T1 = refl
-itself T2 = refl
-itself T3 = refl
-itself T4 = refl
-itself T7 = refl
-itself T8 = refl
-itself T20 = refl
-itself NoSuchTimer = refl
+itself : (t : Option Timer) → is_timer t t ≡ true
+itself (Some T1) = refl
+itself (Some T2) = refl
+itself (Some T3) = refl
+itself (Some T4) = refl
+itself (Some T7) = refl
+itself (Some T8) = refl
+itself (Some T20) = refl
+itself None = refl
 
 -- tests by their values
 nothing_more : (a x : Bool) → (a && (false || ((x && false) || false))) ≡ false

@@ -10,6 +10,7 @@ use Rattle.steps.specs.declared.Phase.TheVariants.{Stopped, Idle, Taken, Revokin
 use Rattle.steps.specs.declared.Core.{Core}
 use Rattle.steps.specs.declared.Marks.{Marks}
 use Rattle.giving.specs.Floor.{holds}
+use Rattle.std.proofs.Common.{Some}
 use Rattle.timers.specs.Timers.{running}
 use Rattle.timers.specs.declared.Timer.TheVariants.{T1}
 use Rattle.events.specs.declared.Desk.{Desk}
@@ -45,5 +46,5 @@ module _ (d : Desk) (x : Doing) (new : Core) (m : Marks) (q : someone_given m.gi
 
 pub given_starts_t1 : GivenStartsT1
 given_starts_t1 d x fired f q =
-    runs_for_holder_lem (running d.core.phase) (running (does d x).desk.core.phase) fired T1 refl
+    runs_for_holder_lem (running d.core.phase) (running (does d x).desk.core.phase) fired (Some T1) refl
     (given_t1 d x (does d x).desk.core (does d x).report.marks q (did d x (does d x) f (every_way d x)))

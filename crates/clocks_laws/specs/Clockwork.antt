@@ -1,7 +1,7 @@
 -- What the rule for clocks keeps (clocks/specs/Clocks), of any sets of timers and so of every step; that C programs are told it, by numbers
 -- and the octets of a report (clocks_looking/specs/ClockSets); and what it says of a step in which the floor was given. Each statement is
 -- proved in proofs/, in the file named beside it. Assumes nothing.
-use Rattle.std.specs.Prelude.{ℕ, Bool, true, false, not, ◌&&◌, ◌||◌, ◌≡◌, pos}
+use Rattle.std.specs.Prelude.{ℕ, Bool, true, false, not, ◌&&◌, ◌||◌, ◌≡◌, Option, Some, pos}
 use Rattle.steps.specs.declared.Given.{Given}
 use Rattle.steps.specs.declared.Given.TheVariants.{NotGiven, AtOnce, OutOfLine}
 use Rattle.steps.specs.declared.Report.{Report}
@@ -21,39 +21,39 @@ use Rattle.marks.specs.Marks.{Fit}
 
 -- what runs on and did not fire is left as it is, unless the floor was given
 abbrev pub RunsOn : Type 0
-RunsOn = (before after : Running) (fired t : Timer) → runs before t ≡ true → is_timer fired t ≡ false →
+RunsOn = (before after : Running) (fired t : Option Timer) → runs before t ≡ true → is_timer fired t ≡ false →
     runs (starts_anew before after fired false) t ≡ false
 
 -- what did not run and runs is started
 abbrev pub ComesToRun : Type 0
-ComesToRun = (before after : Running) (fired t : Timer) (given : Bool) → runs before t ≡ false → runs after t ≡ true →
+ComesToRun = (before after : Running) (fired t : Option Timer) (given : Bool) → runs before t ≡ false → runs after t ≡ true →
     runs (starts_anew before after fired given) t ≡ true
 
 -- what fired and still runs is started
 abbrev pub FiresAndRuns : Type 0
-FiresAndRuns = (before after : Running) (fired : Timer) (given : Bool) → runs after fired ≡ true →
+FiresAndRuns = (before after : Running) (fired : Option Timer) (given : Bool) → runs after fired ≡ true →
     runs (starts_anew before after fired given) fired ≡ true
 
 -- where the floor was given, what runs for the holder is started
 abbrev pub RunsForHolder : Type 0
-RunsForHolder = (before after : Running) (fired t : Timer) → runs_for_holder t ≡ true → runs after t ≡ true →
+RunsForHolder = (before after : Running) (fired t : Option Timer) → runs_for_holder t ≡ true → runs after t ≡ true →
     runs (starts_anew before after fired true) t ≡ true
 
 -- what is started runs, and what is stopped does not: nothing is both
 abbrev pub StartedRuns : Type 0
-StartedRuns = (before after : Running) (fired t : Timer) (given : Bool) → runs (starts_anew before after fired given) t ≡ true →
+StartedRuns = (before after : Running) (fired t : Option Timer) (given : Bool) → runs (starts_anew before after fired given) t ≡ true →
     runs after t ≡ true
 
 abbrev pub StoppedRunsNot : Type 0
-StoppedRunsNot = (before after : Running) (t : Timer) → runs (stopped_timers before after) t ≡ true → runs after t ≡ false
+StoppedRunsNot = (before after : Running) (t : Option Timer) → runs (stopped_timers before after) t ≡ true → runs after t ≡ false
 
 abbrev pub NotBoth : Type 0
-NotBoth = (before after : Running) (fired t : Timer) (given : Bool) → runs (starts_anew before after fired given) t ≡ true →
+NotBoth = (before after : Running) (fired t : Option Timer) (given : Bool) → runs (starts_anew before after fired given) t ≡ true →
     runs (stopped_timers before after) t ≡ false
 
 -- who stops and starts these has those clocks running that the desk has: all that ran and were not stopped, and all that were started
 abbrev pub ClocksFollow : Type 0
-ClocksFollow = (before after : Running) (fired t : Timer) (given : Bool) →
+ClocksFollow = (before after : Running) (fired t : Option Timer) (given : Bool) →
     runs after t ≡ ((runs before t && not (runs (stopped_timers before after) t)) || runs (starts_anew before after fired given) t)
 
 -- AS C PROGRAMS ARE TOLD (proofs/Told)
@@ -80,5 +80,5 @@ StopsTold = (before after : Running) → stops_on (timer_set before) (timer_set 
 
 -- where the floor was given, whatever happened, T1 starts anew
 abbrev pub GivenStartsT1 : Type 0
-GivenStartsT1 = (d : Desk) (x : Doing) (fired : Timer) → Fit d.core d.hall → someone_given (does d x).report.marks.given ≡ true →
-    runs (starts_anew (running d.core.phase) (running (does d x).desk.core.phase) fired true) T1 ≡ true
+GivenStartsT1 = (d : Desk) (x : Doing) (fired : Option Timer) → Fit d.core d.hall → someone_given (does d x).report.marks.given ≡ true →
+    runs (starts_anew (running d.core.phase) (running (does d x).desk.core.phase) fired true) (Some T1) ≡ true

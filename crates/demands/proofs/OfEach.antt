@@ -1,6 +1,7 @@
 -- Of each of the nine things that a step can do: who is placed asked for it; who is struck off has a reason; a floor that ends goes to the
 -- head of the line; and the line, the holder and each seat's place afterwards are what the marks and the request make of them. Assumes
 -- nothing.
+use Rattle.std.proofs.Common.{Option, None}
 use Prim.Native.Nat.{ℕ, ◌<◌}
 use mathlib.Core.Path.{◌≡◌, refl, ap, sym, ◌∙◌}
 use mathlib.Core.Bool.{Bool, true, false, not, ◌&&◌, ◌||◌, or-true}
@@ -16,8 +17,6 @@ use Rattle.line.specs.Line.{waiting, is_in, without, seat_set, no_seats, priorit
 use Rattle.hall.specs.declared.Hall.{Hall}
 use Rattle.hall.specs.Seats.{only, receives_only}
 use Rattle.steps.specs.declared.Core.{Core}
-use Rattle.steps.specs.declared.Mark.{Mark}
-use Rattle.steps.specs.declared.Mark.TheVariants.{NoSeat}
 use Rattle.steps.specs.declared.Given.TheVariants.{OutOfLine}
 use Rattle.steps.specs.declared.Marks.{Marks}
 use Rattle.giving.specs.Floor.{holds}
@@ -105,7 +104,7 @@ asked_still s t p es n =
 
 -- who asks for nothing, or does not move, leaves the line and every place as they are
 module _ (es : List Entry) (s : ℕ) where
-  pub still_line : (a : Asking) → ((t p : ℕ) → a ≡ asks t p → moves t p es ≡ false) → comes_into a NoSeat es ≡ es
+  pub still_line : (a : Asking) → ((t p : ℕ) → a ≡ asks t p → moves t p es ≡ false) → comes_into a None es ≡ es
   still_line nobody u = refl
   still_line (asks t p) u = if_no _ _ _ (u t p refl)
 
@@ -199,7 +198,7 @@ module _ (d : Desk) (x : Doing) (new : Core) (m : Marks) where
   goes_to_head (closes y j l f e) t u z i n = clash (ap is_stopped f) n
 
   -- 5: the holder afterwards
-  pub holder-changed : Did d x new m → (b : Mark) → ((s : ℕ) → holds d.core.phase s ≡ is_seat b s) → (s : ℕ) →
+  pub holder-changed : Did d x new m → (b : Option ℕ) → ((s : ℕ) → holds d.core.phase s ≡ is_seat b s) → (s : ℕ) →
       holds new.phase s ≡ is_seat (held_after m.given m.ended b) s
   holder-changed (rests u l f e) b g s = rw e (f s ∙ g s)
   holder-changed (gives t p a i l f e) b g s = rw e (f s)

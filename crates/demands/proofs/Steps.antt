@@ -52,7 +52,7 @@ vacated-not-only h t s b v =
 joined-not-only : (h : Hall) (ns : Names) (o : List ℕ) (n : Newcomer) (s : ℕ) → is_present h s ≡ true → receives_only h s ≡ false →
     (j : Joined) → Joins h ns o n j → receives_only j.hall s ≡ false
 unfolding with_seat
-joined-not-only h ns o n s p v j (turned_away a f q) = rw q v
+joined-not-only h ns o n s p v j (turned_away r q) = rw q v
 joined-not-only h ns o n s p v j (sits_down t a f z b q) =
     rw q (ap (λ (f : Flags). f.receive_only) (get_or-set_other h.flags t s n.flags no_flags (λ e. clash p (ap (is_present h) e ∙ z)))
     ∙ v)

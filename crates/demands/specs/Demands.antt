@@ -9,14 +9,13 @@
 -- 3 of any sequence of steps: the statements below. 1, 4 and the first half of 5 in proofs/Counts, 2 and the rest of 5 in proofs/Steps,
 --         3 in proofs/Order. The same of the library that C programs call, from its promises: crate library.
 use Rattle.std.specs.Prelude.{ℕ, suc, ◌+◌, ◌≤◌, ◌<◌, ◌≡◌, Bool, true, false, not, ◌&&◌, ◌||◌, List, [], ◌∷◌, eqb, length, get_or}
+use Rattle.std.specs.Prelude.{Option, Some, None}
 use Rattle.words.specs.Choice.{when◌then◌else◌, one}
 use Rattle.line.specs.declared.Entry.{Entry}
 use Rattle.line.specs.Line.{waiting, is_in, enter, without, priority_of, entry_of}
 use Rattle.hall.specs.declared.Hall.{Hall}
 use Rattle.hall.specs.Seats.{only}
 use Rattle.steps.specs.declared.Core.{Core}
-use Rattle.steps.specs.declared.Mark.{Mark}
-use Rattle.steps.specs.declared.Mark.TheVariants.{NoSeat, Seat}
 use Rattle.steps.specs.declared.Given.{Given}
 use Rattle.steps.specs.declared.Given.TheVariants.{NotGiven, AtOnce, OutOfLine}
 use Rattle.steps.specs.declared.Marks.{Marks}
@@ -91,10 +90,10 @@ unfoldable pub moves : ℕ → ℕ → List Entry → Bool
 moves s p es = is_in s es && not (eqb (priority_of s es) p)
 
 -- who is placed comes in; who is moved goes out and comes in
-abbrev pub comes_into : Asking → Mark → List Entry → List Entry
+abbrev pub comes_into : Asking → Option ℕ → List Entry → List Entry
 comes_into nobody m es = es
-comes_into (asks s p) (Seat t) es = enter (entry_of s p) es
-comes_into (asks s p) NoSeat es = when moves s p es then enter (entry_of s p) (without (only s) es) else es
+comes_into (asks s p) (Some t) es = enter (entry_of s p) es
+comes_into (asks s p) None es = when moves s p es then enter (entry_of s p) (without (only s) es) else es
 
 -- who is given the floor out of the line goes out
 abbrev pub goes_out : Given → List Entry → List Entry
@@ -109,14 +108,14 @@ abbrev pub line_from : List Row → List Entry
 line_from [] = []
 line_from (r ∷ past) = changed r (line_from past)
 
-abbrev pub held_after : Given → Mark → Mark → Mark
-held_after (AtOnce s) ended holder = Seat s
-held_after (OutOfLine s) ended holder = Seat s
-held_after NotGiven (Seat t) holder = NoSeat
-held_after NotGiven NoSeat holder = holder
+abbrev pub held_after : Given → Option ℕ → Option ℕ → Option ℕ
+held_after (AtOnce s) ended holder = Some s
+held_after (OutOfLine s) ended holder = Some s
+held_after NotGiven (Some t) holder = None
+held_after NotGiven None holder = holder
 
-abbrev pub holder_from : List Row → Mark
-holder_from [] = NoSeat
+abbrev pub holder_from : List Row → Option ℕ
+holder_from [] = None
 holder_from (r ∷ past) = held_after r.report.marks.given r.report.marks.ended (holder_from past)
 
 -- WHO WAITS AND AT WHICH PRIORITY, by the marks and the requests alone; nothing is asked of an order

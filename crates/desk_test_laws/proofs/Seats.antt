@@ -14,8 +14,7 @@ use Rattle.words.proofs.Tests.{clash, and_both, and_four, both, four, or_left, o
 use Rattle.hall.specs.declared.Hall.{Hall}
 use Rattle.identities.specs.declared.Name.{Name}
 use Rattle.identities.specs.declared.Names.{Names}
-use Rattle.hall.specs.declared.Found.{Found}
-use Rattle.hall.specs.declared.Found.TheVariants.{At, Nowhere}
+use Rattle.std.specs.Prelude.{Option, Some, None}
 use Rattle.hall.specs.Seats.{is_present, no_flags, flags_at, has_ssrc, seat_of, first_from, in_range, finds}
 use Rattle.identities.specs.Identity.{octets_of, name_of, no_name, name_at, same, has_name, seat_named, length_allowed}
 use Rattle.hall.proofs.Laws.{at_same, found_holds, none_holds}
@@ -84,10 +83,10 @@ unfolding octets_of
 none_short = refl
 
 -- what a search finds where no other passes its test
-finds-only : (test : ℕ → Bool) (s : ℕ) → s < 16 → test s ≡ true → ((t : ℕ) → test t ≡ true → t ≡ s) → (f : Found) →
+finds-only : (test : ℕ → Bool) (s : ℕ) → s < 16 → test s ≡ true → ((t : ℕ) → test t ≡ true → t ≡ s) → (f : Option ℕ) →
     first_from test 16 0 ≡ f → finds f s ≡ true
-finds-only test s b p u (At t) q = eq-eqb t s (u t (found_holds test 16 0 t q).0)
-finds-only test s b p u Nowhere q = clash p (none_holds test 16 0 s q (omega arith) (omega arith))
+finds-only test s b p u (Some t) q = eq-eqb t s (u t (found_holds test 16 0 t q).0)
+finds-only test s b p u None q = clash p (none_holds test 16 0 s q (omega arith) (omega arith))
 
 -- an octet of flags is zero exactly if none is set
 none_of : flags_of 0 ≡ no_flags
@@ -104,9 +103,9 @@ no_flags_lem = refl
 -- a seat's tests, one by one
 record TakenOk (h : Hall) (ns : Names) (s : ℕ) : Type 0 where
   pub desk : ssrc_at h s ≡ h.settings.ssrc → ⊥
-  pub by_ssrc : seat_of h (ssrc_at h s) ≡ At s
+  pub by_ssrc : seat_of h (ssrc_at h s) ≡ Some s
   pub length : length_allowed (octets_of (name_at ns s)) ≡ true
-  pub by_identity : seat_named h ns (octets_of (name_at ns s)) ≡ At s
+  pub by_identity : seat_named h ns (octets_of (name_at ns s)) ≡ Some s
 
 module _ (h : Hall) (ns : Names) (s : ℕ) where
   taken_tests : taken_sound h ns s ≡ true →

@@ -2,16 +2,11 @@
 -- where each is stopped. A version is any function from a desk and what happens to it to the desk afterwards and its report. It plays the
 -- table by itself: each row on the desk that it left after the rows before. It keeps a row if what is seen of its step there is the
 -- table's. Assumes nothing.
-use Rattle.std.specs.Prelude.{ℕ, zero, suc, ◌<◌, ◌≡◌, refl, Bool, true, false, List, [], ◌∷◌, length}
+use Rattle.std.specs.Prelude.{ℕ, zero, suc, ◌<◌, ◌≡◌, refl, Bool, true, false, List, [], ◌∷◌, length, Option, Some, None, Ok}
 use Rattle.std.proofs.Common.{ap, sym, ◌∙◌, arith}
 use Rattle.words.proofs.Tests.{clash}
-use Rattle.hall.specs.declared.Asked.{Asked}
-use Rattle.hall.specs.declared.Asked.TheVariants.{Priority}
-use Rattle.hall.specs.declared.Answer.TheVariants.{Done}
 use Rattle.steps.specs.declared.Core.{Core}
 use Rattle.steps.specs.declared.Phase.{Phase}
-use Rattle.steps.specs.declared.Mark.{Mark}
-use Rattle.steps.specs.declared.Mark.TheVariants.{NoSeat, Seat}
 use Rattle.steps.specs.declared.Marks.{Marks}
 use Rattle.steps.specs.Words.{done, no_marks, is_nothing}
 use Rattle.events.specs.declared.Event.TheVariants.{Start, Request}
@@ -55,7 +50,7 @@ KeepsI v = Keeps v 8
 
 -- row b's event, and the desk on which a version meets it
 abbrev ask_b : Doing
-ask_b = event (Request 10 (Priority 5))
+ask_b = event (Request 10 (Some 5))
 
 abbrev desk_b : Version → Desk
 desk_b v = (v start (event Start)).desk
@@ -83,14 +78,14 @@ keeps_a : (v : Version) → v start (event Start) ≡ does start (event Start) �
 keeps_a v e = ap seen e ∙ ap first_of thursday
 
 -- a desk that refuses all
-pub refuses_all : (v : Version) → ((d : Desk) (x : Doing) → (v d x).answer ≡ Done → ⊥) → KeepsB v → ⊥
+pub refuses_all : (v : Version) → ((d : Desk) (x : Doing) → (v d x).answer ≡ Ok tt → ⊥) → KeepsB v → ⊥
 refuses_all v f k = f (desk_b v) ask_b (ap (λ (s : Seen). s.answer) k)
 
 -- a desk that always denies: it starts as the rules say, so it keeps row a, and whoever asks is told a Deny
 pub always_denies : (v : Version) → ((d : Desk) → v d (event Start) ≡ does d (event Start))
-    → ((d : Desk) (x : ℕ) (p : Asked) → is_deny (v d (event (Request x p))).report.first.kind ≡ true) → KeepsA v × (KeepsB v → ⊥)
+    → ((d : Desk) (x : ℕ) (p : Option ℕ) → is_deny (v d (event (Request x p))).report.first.kind ≡ true) → KeepsA v × (KeepsB v → ⊥)
 always_denies v s f =
-    (keeps_a v (s start), λ k. clash (f (desk_b v) 10 (Priority 5)) (ap (λ (s : Seen). is_deny s.first.kind) k))
+    (keeps_a v (s start), λ k. clash (f (desk_b v) 10 (Some 5)) (ap (λ (s : Seen). is_deny s.first.kind) k))
 
 -- a desk that never changes: the sequence number is 0 at the start and 2 after b
 sequence_0 : start.core.sequence ≡ 0
@@ -136,9 +131,9 @@ invents_in v d (r ∷ rs) (suc n) f k = invents_in v (v d r.happens).desk rs n f
 pub invents-marks : (v : Version) (n : ℕ) → (marks_at_row v start thursday_table n ≡ row_marks thursday_table n → ⊥) → Keeps v n → ⊥
 invents-marks v n f k = invents_in v start thursday_table n f k
 
-abbrev has_seat : Mark → Bool
-has_seat NoSeat = false
-has_seat (Seat s) = true
+abbrev has_seat : Option ℕ → Bool
+has_seat None = false
+has_seat (Some s) = true
 
 -- Marks made up from what happens alone, one mark for all among them: g and i are the same request, denied at g and placed at i.
 pub marks_of_the_event : (v : Version) (f : Doing → Marks) → ((d : Desk) (x : Doing) → (v d x).report.marks ≡ f x) → KeepsG v → KeepsI v → ⊥

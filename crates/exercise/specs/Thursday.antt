@@ -1,15 +1,13 @@
 -- Thursday's exercise (document 01): a table of what happens and what comes of it, and the statement that the rules give it. What the paper
 -- leaves open is chosen here: the desk's SSRC is 1 and the seats' are 10, 11, 12, 13; their identities are test1, test10, test2, test3;
 -- the duration is 30 seconds; the normal level is 0, and no row asks for it. Assumes nothing.
-use Rattle.std.specs.Prelude.{ℕ, ◌+◌, ◌≡◌, refl, Bool, true, false, List, [], ◌∷◌, replicate}
+use Rattle.std.specs.Prelude.{ℕ, ◌+◌, ◌≡◌, refl, Bool, true, false, List, [], ◌∷◌, replicate, Some, None, Ok}
 use Rattle.words.specs.Choice.{when◌then◌else◌}
 use Rattle.line.specs.declared.Entry.{Entry}
 use Rattle.line.specs.Line.{waiting, line_of, before, ahead, enter, another_at_least, without, seat_set, no_seats, priority_of, entry_of}
 use Rattle.hall.specs.declared.Settings.{Settings}
 use Rattle.hall.specs.declared.Newcomer.{Newcomer}
-use Rattle.hall.specs.declared.Asked.TheVariants.{Priority}
-use Rattle.hall.specs.declared.Answer.{Answer}
-use Rattle.hall.specs.declared.Answer.TheVariants.{Done}
+use Rattle.hall.specs.Answers.{DeskAnswer}
 use Rattle.hall.specs.Seats.{settings_of, newcomer_of, empty_hall, alone, effective, seat_of, free_seat, with_seat}
 use Rattle.identities.specs.Identity.{octets_of, name_of, no_names, with_name, same, seat_named, length_allowed}
 use Rattle.joining.specs.Join.{ssrc_taken, seated, join}
@@ -18,7 +16,6 @@ use Rattle.steps.specs.declared.Phase.{Phase}
 use Rattle.steps.specs.declared.Phase.TheVariants.{Idle, Taken, Revoking}
 use Rattle.steps.specs.declared.Kind.TheVariants as say
 use Rattle.steps.specs.declared.Sending.{Sending}
-use Rattle.steps.specs.declared.Mark.TheVariants.{NoSeat, Seat}
 use Rattle.steps.specs.declared.Given.TheVariants.{NotGiven, AtOnce, OutOfLine}
 use Rattle.steps.specs.declared.Marks.{Marks}
 use Rattle.steps.specs.Words.{next, ◌⇒◌, silence, no_marks}
@@ -70,7 +67,7 @@ pub record Seen : Type 0 where
   pub phase : Phase
   pub sequence : ℕ
   pub line : List Entry
-  pub answer : Answer
+  pub answer : DeskAnswer
   pub first : Sending
   pub second : Sending
   pub marks : Marks
@@ -98,13 +95,13 @@ s at p = entry_of s p
 
 abbrev row : Doing → Phase → ℕ → List Entry → Sending → Sending → Marks → TableRow
 row x p n l m₁ m₂ ms =
-    record { happens = x; comes = record { phase = p; sequence = n; line = l; answer = Done; first = m₁; second = m₂; marks = ms } }
+    record { happens = x; comes = record { phase = p; sequence = n; line = l; answer = Ok tt; first = m₁; second = m₂; marks = ms } }
 
 abbrev start_call : Doing
 start_call = event Start
 
 abbrev asks : ℕ → ℕ → Doing
-asks s p = event (Request (10 + s) (Priority p))
+asks s p = event (Request (10 + s) (Some p))
 
 abbrev releases_it : ℕ → Doing
 releases_it s = event (Release (10 + s))
@@ -132,7 +129,7 @@ just_3 = four false false false true
 abbrev pub row_b : TableRow
 row_b =
     row (asks 0 5) (Taken (0 at 5) NoMore) 2 [] (say.Granted 5 ⇒ just_0) (say.Taken 0 2 ⇒ four false true true true)
-    (marks NoSeat no_seats NoSeat (AtOnce 0))
+    (marks None no_seats None (AtOnce 0))
 
 abbrev pub thursday_table : List TableRow
 thursday_table =
@@ -140,10 +137,10 @@ thursday_table =
     row start_call (Idle true) 1 [] (say.Idle 1 ⇒ all_four) silence no_marks
     ∷ row_b
     -- c: 1 asks 5; place 1
-    ∷ row (asks 1 5) (Taken (0 at 5) NoMore) 2 (1 at 5 ∷ []) (say.Info 1 5 ⇒ just_1) silence (marks (Seat 1) no_seats NoSeat NotGiven)
+    ∷ row (asks 1 5) (Taken (0 at 5) NoMore) 2 (1 at 5 ∷ []) (say.Info 1 5 ⇒ just_1) silence (marks (Some 1) no_seats None NotGiven)
     -- d: 2 asks 6; place 1
     ∷ row (asks 2 6) (Taken (0 at 5) NoMore) 2 (2 at 6 ∷ 1 at 5 ∷ []) (say.Info 1 6 ⇒ just_2) silence
-    (marks (Seat 2) no_seats NoSeat NotGiven)
+    (marks (Some 2) no_seats None NotGiven)
     -- e: 1 asks 6; moved, place 2
     ∷ row (asks 1 6) (Taken (0 at 5) NoMore) 2 (2 at 6 ∷ 1 at 6 ∷ []) (say.Info 2 6 ⇒ just_1) silence no_marks
     -- f: 3 asks 199; Deny #1
@@ -151,19 +148,19 @@ thursday_table =
     -- g: 3 asks 200; Deny #7
     ∷ row (asks 3 200) (Taken (0 at 5) NoMore) 2 (2 at 6 ∷ 1 at 6 ∷ []) (say.Deny 7 ⇒ just_3) silence no_marks
     -- h: 2 releases; struck off
-    ∷ row (releases_it 2) (Taken (0 at 5) NoMore) 2 (1 at 6 ∷ []) silence silence (marks NoSeat just_2 NoSeat NotGiven)
+    ∷ row (releases_it 2) (Taken (0 at 5) NoMore) 2 (1 at 6 ∷ []) silence silence (marks None just_2 None NotGiven)
     -- i: 3 asks 200; placed, Revoke #4 to 0, no Info
     ∷ row (asks 3 200) (Revoking (0 at 5) 4) 2 (3 at 200 ∷ 1 at 6 ∷ []) (say.Revoke 4 ⇒ just_0) silence
-    (marks (Seat 3) no_seats NoSeat NotGiven)
+    (marks (Some 3) no_seats None NotGiven)
     -- j: T3; 0 ended, 3 given, sequence 3
-    ∷ row (event (Expiry timer.T3)) (Taken (3 at 200) T20) 3 (1 at 6 ∷ []) (say.Granted 200 ⇒ just_3)
-    (say.Taken 3 3 ⇒ four true true true false) (marks NoSeat no_seats (Seat 0) (OutOfLine 3))
+    ∷ row (event (Expiry (Some timer.T3))) (Taken (3 at 200) T20) 3 (1 at 6 ∷ []) (say.Granted 200 ⇒ just_3)
+    (say.Taken 3 3 ⇒ four true true true false) (marks None no_seats (Some 0) (OutOfLine 3))
     -- k: T20 twice; Granted; then 3 ended, 1 given, sequence 4
-    ∷ row (event (Expiry timer.T20)) (Taken (3 at 200) T20) 3 (1 at 6 ∷ []) (say.Granted 200 ⇒ just_3) silence no_marks
-    ∷ row (event (Expiry timer.T20)) (Taken (1 at 6) T20) 4 [] (say.Granted 6 ⇒ just_1) (say.Taken 1 4 ⇒ four true false true true)
-    (marks NoSeat no_seats (Seat 3) (OutOfLine 1))
+    ∷ row (event (Expiry (Some timer.T20))) (Taken (3 at 200) T20) 3 (1 at 6 ∷ []) (say.Granted 200 ⇒ just_3) silence no_marks
+    ∷ row (event (Expiry (Some timer.T20))) (Taken (1 at 6) T20) 4 [] (say.Granted 6 ⇒ just_1) (say.Taken 1 4 ⇒ four true false true true)
+    (marks None no_seats (Some 3) (OutOfLine 1))
     -- l: 1 leaves; 1 ended, Idle to 0, 2, 3, sequence 5
-    ∷ row (leaves 1) (Idle true) 5 [] (say.Idle 5 ⇒ four true false true true) silence (marks NoSeat no_seats (Seat 1) NotGiven)
+    ∷ row (leaves 1) (Idle true) 5 [] (say.Idle 5 ⇒ four true false true true) silence (marks None no_seats (Some 1) NotGiven)
     ∷ []
 
 abbrev pub events : List TableRow → List Doing
@@ -192,11 +189,11 @@ unfolding when◌then◌else◌ waiting line_of before ahead enter another_at_le
 thursday = refl
 
 -- the four took the seats 0 to 3, each with answer 0
-abbrev answers : List Outcome → List Answer
+abbrev answers : List Outcome → List DeskAnswer
 answers [] = []
 answers (l ∷ ls) = l.answer ∷ answers ls
 
-pub four-joined : (answers (steps_of (made settings) arrivals) ≡ Done ∷ Done ∷ Done ∷ Done ∷ []) × (start.hall.present ≡ all_four)
+pub four-joined : (answers (steps_of (made settings) arrivals) ≡ Ok tt ∷ Ok tt ∷ Ok tt ∷ Ok tt ∷ []) × (start.hall.present ≡ all_four)
 unfolding when◌then◌else◌ empty_hall seat_of free_seat with_seat octets_of name_of no_names with_name same seat_named length_allowed
     ssrc_taken seated
     join fresh does

@@ -3,18 +3,16 @@
 -- statement of Demands is not so. Every statement is refuted of one: NobodyDropsOut in 1, 2 and 3, StruckForAReason in 3, GoesToTheFirst in
 -- 4, NothingUnseen in 5, GivenAndEnded in 6, the line and the holder of WorkedOut in 5 and 6. The fault in reading packets is stopped in
 -- crate reading. Assumes nothing.
-use Rattle.std.specs.Prelude.{ℕ, ◌+◌, ◌≡◌, refl, Bool, true, false, ◌&&◌, ◌||◌, List, [], ◌∷◌, length, take}
+use Rattle.std.specs.Prelude.{ℕ, ◌+◌, ◌≡◌, refl, Bool, true, false, ◌&&◌, ◌||◌, List, [], ◌∷◌, length, take, Some, None}
 use Rattle.std.proofs.Common.{ap, sym, ◌∙◌, arith}
 use Rattle.words.proofs.Tests.{clash}
 use Rattle.words.specs.Choice.{when◌then◌else◌}
 use Rattle.line.specs.declared.Entry.{Entry}
 use Rattle.line.specs.Line.{waiting, line_of, before, is_in, ahead, enter, another_at_least, without, priority_of, entry_of}
 use Rattle.hall.specs.declared.Settings.{Settings}
-use Rattle.hall.specs.declared.Asked.TheVariants.{Priority}
 use Rattle.hall.specs.Seats.{settings_of, newcomer_of, in_range, only, empty_hall, alone, effective, seat_of, free_seat, with_seat}
 use Rattle.identities.specs.Identity.{octets_of, name_of, no_names, with_name, name_at, same, seat_named, length_allowed}
 use Rattle.joining.specs.Join.{ssrc_taken, seated, join}
-use Rattle.steps.specs.declared.Mark.TheVariants.{NoSeat}
 use Rattle.steps.specs.declared.Given.{Given}
 use Rattle.steps.specs.declared.Given.TheVariants.{NotGiven, AtOnce, OutOfLine}
 use Rattle.steps.specs.declared.Marks.{Marks}
@@ -52,7 +50,7 @@ abbrev begins : Doing
 begins = event Start
 
 abbrev asks_for : ℕ → ℕ → Doing
-asks_for s p = event (Request (10 + s) (Priority p))
+asks_for s p = event (Request (10 + s) (Some p))
 
 abbrev lets_go : ℕ → Doing
 lets_go s = event (Release (10 + s))
@@ -73,6 +71,15 @@ at_first = made settings
 began : Fresh at_first
 unfolding in_range
 began = just_made settings refl
+
+-- all that the desk's steps and the log stand on, opened, so that an evening computes
+to_compute : Type 0
+unfolding
+    changed moves when◌then◌else◌ waiting line_of before ahead enter another_at_least without empty_hall alone effective seat_of
+    free_seat with_seat octets_of name_of no_names with_name same seat_named length_allowed ssrc_taken seated join next given
+    given_at_once enters_idle revokes waits priority_in priority_of full presses denied info_of holder_asks informed pressed rule6
+    asks_again placed request fresh starts caller_of step does given_out_of_line passes_on floor_ends struck_off releases place_after
+to_compute = ℕ
 
 -- an outcome with another line, or with other marks
 abbrev relined : Outcome → List Entry → Outcome
@@ -110,23 +117,17 @@ student-marks = (student (desk_after student at_first one-waits) (asks_for 1 5))
 
 -- Once test10 has asked, test1 was placed, was never given the floor or struck off, and does not wait; it waited before, and this step has
 -- no mark that it went; and one stands in the line where the marks and the requests make two. Each refutation of the student's server
--- computes of this what it needs.
+-- computes of this what it needs, and cites nothing: so where this evening is another, it shows here.
 student_evening :
     (times (is_placed 0) (log student at_first two_wait) ≡ 1) × (times (is_given_out 0) (log student at_first two_wait) ≡ 0)
     × (times (is_struck 0) (log student at_first two_wait) ≡ 0) × (waits (desk_after student at_first two_wait).core 0 ≡ false)
     × (waits (desk_after student at_first one-waits).core 0 ≡ true) × ((is_struck 0 student-marks || is_given_out 0 student-marks) ≡ false)
     × (length (waiting (desk_after student at_first two_wait).core.line) ≡ 1) × (length (line_from (log student at_first two_wait)) ≡ 2)
-unfolding student changed moves when◌then◌else◌ waiting line_of before ahead enter another_at_least without empty_hall alone effective
-    seat_of free_seat with_seat octets_of name_of no_names with_name same seat_named length_allowed ssrc_taken seated join next given
-    given_at_once enters_idle revokes waits priority_in priority_of full presses denied info_of holder_asks informed pressed rule6
-    asks_again placed request fresh starts caller_of step does
+unfolding student to_compute
 student_evening = (refl, refl, refl, refl, refl, refl, refl, refl)
 
 pub student_drops_one : NobodyDropsOut student → ⊥
-unfolding student changed moves when◌then◌else◌ waiting line_of before ahead enter another_at_least without empty_hall alone effective
-    seat_of free_seat with_seat octets_of name_of no_names with_name same seat_named length_allowed ssrc_taken seated join next given
-    given_at_once enters_idle revokes waits priority_in priority_of full presses denied info_of holder_asks informed pressed rule6
-    asks_again placed request fresh starts caller_of step does
+unfolding student to_compute
 student_drops_one k =
     let z : 1 ≡ 0 + 0 + 0 = (k at_first began two_wait 0).0 in
     omega arith
@@ -145,10 +146,7 @@ handed_over = lets_go 2 ∷ one-waits
 
 stays_counts : (times (is_placed 0) (log stays at_first handed_over) ≡ 1) × (times (is_given_out 0) (log stays at_first handed_over) ≡ 1)
     × (times (is_struck 0) (log stays at_first handed_over) ≡ 0) × (waits (desk_after stays at_first handed_over).core 0 ≡ true)
-unfolding stays when◌then◌else◌ waiting line_of before ahead enter another_at_least without empty_hall alone effective seat_of free_seat
-    with_seat octets_of name_of no_names with_name same seat_named length_allowed ssrc_taken seated join next given given_at_once
-    given_out_of_line enters_idle passes_on floor_ends revokes waits priority_in priority_of full presses denied info_of holder_asks
-    informed pressed rule6 asks_again placed request fresh starts caller_of struck_off releases step does
+unfolding stays to_compute
 stays_counts = (refl, refl, refl, refl)
 
 pub stays_in_line : NobodyDropsOut stays → ⊥
@@ -178,7 +176,7 @@ invents-a-mark k = clash (k at_first began [] begins 1 invented.0) invented.1
 
 invented_counts : (times (is_placed 1) (log invents at_first (begins ∷ [])) ≡ 0)
     × (times (is_struck 1) (log invents at_first (begins ∷ [])) ≡ 1)
-unfolding invents does step starts enters_idle fresh next
+unfolding invents to_compute
 invented_counts = (refl, refl)
 
 pub invents_and_miscounts : NobodyDropsOut invents → ⊥
@@ -197,20 +195,17 @@ unfoldable pub sends_back : Server
 sends_back d x = behind_all d (asking d.hall x) (does d x)
 
 -- test1 asks again, and anna's floor goes to test10, whose placing came later
-abbrev asked_again_lem : History
-asked_again_lem = asks_for 0 5 ∷ two_wait
+abbrev asks_twice : History
+asks_twice = asks_for 0 5 ∷ two_wait
 
 sent_back :
-    (is_ended 2 (sends_back (desk_after sends_back at_first asked_again_lem) (lets_go 2)).report.marks ≡ true)
-    × (is_stopped (sends_back (desk_after sends_back at_first asked_again_lem) (lets_go 2)).desk.core.phase ≡ false)
-    × ((sends_back (desk_after sends_back at_first asked_again_lem) (lets_go 2)).report.marks.given ≡ OutOfLine 1)
-    × (place_of 0 (log sends_back at_first asked_again_lem) ≡ in_line 5)
-    × (place_of 1 (log sends_back at_first asked_again_lem) ≡ in_line 5)
-    × (latest 0 (log sends_back at_first asked_again_lem) ≡ 6) × (latest 1 (log sends_back at_first asked_again_lem) ≡ 7)
-unfolding sends_back place_after priority_of when◌then◌else◌ waiting line_of before ahead enter another_at_least without empty_hall alone
-    effective seat_of free_seat with_seat octets_of name_of no_names with_name same seat_named length_allowed ssrc_taken seated join next
-    given given_at_once given_out_of_line enters_idle passes_on floor_ends revokes waits priority_in full presses denied info_of holder_asks
-    informed pressed rule6 asks_again placed request fresh starts caller_of struck_off releases step does
+    (is_ended 2 (sends_back (desk_after sends_back at_first asks_twice) (lets_go 2)).report.marks ≡ true)
+    × (is_stopped (sends_back (desk_after sends_back at_first asks_twice) (lets_go 2)).desk.core.phase ≡ false)
+    × ((sends_back (desk_after sends_back at_first asks_twice) (lets_go 2)).report.marks.given ≡ OutOfLine 1)
+    × (place_of 0 (log sends_back at_first asks_twice) ≡ in_line 5)
+    × (place_of 1 (log sends_back at_first asks_twice) ≡ in_line 5)
+    × (latest 0 (log sends_back at_first asks_twice) ≡ 6) × (latest 1 (log sends_back at_first asks_twice) ≡ 7)
+unfolding sends_back to_compute
 sent_back = (refl, refl, refl, refl, refl, refl, refl)
 
 same_seat : {s t : ℕ} → OutOfLine s ≡ OutOfLine t → s ≡ t
@@ -219,7 +214,7 @@ same_seat q = cc
 pub sends_to_the_back : GoesToTheFirst sends_back → ⊥
 sends_to_the_back k =
     let c = sent_back in
-    let x = k at_first began asked_again_lem (lets_go 2) 2 0 5 c.0 c.3 c.1 in
+    let x = k at_first began asks_twice (lets_go 2) 2 0 5 c.0 c.3 c.1 in
     let s : x.0 ≡ 1 = same_seat (sym x.1 ∙ c.2) in
     let f = rw s at x.2 in
     let z = f.earliest 0 (c.3 ∙ sym c.4 ∙ f.waits) (λ q. omega arith) in
@@ -227,10 +222,7 @@ sends_to_the_back k =
 
 -- 5. test1 goes out of the student's line without a mark, and the line can no longer be worked out from the marks
 pub student_unseen : NothingUnseen student → ⊥
-unfolding student changed moves when◌then◌else◌ waiting line_of before ahead enter another_at_least without empty_hall alone effective
-    seat_of free_seat with_seat octets_of name_of no_names with_name same seat_named length_allowed ssrc_taken seated join next given
-    given_at_once enters_idle revokes waits priority_in priority_of full presses denied info_of holder_asks informed pressed rule6
-    asks_again placed request fresh starts caller_of step does
+unfolding student to_compute
 student_unseen k =
     let before_it : waits (desk_after student at_first one-waits).core 0 ≡ true = refl in
     let behind_it : waits (desk_after student at_first two_wait).core 0 ≡ false = refl in
@@ -238,10 +230,7 @@ student_unseen k =
     clash ((k at_first began one-waits (asks_for 1 5) 0).goes before_it behind_it) unmarked
 
 pub student_line_not_worked_out : WorkedOut student → ⊥
-unfolding student changed moves when◌then◌else◌ waiting line_of before ahead enter another_at_least without empty_hall alone effective
-    seat_of free_seat with_seat octets_of name_of no_names with_name same seat_named length_allowed ssrc_taken seated join next given
-    given_at_once enters_idle revokes waits priority_in priority_of full presses denied info_of holder_asks informed pressed rule6
-    asks_again placed request fresh starts caller_of step does
+unfolding student to_compute
 student_line_not_worked_out k =
     let stands : length (waiting (desk_after student at_first two_wait).core.line) ≡ 1 = refl in
     let counted : length (line_from (log student at_first two_wait)) ≡ 2 = refl in
@@ -254,7 +243,7 @@ forgets d x =
     (record {
       placed = (does d x).report.marks.placed;
       struck = (does d x).report.marks.struck;
-      ended = NoSeat;
+      ended = None;
       given = (does d x).report.marks.given;
     })
 
@@ -264,10 +253,7 @@ let_go = lets_go 2 ∷ asks_for 2 5 ∷ opened
 
 forgotten : (times (is_given_any 2) (log forgets at_first let_go) ≡ 1) × (times (is_ended 2) (log forgets at_first let_go) ≡ 0)
     × (holds (desk_after forgets at_first let_go).core.phase 2 ≡ false) × (is_seat (holder_from (log forgets at_first let_go)) 2 ≡ true)
-unfolding forgets when◌then◌else◌ waiting line_of before ahead enter another_at_least without empty_hall alone effective seat_of free_seat
-    with_seat octets_of name_of no_names with_name same seat_named length_allowed ssrc_taken seated join next given given_at_once
-    given_out_of_line enters_idle passes_on floor_ends revokes waits priority_in priority_of full presses denied info_of holder_asks
-    informed pressed rule6 asks_again placed request fresh starts caller_of struck_off releases step does
+unfolding forgets to_compute
 forgotten = (refl, refl, refl, refl)
 
 pub forgets_an_end : GivenAndEnded forgets → ⊥

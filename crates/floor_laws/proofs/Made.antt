@@ -31,12 +31,6 @@ first_written : (room : List ℕ) (d : Desk) → desk_in (over room 0 (octets_fo
 first_written room d =
     ap (λ (n : ℕ). take n (over room 0 (octets_for d))) (sym (length-octets d.core d.hall d.names)) ∙ first_over room (octets_for d)
 
--- a room is written only where all is done
-pub done-only : (room : List ℕ) (n k : ℕ) (d : Desk) → Succeeds (desk_written room n k d.core d.hall d.names).0 → n ≡ 0
-unfolding desk_written
-done-only room n k d =
-    by_if (λ (w : ℤ × List ℕ). Succeeds w.0 → n ≡ 0) (eqb n 0) (λ e _. eqb-true n 0 e) (λ e z. clash z (not_done n e))
-
 module _ (d : Desk) where
   abbrev pub Written : ℤ × List ℕ → Type 0
   Written w = Succeeds w.0 → Holds (desk_in w.1) d

@@ -13,7 +13,7 @@ use Rattle.line.specs.declared.Entry.{Entry}
 use Rattle.line.specs.declared.Line.{Line}
 use Rattle.line.specs.Line.{waiting, line_of, empty, ahead, enter, without}
 use Rattle.hall.specs.declared.Hall.{Hall}
-use Rattle.hall.specs.declared.Asked.{Asked}
+use Rattle.std.proofs.Common.{Option}
 use Rattle.hall.specs.Seats.{only, asked, effective}
 use Rattle.steps.specs.declared.Core.{Core}
 use Rattle.steps.specs.declared.Sending.{Sending}
@@ -68,7 +68,7 @@ six_narrow {c} o (presses e b k q f s) = rw q (record { line = o.line; holder = 
 six_narrow {c} o (informs_and_presses e b k q f s) = rw q (record { line = o.line; holder = rw k at o.holder })
 
 module _ (h : Hall) (top : (s : ℕ) → get_or h.highest s 0 < 256) where
-  effective_small : (s : ℕ) (a : Asked) → effective h s a < 256
+  effective_small : (s : ℕ) (a : Option ℕ) → effective h s a < 256
   unfolding effective
   effective_small s a =
       let m = get_or h.highest s 0 in
@@ -88,7 +88,7 @@ module _ (d : Desk) (x : Doing) (l : Outcome) (top : (s : ℕ) → get_or d.hall
   relined es y = record { line = line_small es y; holder = o.holder }
 
   pub keeps_narrow : way.Way d x l → NarrowCore l.desk.core
-  keeps_narrow (way.refuses a n u v q m) = rw (ap (λ (y : Desk). y.core) q) o
+  keeps_narrow (way.refuses r u v q m) = rw (ap (λ (y : Desk). y.core) q) o
   keeps_narrow (way.grants_holder t p e b a w n q m) = rw q o
   keeps_narrow (way.denies t p n a s u b q m) = rw (ap (λ (y : Desk). y.core) q) o
   keeps_narrow (way.gives t p a s i q m) = rw q (record { line = o.line; holder = asker_small d.hall top x t p a s })

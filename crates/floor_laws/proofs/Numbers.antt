@@ -114,7 +114,7 @@ module _ (h : Hall) (ns : Names) (k : NarrowSeats h ns) where
   name_narrow o k = all_padded Octet 0 62 o (omega arith) (at_all Octet 0 o k)
 
   join_kept : (o : List ℕ) (n : Newcomer) → Fits o n → (j : Joined) → Joins h ns o n j → NarrowSeats j.hall j.names
-  join_kept o n w j (turned_away a f q) = rw q k
+  join_kept o n w j (turned_away r q) = rw q k
   join_kept o n w j (sits_down s p f z b q) = rw q (one_set s true n (name_of o) w.1 w.2 (name_narrow o w.0))
 
   pub top : (s : ℕ) → get_or h.highest s 0 < 256

@@ -15,9 +15,11 @@ use Rattle.message.specs.Answers.{Answer, refused}
 use Rattle.hall.specs.Answers.{answer_number}
 use Rattle.joining.specs.declared.Joined.{Joined}
 use Rattle.joining.specs.Join.{ssrc_taken, seated, join}
-use Rattle.hall.specs.declared.Found.{Found}
-use Rattle.hall.specs.declared.Found.TheVariants.{At, Nowhere}
-use Rattle.hall.specs.Seats.{is_at, free_seat}
+use Rattle.std.proofs.Common.{Option, Some, None, Result, Ok, Err, is_some}
+use Rattle.sheet.specs.declared.Refusal.{Refusal}
+use Rattle.events.specs.declared.Desk.{Desk}
+use Rattle.loading.specs.Loading.{loading}
+use Rattle.hall.specs.Seats.{free_seat}
 use Rattle.identities.specs.Identity.{seat_named, length_allowed}
 use Rattle.hall.specs.declared.Newcomer.{Newcomer}
 use Rattle.hall.specs.declared.Hall.{Hall}
@@ -28,7 +30,7 @@ use Rattle.words.proofs.Tests.{clash}
 use Rattle.desk_octets.specs.Form.{hall_at, names_at}
 use Rattle.desk_test.specs.Lent.{formed}
 use Rattle.desk_steps.specs.Steps.{Leaves, step_leaves, settles, outcome_on}
-use Rattle.desk_making.specs.Making.{desk_written, join_on, settable, seat_taken}
+use Rattle.desk_making.specs.Making.{desk_written, loaded_into, join_on, settable, seat_taken}
 use Rattle.signed.specs.Signed.{signed, by_number, answers, Refuses}
 use Rattle.seat_looking.specs.Showing.{seat_shown, settings_shown}
 use Rattle.desk_looking.specs.Looking.{looks, screen_on, save_on, message_on}
@@ -68,6 +70,10 @@ module _ (room : List ℕ) where
   written_untouched n k c h ns =
       by_if Unwritten (eqb n 0) (λ _. by_if Unwritten (leb desk_size (length room)) (λ _ z. clash refl z) (λ _ z. refl)) (λ _ z. refl)
 
+  loaded_untouched : (l : Result Desk Refusal) → Unwritten (loaded_into room l)
+  loaded_untouched (Ok d) = written_untouched 0 0 d.core d.hall d.names
+  loaded_untouched (Err r) = λ z. refl
+
 join_untouched : (d o : List ℕ) (w : Newcomer) → Unwritten d (join_on d o w)
 join_untouched d o w = by_if (Unwritten d) (formed d) (λ _. written_untouched d _ _ _ _ _) (λ _ y. refl)
 
@@ -86,7 +92,7 @@ not_made room g n room' p =
     (by_if (Unwritten room) (settable g) (λ _. written_untouched room 0 0 _ _ _) (λ _ z. refl))
 
 pub not-loaded : NotLoaded
-not-loaded room sheet n room' p = subst (λ (w : ℤ × List ℕ). Unwritten room w) (sym p) (written_untouched room _ _ _ _ _)
+not-loaded room sheet n room' p = subst (λ (w : ℤ × List ℕ). Unwritten room w) (sym p) (loaded_untouched room (loading sheet))
 
 -- 20
 outcome_no_desk : (d r : List ℕ) (o : Outcome) → formed d ≡ false → Minus20 (outcome_on d r o).answer
@@ -177,16 +183,16 @@ module _ (h : Hall) (ns : Names) (o : List ℕ) (w : Newcomer) where
   abbrev Sits : Joined → Type 0
   Sits j = answer_number j.answer ≡ 0 → j.seat ≡ free_seat h
 
-  seated_so : (f : Found) → free_seat h ≡ f → Sits (seated h ns o w f)
+  seated_so : (f : Option ℕ) → free_seat h ≡ f → Sits (seated h ns o w f)
   unfolding seated
-  seated_so Nowhere e z = absurd (omega (arith, z))
-  seated_so (At s) e z = sym e
+  seated_so None e z = absurd (omega (arith, z))
+  seated_so (Some s) e z = sym e
 
   joins_lowest : Sits (join h ns o w)
   unfolding join
   joins_lowest =
       by_if Sits (not (length_allowed o)) (λ _ z. absurd (omega (arith, z)))
-      (λ _. by_if Sits (is_at (seat_named h ns o)) (λ _ z. absurd (omega (arith, z)))
+      (λ _. by_if Sits (is_some (seat_named h ns o)) (λ _ z. absurd (omega (arith, z)))
       (λ _. by_if Sits (ssrc_taken h w.ssrc) (λ _ z. absurd (omega (arith, z))) (λ _. seated_so (free_seat h) refl)))
 
 -- the seat counts only where it was taken

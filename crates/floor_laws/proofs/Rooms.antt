@@ -2,7 +2,7 @@
 use Prim.Native.Nat.{ℕ, ◌*◌}
 use mathlib.Core.Path.{◌≡◌, refl, sym, subst}
 use mathlib.Core.List.{List}
-use lib.Dec.{eqb, leb, ltb}
+use lib.Dec.{leb, ltb}
 use lib.IntN.{ℤ}
 use lib.ListN.{length}
 use Rattle.words.specs.Choice.{when◌then◌else◌, by_test, by_if}
@@ -17,14 +17,13 @@ use Rattle.line.specs.declared.Entry.{Entry}
 use Rattle.hall.specs.declared.Hall.{Hall}
 use Rattle.hall.specs.Seats.{is_present}
 use Rattle.identities.specs.declared.Names.{Names}
-use Rattle.outgoing.specs.declared.Outgoing.{Outgoing}
-use Rattle.outgoing.specs.declared.Outgoing.TheVariants.{Packet, Silence}
 use Rattle.outgoing.specs.Outgoing.{sending, sent}
+use Rattle.std.proofs.Common.{Option, Some, None, Result, Ok, Err}
+use Rattle.saving.specs.declared.Refusal as save
 use Rattle.saving.specs.Saving.{saving, room_after}
 use Rattle.message_octets.specs.Places.{message_size}
-use Rattle.message_octets.specs.Held.{Held, Is, Nothing, read_number, keeping, read_held, kept_in, writing_of, written_of, held_at}
-use Rattle.report_octets.specs.declared.Told.{Told}
-use Rattle.report_octets.specs.declared.Told.TheVariants.{Says, NoMessage}
+use Rattle.message_octets.specs.Held.{read_number, keeping, read_held, kept_in, writing_of, written_of, held_at}
+use Rattle.steps.specs.declared.Kind.{Kind}
 use Rattle.report_octets.specs.Report.{told_in}
 use Rattle.desk_octets.specs.Form.{core_at, hall_at, names_at, settings_at}
 use Rattle.desk_test.specs.Lent.{formed}
@@ -48,20 +47,20 @@ module _ (room : List ℕ) where
   unfolding written
   written_kept m src = left_kept (writing m src (length room)) (wire (said m src))
 
-  sent_kept : (o : Outgoing) (src : List ℕ) → Unwritten room (answers (sending o src (length room)) (sent o src room))
-  sent_kept Silence src z = refl
-  sent_kept (Packet m) src z = written_kept m src z
+  sent_kept : (o : Option Message) (src : List ℕ) → Unwritten room (answers (sending o src (length room)) (sent o src room))
+  sent_kept None src z = refl
+  sent_kept (Some m) src z = written_kept m src z
 
-  tells_kept : (d : List ℕ) (t : Told) → Unwritten room (tells d room t)
-  tells_kept d NoMessage z = refl
-  tells_kept d (Says k) z = sent_kept (packet_for d k) (identity_in d k) z
+  tells_kept : (d : List ℕ) (t : Option Kind) → Unwritten room (tells d room t)
+  tells_kept d None z = refl
+  tells_kept d (Some k) z = sent_kept (packet_for d k) (identity_in d k) z
 
   message_kept : (d r : List ℕ) (which : ℕ) → Unwritten room (message_on d r which room)
   message_kept d r which = by_if (Unwritten room) (formed d) (λ _. tells_kept d (told_in r which)) (λ _ _. refl)
 
-  held_kept : (h : Held) (src : List ℕ) → Unwritten room (answers (writing_of h src (length room)) (written_of h src room))
-  held_kept Nothing src z = refl
-  held_kept (Is m) src z = written_kept m src z
+  held_kept : (h : Option Message) (src : List ℕ) → Unwritten room (answers (writing_of h src (length room)) (written_of h src room))
+  held_kept None src z = refl
+  held_kept (Some m) src z = written_kept m src z
 
   reading_kept : (a : Answer Message) → Refuses (told_as (read_number a (length room))) → keeping a room ≡ room
   unfolding when◌then◌else◌
@@ -73,9 +72,14 @@ module _ (room : List ℕ) where
   read_kept packet = reading_kept (reading packet)
 
   -- the sheet
-  sheet_kept : (h : Hall) (ns : Names) → Unwritten room (answers (saved_answer (saving h ns room)) (room_after h ns room))
+  saved_kept : (h : Hall) (ns : Names) (r : Result ℕ save.Refusal) → saving h ns room ≡ r →
+      Unwritten room (answers (saved_answer r) (room_after h ns room))
   unfolding room_after when◌then◌else◌
-  sheet_kept h ns z = by_test (eqb (saving h ns room).number 0) (λ e. clash refl (rw e at z)) (λ e. rw e)
+  saved_kept h ns (Ok n) e z = clash refl z
+  saved_kept h ns (Err r) e z = rw e
+
+  sheet_kept : (h : Hall) (ns : Names) → Unwritten room (answers (saved_answer (saving h ns room)) (room_after h ns room))
+  sheet_kept h ns = saved_kept h ns (saving h ns room) refl
 
   save_kept : (d : List ℕ) → Unwritten room (save_on d room)
   save_kept d = by_if (Unwritten room) (formed d) (λ _. sheet_kept (hall_at d) (names_at d)) (λ _ _. refl)

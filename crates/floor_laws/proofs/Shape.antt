@@ -121,7 +121,7 @@ module _ (d : Desk) (k : Right d) where
     takes t n a b = record { kind = (a, b); to = length-set l.desk.hall.present t false ∙ whole }
 
     pub fits : way.Way d x l → ReportFits l.report
-    fits (way.refuses a n u v q m) = rw m.1 (record { first = silent; second = silent; marks = unmarked })
+    fits (way.refuses r u v q m) = rw m.1 (record { first = silent; second = silent; marks = unmarked })
     fits (way.grants_holder t p e b a w n q m) =
         let s : Small e = rw w at k.narrow.core.holder in
         rw m.1 (record { first = to_one (say.Granted e.priority) s.1 e.seat; second = silent; marks = unmarked })

@@ -2,7 +2,8 @@
 use Rattle.desk_octets.specs.Places.{desk_size}
 use Prim.Native.Nat.{ℕ, ◌≤◌, ◌<◌}
 use native.Mathlib.Omega.{arith}
-use mathlib.Core.Path.{◌≡◌, refl, ap, ◌∙◌, sym}
+use mathlib.Core.Path.{◌≡◌, ap, ◌∙◌, sym, subst}
+use Rattle.std.proofs.Common.{Ok, IsOk}
 use mathlib.Core.Bool.{true, false}
 use mathlib.Core.List.{List}
 use lib.ListN.{length, take}
@@ -16,19 +17,19 @@ use Rattle.events.specs.declared.Desk.{Desk}
 use Rattle.sheet.specs.Layout.{seats_of, sheet_of}
 use Rattle.loading.specs.Loading.{loading}
 use Rattle.saving.specs.Saving.{too_short, saving, written_by}
-use Rattle.sheet_laws.specs.Sheets.{IsDesk}
+use Rattle.sheet_laws.specs.Sheets.{IsDesk, LoadsAs}
 use Rattle.sheet_laws.proofs.Saved.{saves as saves-all, written as written_All}
 use Rattle.sheet_laws.proofs.Back.{saved_loads}
 use Rattle.sheet_laws.proofs.Again.{loads_at_level_0, written_back}
-use Rattle.desk_octets.specs.Form.{core_at, hall_at, names_at}
+use Rattle.desk_octets.specs.Form.{hall_at, names_at}
 use Rattle.desk_test.specs.Lent.{formed}
 use Rattle.signed.specs.Signed.{signed, answers, is_done}
 use Rattle.desk_looking.specs.Looking.{save_on}
 use Rattle.floor.specs.Promises.{SavePromise, LoadPromise}
-use Rattle.floor_laws.specs.Kept.{desk_in, loaded_as, LoadedIsSaved, SavedIsLoaded, SaveAnswers48}
+use Rattle.floor_laws.specs.Kept.{desk_in, desk_at, LoadedIsSaved, SavedIsLoaded, SaveAnswers48}
 use Rattle.floor_laws.proofs.Desks.{right_at}
 use Rattle.floor_laws.proofs.Made.{first_over}
-use Rattle.floor_laws.proofs.Loaded.{loads, loaded_number, loaded-stands}
+use Rattle.floor_laws.proofs.Loaded.{loads, loaded_desk, loaded-stands}
 use borrow.Author.Tests.{eqb-true, eqb-false, ltb-true, ltb-false}
 use Rattle.saving.proofs.Saves.{saves_none, room_kept, saves_no_room, room_untouched, saves_whole, room_written}
 use Rattle.identities.specs.declared.Names.{Names}
@@ -95,27 +96,26 @@ module _ (d room : List ℕ) where
 
 -- at level 0 a room as long as the sheet has the sheet written into it
 module _ (h : Hall) (ns : Names) (e : h.settings.normal ≡ 0) where
-  its_room : (saving h ns (sheet_of h ns)).number ≡ 0
+  its_room : IsOk (saving h ns (sheet_of h ns))
   its_room = saves-all h ns (sheet_of h ns) e (omega arith)
 
   its_sheet : written_by h ns (sheet_of h ns) ≡ sheet_of h ns
   its_sheet = written_All h ns (sheet_of h ns) its_room
 
-sheet_back : (s : List ℕ) → Octets s → (loading s).number ≡ 0 → sheet_of (loading s).hall (loading s).names ≡ s
-sheet_back s o a =
-    let h = (loading s).hall in
-    let ns = (loading s).names in
-    let e = loads_at_level_0 s o a in
-    sym (its_sheet h ns e) ∙ (written_back s (sheet_of h ns) o a).octets (its_room h ns e)
+sheet_back : (s : List ℕ) (d : Desk) → Octets s → loading s ≡ Ok d → sheet_of d.hall d.names ≡ s
+sheet_back s d o a =
+    let e = loads_at_level_0 s d o a in
+    sym (its_sheet d.hall d.names e) ∙ (written_back s (sheet_of d.hall d.names) d o a).octets (its_room d.hall d.names e)
 
 pub loaded_is_saved : LoadedIsSaved
 loaded_is_saved desk s m desk' p z o room n room' q l =
     let d = desk_in desk' in
     let h = loaded-stands desk s m desk' p z o in
+    let k = loaded_desk desk s m desk' p z o in
     let e : sheet d room ≡ s =
-    ap (λ (k : Desk). sheet_of k.hall k.names) h.stands ∙ sheet_back s o (loaded_number desk s m desk' p z o) in
+    ap (λ (x : Desk). sheet_of x.hall x.names) h.stands ∙ sheet_back s k.desk o k.is in
     let v : level d room ≡ 0 =
-    ap (λ (k : Desk). k.hall.settings.normal) h.stands ∙ loads_at_level_0 s o (loaded_number desk s m desk' p z o) in
+    ap (λ (x : Desk). x.hall.settings.normal) h.stands ∙ loads_at_level_0 s k.desk o k.is in
     let w : (n, room') ≡ answers (result (length s)) (over room 0 s) =
     q ∙ rw e at (saves d room h.in_form v (rw e l)) in
     (ap (λ (v : ℤ × List ℕ). v.0) w, ap (λ (v : ℤ × List ℕ). v.1) w)
@@ -125,26 +125,18 @@ module _ (d desk : List ℕ) (m : ℤ) (desk' : List ℕ) where
   taken : (s : List ℕ) → s ≡ sheet_of (hall_at d) (names_at d) → LoadPromise desk s m desk' → Octets s → desk_size ≤ length desk →
       Octets d →
       formed d ≡ true → (hall_at d).settings.normal ≡ 0 →
-      (m ≡ signed (result 0)) × IsDesk (loaded_as (desk_in desk')) (seats_of (hall_at d) (names_at d)) (hall_at d).settings
+      (m ≡ signed (result 0)) × IsDesk (desk_at (desk_in desk')) (seats_of (hall_at d) (names_at d)) (hall_at d).settings
   taken s e p o l k q v =
-      let i : IsDesk (loading s) (seats_of (hall_at d) (names_at d)) (hall_at d).settings =
+      let i : LoadsAs s (seats_of (hall_at d) (names_at d)) (hall_at d).settings =
       rw (e ∙ sym (its_sheet (hall_at d) (names_at d) v))
       (saved_loads (hall_at d) (names_at d) (sheet_of (hall_at d) (names_at d)) (right_at d k q).sound.seats
       (its_room (hall_at d) (names_at d) v)) in
-      let z : m ≡ signed (result 0) = ap (λ (w : ℤ × List ℕ). w.0) p ∙ loads desk s i.accepted l in
+      let z : m ≡ signed (result 0) = ap (λ (w : ℤ × List ℕ). w.0) p ∙ loads desk s i.desk i.accepted l in
       let h = loaded-stands desk s m desk' p (ap is_done z) o in
-      let c : core_at (desk_in desk') ≡ (loading s).core = ap (λ (x : Desk). x.core) h.stands in
-      let a : hall_at (desk_in desk') ≡ (loading s).hall = ap (λ (x : Desk). x.hall) h.stands in
-      let b : names_at (desk_in desk') ≡ (loading s).names = ap (λ (x : Desk). x.names) h.stands in (
-        z,
-        record {
-          accepted = refl;
-          is_fresh = c ∙ i.is_fresh;
-          settings = ap (λ (x : Hall). x.settings) a ∙ i.settings;
-          seats = rw (a, b) i.seats;
-          numbered = λ t u. rw a (i.numbered t u);
-        },
-      )
+      let made = loaded_desk desk s m desk' p (ap is_done z) o in
+      let both : Ok made.desk ≡ Ok i.desk = sym made.is ∙ i.accepted in
+      let same : made.desk ≡ i.desk = cc in
+      (z, subst (λ (x : Desk). IsDesk x (seats_of (hall_at d) (names_at d)) (hall_at d).settings) (sym (h.stands ∙ same)) i.is)
 
 pub saved_is_loaded : SavedIsLoaded
 saved_is_loaded d room n room' p k desk m desk' q o l =

@@ -5,7 +5,7 @@
 -- beside it. Octets are numbers below 256, as all that is lent. Assumes nothing.
 use Rattle.report_octets.specs.Places.{report_size}
 use Rattle.desk_octets.specs.Places.{desk_size}
-use Rattle.std.specs.Prelude.{ℕ, ◌/◌, ◌≤◌, ◌<◌, ◌≡◌, true, false, List, [], ◌∷◌, length, take, ℤ, pos}
+use Rattle.std.specs.Prelude.{ℕ, ◌/◌, ◌≤◌, ◌<◌, ◌≡◌, true, false, List, [], ◌∷◌, Option, Some, None, length, take, ℤ, pos}
 use Rattle.octets.specs.Octets.{over, Octets}
 use Rattle.words.specs.Choice.{when◌then◌else◌}
 use Rattle.message.specs.Answers.{refused, result}
@@ -23,7 +23,7 @@ use Rattle.timers.specs.Timers.{timer_named}
 use Rattle.history.specs.Doing.{Doing, event, packet, leaves, joins, made, does, after_all, Fresh}
 use Rattle.sheet.specs.Layout.{Seat, seats_of}
 use Rattle.sheet.specs.Framing.{seat_count}
-use Rattle.loading.specs.Loading.{Load, Seats, whole, fault, settings_on, read_seats}
+use Rattle.loading.specs.Loading.{settings_on, read_seats}
 use Rattle.sheet_laws.specs.Sheets.{IsDesk}
 use Rattle.desk_octets.specs.Form.{octets_of_desk, core_at, hall_at, names_at}
 use Rattle.report_octets_laws.specs.Reported.{ReportFits}
@@ -231,9 +231,9 @@ abbrev pub joins_of : List Seat → List Doing
 joins_of [] = []
 joins_of (x ∷ xs) = joins x.identity x.who ∷ joins_of xs
 
-abbrev pub seated_from : Seats → List Doing
-seated_from (whole xs) = joins_of xs
-seated_from fault = []
+abbrev pub seated_from : Option (List Seat) → List Doing
+seated_from (Some xs) = joins_of xs
+seated_from None = []
 
 abbrev pub joins_on : List ℕ → List Doing
 joins_on sheet = seated_from (read_seats (seat_count sheet) sheet 0)
@@ -261,15 +261,12 @@ LoadedIsSaved =
 -- "SEATS AND SETTINGS ARE SAVED FROM ANY DESK" (proofs/Sheets): what `floor_save` wrote, `floor_load` takes, in any room that is long
 -- enough, and leaves a fresh desk with the same seats, numbered from 0 in their order, and the same settings
 
-abbrev pub loaded_as : List ℕ → Load
-loaded_as d = record { number = 0; core = core_at d; hall = hall_at d; names = names_at d }
-
 abbrev pub SavedIsLoaded : Type 0
 SavedIsLoaded =
     (d room : List ℕ) (n : ℕ) (room' : List ℕ) → SavePromise d room (pos n) room' → Octets d →
     let sheet = take n room' in
     (desk : List ℕ) (m : ℤ) (desk' : List ℕ) → LoadPromise desk sheet m desk' → Octets sheet → desk_size ≤ length desk →
-    (m ≡ signed (result 0)) × IsDesk (loaded_as (desk_in desk')) (seats_of (hall_at d) (names_at d)) (hall_at d).settings
+    (m ≡ signed (result 0)) × IsDesk (desk_at (desk_in desk')) (seats_of (hall_at d) (names_at d)) (hall_at d).settings
 
 -- "48, ON SAVING AT ANOTHER LEVEL, BEFORE 13" (document 02, #101; proofs/Sheets): `floor_save` answers it to a desk exactly if its normal
 -- level is not 0, whatever the room

@@ -1,14 +1,11 @@
 -- What happens, as an event, and what it is to a seat (document 01, "The desk"): who asks for the floor and at which priority, who gives it
 -- or its place up, and when the call stops. Assumes nothing.
-use Rattle.std.specs.Prelude.{ℕ, Bool, true, false, eqb}
+use Rattle.std.specs.Prelude.{ℕ, Bool, true, false, eqb, Option, Some, None}
 use Rattle.message.specs.Answers.{Answer, refused, result}
 use Rattle.message.specs.declared.Message.{Message}
 use Rattle.reading.specs.Reading.{reading}
 use Rattle.packet_events.specs.PacketEvents.{event_of}
 use Rattle.hall.specs.declared.Hall.{Hall}
-use Rattle.hall.specs.declared.Asked.{Asked}
-use Rattle.hall.specs.declared.Found.{Found}
-use Rattle.hall.specs.declared.Found.TheVariants.{At, Nowhere}
 use Rattle.hall.specs.Seats.{effective, seat_of, finds}
 use Rattle.events.specs.declared.Event.{Event}
 use Rattle.events.specs.declared.Event.TheVariants.{Start, Stop, Expiry, Request, Release, Position, Media, Other}
@@ -36,9 +33,9 @@ pub data Asking : Type 0 where
   nobody : Asking
   asks : ℕ → ℕ → Asking
 
-abbrev pub from_seat : Hall → Asked → Found → Asking
-from_seat h a (At s) = asks s (effective h s a)
-from_seat h a Nowhere = nobody
+abbrev pub from_seat : Hall → Option ℕ → Option ℕ → Asking
+from_seat h a (Some s) = asks s (effective h s a)
+from_seat h a None = nobody
 
 abbrev pub asked_by : Hall → Event → Asking
 asked_by h (Request x a) = from_seat h a (seat_of h x)
@@ -79,15 +76,15 @@ gives_up h (leaves t) s = eqb t s
 gives_up h (joins o n) s = false
 
 -- the call stops: Stop, and T4, which is as Stop
-abbrev pub is_t4 : Timer → Bool
-is_t4 timer.T4 = true
-is_t4 timer.T1 = false
-is_t4 timer.T2 = false
-is_t4 timer.T3 = false
-is_t4 timer.T7 = false
-is_t4 timer.T8 = false
-is_t4 timer.T20 = false
-is_t4 timer.NoSuchTimer = false
+abbrev pub is_t4 : Option Timer → Bool
+is_t4 (Some timer.T4) = true
+is_t4 (Some timer.T1) = false
+is_t4 (Some timer.T2) = false
+is_t4 (Some timer.T3) = false
+is_t4 (Some timer.T7) = false
+is_t4 (Some timer.T8) = false
+is_t4 (Some timer.T20) = false
+is_t4 None = false
 
 abbrev pub stops_by : Event → Bool
 stops_by Stop = true

@@ -7,7 +7,7 @@
 -- (and DoneIsARow in proofs/Rows), from the same statements of the rules' desk (demands/specs/Demands), whose counting is used here too.
 -- Assumes nothing.
 use Rattle.std.specs.Prelude.{ℕ, suc, ◌+◌, ◌*◌, ◌≤◌, ◌<◌, ◌≡◌, Bool, true, false, ◌||◌, List, [], ◌∷◌, ◌++◌, ℤ, pos, negsuc, length, get_or}
-use Rattle.std.specs.Prelude.{take}
+use Rattle.std.specs.Prelude.{take, Option, Some, None}
 use Rattle.report_octets.specs.Places.{report_size}
 use Rattle.words.specs.Choice.{one}
 use Rattle.octets.specs.Octets.{Octets}
@@ -16,8 +16,6 @@ use Rattle.line.specs.declared.Entry.{Entry}
 use Rattle.line.specs.Line.{is_in}
 use Rattle.hall.specs.declared.Settings.{Settings}
 use Rattle.hall.specs.declared.Hall.{Hall}
-use Rattle.steps.specs.declared.Mark.{Mark}
-use Rattle.steps.specs.declared.Mark.TheVariants.{NoSeat, Seat}
 use Rattle.steps.specs.declared.Given.TheVariants.{OutOfLine}
 use Rattle.steps.specs.declared.Marks.{Marks}
 use Rattle.steps.specs.declared.Report.{Report}
@@ -103,14 +101,14 @@ pub record Look (d : List ℕ) : Type 0 where
 abbrev pub entries_in : List ℕ → ℕ → List Entry
 entries_in s n = column (λ i. entry_of (get_or s (2 * i) 0) (get_or s (2 * i + 1) 0)) 0 n
 
-abbrev pub seat_answered : ℤ → Mark
-seat_answered (pos n) = Seat n
-seat_answered (negsuc n) = NoSeat
+abbrev pub seat_answered : ℤ → Option ℕ
+seat_answered (pos n) = Some n
+seat_answered (negsuc n) = None
 
 abbrev pub line : {d : List ℕ} → Look d → List Entry
 line l = entries_in l.shown l.count
 
-abbrev pub holder : {d : List ℕ} → Look d → Mark
+abbrev pub holder : {d : List ℕ} → Look d → Option ℕ
 holder l = seat_answered l.answer
 
 -- 30 octets are room enough for any line
@@ -159,7 +157,7 @@ GivenAndEnded = (d : List ℕ) (rows : List Row) → Ran d rows → (now : Look 
 
 -- 5. Nobody enters the line, leaves it, gets the floor or loses it without its mark; and the line and the holder now can be worked out from
 -- the marks and the requests alone.
-pub record Marked (old new : List Entry) (from to : Mark) (m : Marks) (s : ℕ) : Type 0 where
+pub record Marked (old new : List Entry) (from to : Option ℕ) (m : Marks) (s : ℕ) : Type 0 where
   pub enters : is_in s old ≡ false → is_in s new ≡ true → is_placed s m ≡ true
   pub goes : is_in s old ≡ true → is_in s new ≡ false → (is_struck s m || is_given_out s m) ≡ true
   pub gets : is_seat from s ≡ false → is_seat to s ≡ true → is_given_any s m ≡ true

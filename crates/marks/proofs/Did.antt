@@ -15,7 +15,7 @@ use Rattle.hall.specs.Seats.{only, receives_only}
 use Rattle.steps.specs.declared.Phase.{Phase}
 use Rattle.steps.specs.declared.Phase.TheVariants.{Stopped}
 use Rattle.steps.specs.declared.Core.{Core}
-use Rattle.steps.specs.declared.Mark.TheVariants.{NoSeat, Seat}
+use Rattle.std.specs.Prelude.{Some, None}
 use Rattle.steps.specs.declared.Given.TheVariants.{NotGiven, AtOnce, OutOfLine}
 use Rattle.steps.specs.declared.Marks.{Marks}
 use Rattle.steps.specs.declared.Report.{Report}
@@ -40,10 +40,10 @@ pub data Did (d : Desk) (x : Doing) (new : Core) (m : Marks) : Type 0 where
   rests : ((t p : ℕ) → asking d.hall x ≡ asks t p → Unmoved d.core d.hall t p) → waiting new.line ≡ waiting d.core.line →
       ((s : ℕ) → holds new.phase s ≡ holds d.core.phase s) → m ≡ no_marks → Did d x new m
   gives : (t p : ℕ) → asking d.hall x ≡ asks t p → is_idle d.core.phase ≡ true → waiting new.line ≡ waiting d.core.line →
-      ((s : ℕ) → holds new.phase s ≡ eqb t s) → m ≡ marks NoSeat no_seats NoSeat (AtOnce t) → Did d x new m
+      ((s : ℕ) → holds new.phase s ≡ eqb t s) → m ≡ marks None no_seats None (AtOnce t) → Did d x new m
   places : (t p : ℕ) → asking d.hall x ≡ asks t p → is_in t (waiting d.core.line) ≡ false → receives_only d.hall t ≡ false →
       waiting new.line ≡ enter (entry_of t p) (waiting d.core.line) → ((s : ℕ) → holds new.phase s ≡ holds d.core.phase s) →
-      m ≡ marks (Seat t) no_seats NoSeat NotGiven → Did d x new m
+      m ≡ marks (Some t) no_seats None NotGiven → Did d x new m
   shifts : (t p : ℕ) → t < 16 → asking d.hall x ≡ asks t p → is_in t (waiting d.core.line) ≡ true →
       (priority_of t (waiting d.core.line) ≡ p → ⊥) →
       waiting new.line ≡ enter (entry_of t p) (without (only t) (waiting d.core.line)) →
@@ -51,18 +51,18 @@ pub data Did (d : Desk) (x : Doing) (new : Core) (m : Marks) : Type 0 where
       m ≡ no_marks → Did d x new m
   strikes : (t : ℕ) → t < 16 → asking d.hall x ≡ nobody → gives_up d.hall x t ≡ true → is_in t (waiting d.core.line) ≡ true →
       waiting new.line ≡ without (only t) (waiting d.core.line) → ((s : ℕ) → holds new.phase s ≡ holds d.core.phase s) →
-      m ≡ marks NoSeat (only t) NoSeat NotGiven → Did d x new m
+      m ≡ marks None (only t) None NotGiven → Did d x new m
   passes : (t : ℕ) (e : Entry) (es : List Entry) → asking d.hall x ≡ nobody → holds d.core.phase t ≡ true → e.seat < 16 →
       waiting d.core.line ≡ e ∷ es → waiting new.line ≡ without (only e.seat) (e ∷ es) →
       ((s : ℕ) → holds new.phase s ≡ eqb e.seat s) →
-      m ≡ marks NoSeat no_seats (Seat t) (OutOfLine e.seat) → Did d x new m
+      m ≡ marks None no_seats (Some t) (OutOfLine e.seat) → Did d x new m
   frees : (t : ℕ) → asking d.hall x ≡ nobody → holds d.core.phase t ≡ true → waiting d.core.line ≡ [] →
       waiting new.line ≡ [] →
-      ((s : ℕ) → holds new.phase s ≡ false) → m ≡ marks NoSeat no_seats (Seat t) NotGiven → Did d x new m
+      ((s : ℕ) → holds new.phase s ≡ false) → m ≡ marks None no_seats (Some t) NotGiven → Did d x new m
   halts : (t : ℕ) → stops_call x ≡ true → holds d.core.phase t ≡ true → waiting new.line ≡ [] → new.phase ≡ Stopped →
-      m ≡ marks NoSeat (seat_set (waiting d.core.line)) (Seat t) NotGiven → Did d x new m
+      m ≡ marks None (seat_set (waiting d.core.line)) (Some t) NotGiven → Did d x new m
   closes : stops_call x ≡ true → is_idle d.core.phase ≡ true → waiting new.line ≡ [] → new.phase ≡ Stopped →
-      m ≡ marks NoSeat (seat_set (waiting d.core.line)) NoSeat NotGiven → Did d x new m
+      m ≡ marks None (seat_set (waiting d.core.line)) None NotGiven → Did d x new m
 
 module _ (d : Desk) (x : Doing) (l : Outcome) (f : Fit d.core d.hall) where
   abbrev line : List Entry
@@ -108,7 +108,7 @@ module _ (d : Desk) (x : Doing) (l : Outcome) (f : Fit d.core d.hall) where
 
   pub did : way.Way d x l → Did d x l.desk.core l.report.marks
   unfolding waits full priority_in
-  did (way.refuses a n u v q m) = same u (core_line (desk_core q)) (core_holds (desk_core q)) (report_marks m.1)
+  did (way.refuses r u v q m) = same u (core_line (desk_core q)) (core_holds (desk_core q)) (report_marks m.1)
   did (way.grants_holder t p e b a k h q m) = same (this t p a (holder h)) (core_line q) (core_holds q) (report_marks m.1)
   did (way.denies t p n a s u b q m) = same (this t p a u) (core_line (desk_core q)) (core_holds (desk_core q)) (report_marks m.1)
   did (way.gives t p a s i q m) = gives t p a i (ap waiting (core_line q)) (core_holds q) (report_marks m.1)

@@ -2,13 +2,11 @@
 -- (document 01, "The desk"). What a report's marks say of a seat and what the step did to it are two accounts, and they agree: in every
 -- step, of every desk whose line fits, for every seat. The statement here is proved in proofs/, in the file named beside it. Assumes
 -- nothing.
-use Rattle.std.specs.Prelude.{ℕ, ◌+◌, ◌≤◌, ◌<◌, ◌≡◌, Bool, true, false, eqb, length, get_or}
+use Rattle.std.specs.Prelude.{ℕ, ◌+◌, ◌≤◌, ◌<◌, ◌≡◌, Bool, true, false, eqb, length, get_or, Option, Some, None}
 use Rattle.words.specs.Choice.{one}
 use Rattle.line.specs.Line.{waiting, is_in}
 use Rattle.hall.specs.declared.Hall.{Hall}
 use Rattle.steps.specs.declared.Core.{Core}
-use Rattle.steps.specs.declared.Mark.{Mark}
-use Rattle.steps.specs.declared.Mark.TheVariants.{NoSeat, Seat}
 use Rattle.steps.specs.declared.Given.{Given}
 use Rattle.steps.specs.declared.Given.TheVariants.{NotGiven, AtOnce, OutOfLine}
 use Rattle.steps.specs.declared.Marks.{Marks}
@@ -17,9 +15,9 @@ use Rattle.request.specs.Request.{waits}
 use Rattle.events.specs.declared.Desk.{Desk}
 use Rattle.history.specs.Doing.{Doing, does}
 
-abbrev pub is_seat : Mark → ℕ → Bool
-is_seat NoSeat s = false
-is_seat (Seat t) s = eqb t s
+abbrev pub is_seat : Option ℕ → ℕ → Bool
+is_seat None s = false
+is_seat (Some t) s = eqb t s
 
 abbrev pub is_given : Given → ℕ → Bool
 is_given NotGiven s = false

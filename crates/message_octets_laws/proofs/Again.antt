@@ -5,6 +5,7 @@ use mathlib.Core.Bool.{Bool, true, ◌&&◌}
 use mathlib.Core.List.{List}
 use mathlib.Core.Path.{◌≡◌, refl, sym, ap, ◌∙◌}
 use lib.ListN.{length, take, drop}
+use Rattle.std.specs.Prelude.{Option, None, Some}
 use lib.Seq.{take-append_seam}
 use borrow.Author.Tests.{leb-true, le-ltb}
 use Rattle.words.specs.Below.{and_left, and_right}
@@ -13,7 +14,7 @@ use Rattle.octets.specs.Octets.{over, octets16, octets32}
 use Rattle.message.specs.Answers.{result}
 use Rattle.message.specs.Message.{said, complete, part_lies, phrase_lies, lies}
 use Rattle.message.specs.declared.Part.{Part}
-use Rattle.message.specs.declared.Cause.{Cause}
+use Rattle.message.specs.declared.RejectCause.{RejectCause}
 use Rattle.message.specs.declared.Message.{Message}
 use Rattle.reading.specs.Reading.{reading}
 use Rattle.writing.specs.Wire.{wire}
@@ -23,7 +24,7 @@ use Rattle.packet_laws.specs.Again.{WrittenAgain}
 use Rattle.header.proofs.Openings.{opened_by}
 use Rattle.reading.proofs.Judges.{read_by}
 use Rattle.packet_laws.proofs.Again.{read_is_written}
-use Rattle.message_octets.specs.Held.{Is, phrase_in, head_octets, first_octets, next_octets, place_octets, part_octets, held_octets}
+use Rattle.message_octets.specs.Held.{phrase_in, head_octets, first_octets, next_octets, part_in_four, part_octets, held_octets}
 use Rattle.message_octets.specs.Held.{held_at}
 use Rattle.message_octets.specs.Held.{kept_in}
 use Rattle.message_octets.proofs.Answers.{kept_is}
@@ -32,15 +33,15 @@ use Rattle.message_octets_laws.proofs.Back.{held_back}
 use Rattle.message_octets.specs.Places.{message_size}
 
 -- the parts of a message that was read lie in a packet of at most 1,024 octets
-near_part : (s : List ℕ) (p : Part) → length s ≤ 1024 → part_lies s p ≡ true → NearPart p
-near_part s Part.Absent h e = record { start = omega arith; count = omega arith }
-near_part s (Part.At from count) h e =
-    let l : from + count ≤ length s = leb-true (from + count) (length s) e in
+near_part : (s : List ℕ) (p : Option Part) → length s ≤ 1024 → part_lies s p ≡ true → NearPart p
+near_part s None h e = record { start = omega arith; count = omega arith }
+near_part s (Some p) h e =
+    let l : p.from + p.count ≤ length s = leb-true (p.from + p.count) (length s) e in
     record { start = omega arith; count = omega arith }
 
-near_phrase : (s : List ℕ) (c : Cause) → length s ≤ 1024 → phrase_lies s c ≡ true → NearPart (phrase_in c)
-near_phrase s Cause.Absent h e = near_part s Part.Absent h e
-near_phrase s (Cause.Is cause from count) h e = near_part s (Part.At from count) h e
+near_phrase : (s : List ℕ) (c : Option RejectCause) → length s ≤ 1024 → phrase_lies s c ≡ true → NearPart (phrase_in c)
+near_phrase s None h e = near_part s None h e
+near_phrase s (Some c) h e = near_part s (Some c.phrase) h e
 
 short_packet : (s : List ℕ) (m : Message) → reading s ≡ result m → length s ≤ 1024
 short_packet s m e = let r = read_by s m e in (opened_by s r.kind r.opens).short
@@ -61,7 +62,7 @@ near s m e r =
 
 -- the first 40 octets of the room are those of the message
 front : (kept : List ℕ) (m : Message) → take message_size (over kept 0 (held_octets m)) ≡ held_octets m
-unfolding over held_octets head_octets first_octets next_octets part_octets place_octets octets16 octets32
+unfolding over held_octets head_octets first_octets next_octets part_octets part_in_four octets16 octets32
 front kept m = take-append_seam (held_octets m) (drop (0 + length (held_octets m)) kept)
 
 writes : (m : Message) (src room : List ℕ) → readable m src ≡ true → length (wire (said m src)) ≤ length room
@@ -74,7 +75,7 @@ unfolding written
 read_then_written packet kept room m e h l =
     let a : WrittenAgain packet m = read_is_written packet m e in
     let k = kept_is packet kept m (over kept 0 (held_octets m)) e h refl in
-    let held : held_at (take message_size (kept_in packet kept)) ≡ Is m =
+    let held : held_at (take message_size (kept_in packet kept)) ≡ Some m =
     ap (λ (x : List ℕ). held_at (take message_size x)) (sym k.1) ∙ ap held_at (front kept m)
     ∙ held_back m (near packet m e a.accepted) in
     let w : writing m packet (length room) ≡ result (length (wire (said m packet))) =

@@ -11,8 +11,7 @@ use Rattle.message.specs.Answers.{Answer, refused, result}
 use Rattle.message.specs.Types.{typed}
 use Rattle.message.specs.Message.{said, complete}
 use Rattle.message.specs.declared.MessageType.{MessageType}
-use Rattle.message.specs.declared.Typed.{Typed}
-use Rattle.message.specs.declared.Typed.TheVariants.{Listed, Unlisted}
+use Rattle.std.specs.Prelude.{Option, None, Some}
 use Rattle.message.specs.declared.Message.{Message}
 use Rattle.field.specs.declared.FieldFound.{FieldFound}
 use Rattle.field.specs.declared.FieldStep.{FieldStep}
@@ -61,9 +60,9 @@ judged-numbered k s (fault n) e = e
 judged-numbered k s (whole fs) e =
     by_if Numbered (complete (said (message_at k s (start_of fs)) s)) (λ t. tt) (λ t. omega arith)
 
-type_numbered : (t : Typed) → Numbered (of_type t)
-type_numbered Unlisted = omega arith
-type_numbered (Listed k) = tt
+type_numbered : (t : Option MessageType) → Numbered (of_type t)
+type_numbered None = omega arith
+type_numbered (Some k) = tt
 
 some : (n : ℕ) → 1 ≤ suc n
 some n = omega arith

@@ -1,4 +1,5 @@
 -- With level 0 nothing differs from document 01, since settings stay; no field counts as the level. Assumes nothing.
+use Rattle.std.proofs.Common.{Option, Some, None, Result, Ok, Err, is_some}
 use Prim.Native.Nat.{ℕ}
 use mathlib.Core.Bool.{not}
 use mathlib.Core.List.{List, [], ◌∷◌}
@@ -8,13 +9,10 @@ use Rattle.message.specs.Answers.{Answer, refused, result}
 use Rattle.message.specs.declared.Message.{Message}
 use Rattle.reading.specs.Reading.{reading}
 use Rattle.hall.specs.declared.Settings.{Settings}
+use Rattle.hall.specs.declared.Refusal.{Refusal}
 use Rattle.hall.specs.declared.Hall.{Hall}
 use Rattle.hall.specs.declared.Newcomer.{Newcomer}
-use Rattle.hall.specs.declared.Asked.{Asked}
-use Rattle.hall.specs.declared.Asked.TheVariants.{Priority, NoField}
-use Rattle.hall.specs.declared.Found.{Found}
-use Rattle.hall.specs.declared.Found.TheVariants.{At, Nowhere}
-use Rattle.hall.specs.Seats.{is_present, is_at, effective, free_seat, with_seat}
+use Rattle.hall.specs.Seats.{is_present, effective, free_seat, with_seat}
 use Rattle.identities.specs.declared.Names.{Names}
 use Rattle.identities.specs.Identity.{seat_named, length_allowed}
 use Rattle.joining.specs.declared.Joined.{Joined}
@@ -22,8 +20,6 @@ use Rattle.joining.specs.Join.{ssrc_taken, seated, join}
 use Rattle.steps.specs.declared.Core.{Core}
 use Rattle.steps.specs.declared.Step.{Step}
 use Rattle.request.specs.Request.{request}
-use Rattle.events.specs.declared.Caller.{Caller}
-use Rattle.events.specs.declared.Caller.TheVariants.{Sits, Refused}
 use Rattle.events.specs.declared.Event.{Event}
 use Rattle.events.specs.declared.Event.TheVariants.{Start, Stop, Expiry, Request, Release, Position, Media, Other}
 use Rattle.events.specs.declared.Desk.{Desk}
@@ -38,16 +34,16 @@ module _ (h : Hall) (ns : Names) (o : List ℕ) (n : Newcomer) where
   abbrev Same : Joined → Type 0
   Same j = j.hall.settings ≡ h.settings
 
-  seated-same : (f : Found) → Same (seated h ns o n f)
+  seated-same : (f : Option ℕ) → Same (seated h ns o n f)
   unfolding seated with_seat
-  seated-same (At s) = refl
-  seated-same Nowhere = refl
+  seated-same (Some s) = refl
+  seated-same None = refl
 
   join-same : Same (join h ns o n)
   unfolding join
   join-same =
       by_if Same (not (length_allowed o)) (λ _. refl)
-      (λ _. by_if Same (is_at (seat_named h ns o)) (λ _. refl)
+      (λ _. by_if Same (is_some (seat_named h ns o)) (λ _. refl)
       (λ _. by_if Same (ssrc_taken h n.ssrc) (λ _. refl) (λ _. seated-same (free_seat h))))
 
 pub settings_stay : SettingsStay
@@ -65,15 +61,15 @@ counts_as_level c h x = refl
 
 -- with level 0 nothing differs
 module _ (h : Hall) (z : h.settings.normal ≡ 0) where
-  effective-same : (s : ℕ) (a : Asked) → effective h s a ≡ effective01 h s a
+  effective-same : (s : ℕ) (a : Option ℕ) → effective h s a ≡ effective01 h s a
   unfolding effective
-  effective-same s (Priority p) = refl
-  effective-same s NoField = rw z
+  effective-same s (Some p) = refl
+  effective-same s None = rw z
 
-  heard-same : (c : Core) (who : Caller) (a : Asked) →
+  heard-same : (c : Core) (who : Result ℕ Refusal) (a : Option ℕ) →
       heard c who (λ s. request c h s (effective h s a)) ≡ heard c who (λ s. request c h s (effective01 h s a))
-  heard-same c (Sits s) a = ap (request c h s) (effective-same s a)
-  heard-same c (Refused n) a = refl
+  heard-same c (Ok s) a = ap (request c h s) (effective-same s a)
+  heard-same c (Err n) a = refl
 
   step_same : (c : Core) (e : Event) → step c h e ≡ step01 c h e
   unfolding step

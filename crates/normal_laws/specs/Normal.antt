@@ -1,12 +1,10 @@
 -- The normal level (document 02, #101) beside document 01, which took no Floor Priority field for 0. Each statement here is proved in
 -- proofs/Normal. Assumes nothing.
-use Rattle.std.specs.Prelude.{ℕ, List, [], ◌∷◌, ◌≡◌, get_or}
+use Rattle.std.specs.Prelude.{ℕ, List, [], ◌∷◌, ◌≡◌, get_or, Option, Some, None}
 use Rattle.message.specs.Answers.{Answer, refused, result}
 use Rattle.message.specs.declared.Message.{Message}
 use Rattle.reading.specs.Reading.{reading}
 use Rattle.hall.specs.declared.Hall.{Hall}
-use Rattle.hall.specs.declared.Asked.{Asked}
-use Rattle.hall.specs.declared.Asked.TheVariants.{Priority, NoField}
 use Rattle.hall.specs.Seats.{lower}
 use Rattle.steps.specs.declared.Core.{Core}
 use Rattle.steps.specs.declared.Step.{Step}
@@ -21,11 +19,11 @@ use Rattle.history.specs.Doing.{Doing, event, packet, leaves, joins, does, after
 
 -- THE DESK OF DOCUMENT 01
 -- "The effective priority is the lower of the one asked and the seat's highest. No Floor Priority field counts as 0."
-abbrev pub asked01 : Asked → ℕ
-asked01 (Priority p) = p
-asked01 NoField = 0
+abbrev pub asked01 : Option ℕ → ℕ
+asked01 (Some p) = p
+asked01 None = 0
 
-abbrev pub effective01 : Hall → ℕ → Asked → ℕ
+abbrev pub effective01 : Hall → ℕ → Option ℕ → ℕ
 effective01 h s a = lower (asked01 a) (get_or h.highest s 0)
 
 -- its steps: a request by that priority; no other event asks for one
@@ -61,7 +59,7 @@ NothingDiffers = (d : Desk) → d.hall.settings.normal ≡ 0 → (xs : List Doin
 -- "A REQUEST WITHOUT THE FIELD COUNTS AS THAT LEVEL": whatever the level, the phase and the seat, what comes of it is what comes of a
 -- request whose field says the level
 abbrev pub CountsAsLevel : Type 0
-CountsAsLevel = (c : Core) (h : Hall) (x : ℕ) → step c h (Request x NoField) ≡ step c h (Request x (Priority h.settings.normal))
+CountsAsLevel = (c : Core) (h : Hall) (x : ℕ) → step c h (Request x None) ≡ step c h (Request x (Some h.settings.normal))
 
 -- "THE DESK GETS A NORMAL LEVEL AMONG ITS SETTINGS": whatever happens to a desk, its settings stay
 abbrev pub SettingsStay : Type 0

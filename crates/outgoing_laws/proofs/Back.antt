@@ -15,25 +15,19 @@ use Rattle.message.specs.Table.{row_in, against, at_fault}
 use Rattle.message.specs.Message.{said, has, has_all, complete, lies}
 use Rattle.message.specs.declared.MessageType.{MessageType}
 use Rattle.message.specs.declared.MessageType.TheVariants as type
-use Rattle.message.specs.declared.Octet.{Octet}
-use Rattle.message.specs.declared.Word.{Word}
-use Rattle.message.specs.declared.Queue.{Queue}
-use Rattle.message.specs.declared.Part.{Part}
-use Rattle.message.specs.declared.Cause.{Cause}
+use Rattle.std.specs.Prelude.{Option, Some, None}
 use Rattle.message.specs.declared.Message.{Message}
 use Rattle.readable.specs.Readable.{all_fit, readable}
 use Rattle.packet_laws.proofs.Back.{read_back}
 use Rattle.hall.specs.declared.Settings.{Settings}
 use Rattle.steps.specs.declared.Kind.{Kind}
 use Rattle.steps.specs.declared.Kind.TheVariants as say
-use Rattle.outgoing.specs.declared.Outgoing.{Outgoing}
-use Rattle.outgoing.specs.declared.Outgoing.TheVariants.{Packet, Silence}
-use Rattle.outgoing.specs.Outgoing.{carrying, outgoing}
+use Rattle.outgoing.specs.Outgoing.{carrying, bare_cause, outgoing}
 use Rattle.outgoing_laws.specs.ReadsBack.{OutgoingReadsBack}
 
-abbrev Accepted : List ℕ → Outgoing → Type 0
-Accepted identity Silence = Unit {0}
-Accepted identity (Packet m) = readable m identity ≡ true
+abbrev Accepted : List ℕ → Option Message → Type 0
+Accepted identity None = Unit {0}
+Accepted identity (Some m) = readable m identity ≡ true
 
 -- the identity of Taken is the whole source, and of a length that the table has
 whole_length : (identity : List ℕ) → length (part identity 0 (length identity)) ≡ length identity
@@ -41,7 +35,7 @@ whole_length identity = length_part identity 0 (length identity) (omega arith)
 
 -- a cause with no phrase
 abbrev causing : MessageType → ℕ → ℕ → Message
-causing k ssrc why = carrying k ssrc Octet.Absent Word.Absent (Cause.Is why 0 0) Queue.Absent Part.Absent Word.Absent Word.Absent
+causing k ssrc why = carrying k ssrc None None (Some (bare_cause why)) None None None None
 
 caused : (ssrc why : ℕ) (identity : List ℕ) →
     (readable (causing type.Deny ssrc why) identity ≡ true) × (readable (causing type.Revoke ssrc why) identity ≡ true)

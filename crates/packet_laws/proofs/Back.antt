@@ -4,7 +4,7 @@ use native.Mathlib.Omega.{arith}
 use mathlib.Core.Bool.{Bool, true, false, ◌&&◌}
 use mathlib.Core.Path.{◌≡◌, refl, ap, ◌∙◌}
 use mathlib.Core.List.{List, [], ◌∷◌}
-use mathlib.Core.Option.{Option, none, some}
+use Rattle.std.specs.Prelude.{Option, None, Some}
 use lib.Dec.{eqb}
 use lib.ListN.{length, length-append}
 use borrow.Author.Tests.{not-true}
@@ -53,8 +53,8 @@ first_back false n h =
 -- the fields fill whole words, and there are never more than 1,024 octets of them and the head
 optional_words : (i : ℕ) (o : Option (List ℕ)) → length (optional i o) % 4 ≡ 0
 unfolding optional
-optional_words i none = refl
-optional_words i (some c) = rw length_laid (padded_whole (length_of i c))
+optional_words i None = refl
+optional_words i (Some c) = rw length_laid (padded_whole (length_of i c))
 
 body_words : (fs : List Field) → length (body fs) % 4 ≡ 0
 unfolding body
@@ -67,8 +67,8 @@ most (f ∷ fs) = (row_of f.id).greatest + 5 + most fs
 
 within : (i : ℕ) (o : Option (List ℕ)) → fits i o ≡ true → length (optional i o) ≤ (row_of i).greatest + 5
 unfolding optional
-within i none e = omega arith
-within i (some c) e =
+within i None e = omega arith
+within i (Some c) e =
     let l : length_of i c ≤ (row_of i).greatest = (agrees i (length_of i c) (be16 c 0) (not-true _ e)).greatest in
     rw length_laid (omega (arith, padded-most (length_of i c)))
 

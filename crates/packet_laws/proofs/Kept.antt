@@ -7,7 +7,7 @@ use mathlib.Core.Bool.{true, false}
 use mathlib.Core.Path.{◌≡◌, refl}
 use mathlib.Core.Logic.{inl, inr}
 use mathlib.Core.List.{List, [], ◌∷◌, ◌++◌}
-use mathlib.Core.Option.{Option, none, some}
+use Rattle.std.specs.Prelude.{Option, None, Some, option_map}
 use lib.ListN.{length, get_or, length-append}
 use borrow.Author.Tests.{le-leb}
 use Rattle.words.specs.Choice.{when◌then◌else◌}
@@ -15,14 +15,10 @@ use Rattle.octets.specs.Octets.{be16, be32, octets16, octets32, part}
 use Rattle.octets.proofs.Over.{length_part}
 use Rattle.message.specs.Table.{row_of, at_fault, length_of}
 use Rattle.message.specs.Message.{Field, of_octet, of_word, of_number, of_queue, of_part, of_cause, part_lies, phrase_lies}
-use Rattle.message.specs.declared.Octet.{Octet}
-use Rattle.message.specs.declared.Word.{Word}
-use Rattle.message.specs.declared.Number.{Number}
-use Rattle.message.specs.declared.Queue.{Queue}
 use Rattle.message.specs.declared.Part.{Part}
-use Rattle.message.specs.declared.Cause.{Cause}
+use Rattle.message.specs.declared.RejectCause.{RejectCause}
 use Rattle.message.proofs.Rows.{content_left}
-use Rattle.reading.specs.Reading.{octet_at, word_at, number_at, queue_at, part_at, cause_at}
+use Rattle.reading.specs.Reading.{there, octet_at, word_at, number_at, queue_at, part_at, cause_at}
 use Rattle.field_writing.specs.Wire.{optional, body}
 use Rattle.readable.specs.Readable.{fits, all_fit}
 use Rattle.octets.proofs.Numbers.{be16_of, length16, length32}
@@ -34,13 +30,13 @@ pub record Keeps (i size : ℕ) (o : Option (List ℕ)) : Type 0 where
   pub fit : fits i o ≡ true
   pub sized : length (optional i o) ≤ size
 
-nothing : (i size : ℕ) → Keeps i size none
+nothing : (i size : ℕ) → Keeps i size None
 unfolding optional
 nothing i size = record { fit = refl; sized = omega arith }
 
 -- content of the L that the reader met, and not at fault
 content : (s : List ℕ) (i at size : ℕ) (c : List ℕ) → Good s i at size → length_of i c ≡ get_or s (at - 1) 0 → at_fault i (be16 c 0) ≡ false
-    → Keeps i size (some c)
+    → Keeps i size (Some c)
 unfolding optional
 content s i at size c g l e =
     record {
@@ -59,73 +55,80 @@ Sound i = (n : ℕ) → at_fault i n ≡ false
 fixed : (s : List ℕ) (i at size n : ℕ) → Fixed i n → Good s i at size → n + (row_of i).spare ≡ get_or s (at - 1) 0
 fixed s i at size n f g = omega (arith, f.0, f.1, g.fit.least, g.fit.greatest)
 
+-- what is read at a start, where it is kept if there is a start
+kept : {X : Type 0} (octets : X → List ℕ) (s : List ℕ) (i at size : ℕ) (x : X) → (Good s i at size → Keeps i size (Some (octets x)))
+    → Judged s i at size → Keeps i size (option_map octets (there at x))
+unfolding when◌then◌else◌
+kept octets s i at size x keeps (inl z) = rw z (nothing i size)
+kept octets s i at size x keeps (inr g) = rw (given at None (Some x) g.starts) (keeps g)
+
 pub octet_kept : (s : List ℕ) (i at size : ℕ) → Fixed i 1 → Sound i → Judged s i at size → Keeps i size (of_octet (octet_at s at))
-unfolding octet_at when◌then◌else◌
-octet_kept s i at size f sound (inl z) = rw z (nothing i size)
-octet_kept s i at size f sound (inr g) =
-    rw (given at Octet.Absent (Octet.Is (get_or s at 0)) g.starts)
-    (content s i at size (get_or s at 0 ∷ []) g (fixed s i at size 1 f g) (sound (be16 (get_or s at 0 ∷ []) 0)))
+unfolding octet_at
+octet_kept s i at size f sound j =
+    kept (λ n. n ∷ []) s i at size (get_or s at 0)
+    (λ g. content s i at size (get_or s at 0 ∷ []) g (fixed s i at size 1 f g) (sound (be16 (get_or s at 0 ∷ []) 0))) j
 
 pub word_kept : (s : List ℕ) (i at size : ℕ) → Fixed i 2 → Judged s i at size → Keeps i size (of_word (word_at s at))
-unfolding word_at when◌then◌else◌
-word_kept s i at size f (inl z) = rw z (nothing i size)
-word_kept s i at size f (inr g) =
-    rw (given at Word.Absent (Word.Is (be16 s at)) g.starts)
-    (content s i at size (octets16 (be16 s at)) g (rw length16 (fixed s i at size 2 f g))
-    (rw (be16_of (be16 s at)) g.fit.content))
+unfolding word_at
+word_kept s i at size f j =
+    kept octets16 s i at size (be16 s at)
+    (λ g. content s i at size (octets16 (be16 s at)) g (rw length16 (fixed s i at size 2 f g)) (rw (be16_of (be16 s at)) g.fit.content)) j
 
 pub number_kept : (s : List ℕ) (i at size : ℕ) → Fixed i 4 → Sound i → Judged s i at size → Keeps i size (of_number (number_at s at))
-unfolding number_at when◌then◌else◌
-number_kept s i at size f sound (inl z) = rw z (nothing i size)
-number_kept s i at size f sound (inr g) =
-    rw (given at Number.Absent (Number.Is (be32 s at)) g.starts)
-    (content s i at size (octets32 (be32 s at)) g (rw length32 (fixed s i at size 4 f g)) (sound (be16 (octets32 (be32 s at)) 0)))
+unfolding number_at
+number_kept s i at size f sound j =
+    kept octets32 s i at size (be32 s at)
+    (λ g. content s i at size (octets32 (be32 s at)) g (rw length32 (fixed s i at size 4 f g)) (sound (be16 (octets32 (be32 s at)) 0))) j
 
 pub queue_kept : (s : List ℕ) (i at size : ℕ) → Fixed i 2 → Sound i → Judged s i at size → Keeps i size (of_queue (queue_at s at))
-unfolding queue_at when◌then◌else◌
-queue_kept s i at size f sound (inl z) = rw z (nothing i size)
-queue_kept s i at size f sound (inr g) =
+unfolding queue_at
+queue_kept s i at size f sound j =
     let c : List ℕ = get_or s at 0 ∷ get_or s (at + 1) 0 ∷ [] in
-    rw (given at Queue.Absent (Queue.Is (get_or s at 0) (get_or s (at + 1) 0)) g.starts)
-    (content s i at size c g (fixed s i at size 2 f g) (sound (be16 c 0)))
+    kept (λ q. q.place ∷ q.priority ∷ []) s i at size (record { place = get_or s at 0; priority = get_or s (at + 1) 0 })
+    (λ g. content s i at size c g (fixed s i at size 2 f g) (sound (be16 c 0))) j
+
+-- a part of the packet from its start on, as many octets as its L says
+abbrev part_read : List ℕ → ℕ → Part
+part_read s at = record { from = at; count = get_or s (at - 1) 0 }
 
 pub part_kept : (s : List ℕ) (i at size : ℕ) → (row_of i).spare ≡ 0 → Sound i → Judged s i at size → Keeps i size (of_part s (part_at s at))
-unfolding part_at when◌then◌else◌
-part_kept s i at size f sound (inl z) = rw z (nothing i size)
-part_kept s i at size f sound (inr g) =
+unfolding part_at
+part_kept s i at size f sound j =
     let c : List ℕ = part s at (get_or s (at - 1) 0) in
-    rw (given at Part.Absent (Part.At at (get_or s (at - 1) 0)) g.starts)
-    (content s i at size c g (rw (length_part s at (get_or s (at - 1) 0) g.inside, f) (add-zero (get_or s (at - 1) 0))) (sound (be16 c 0)))
+    kept (λ p. part s p.from p.count) s i at size (part_read s at)
+    (λ g. content s i at size c g (rw (length_part s at (get_or s (at - 1) 0) g.inside, f) (add-zero (get_or s (at - 1) 0)))
+    (sound (be16 c 0))) j
 
 pub part_lies_lem : (s : List ℕ) (i at size : ℕ) → Judged s i at size → part_lies s (part_at s at) ≡ true
 unfolding part_at when◌then◌else◌
 part_lies_lem s i at size (inl z) = rw z
 part_lies_lem s i at size (inr g) =
-    rw (given at Part.Absent (Part.At at (get_or s (at - 1) 0)) g.starts) (le-leb (at + get_or s (at - 1) 0) (length s) g.inside)
+    rw (given at None (Some (part_read s at)) g.starts) (le-leb (at + get_or s (at - 1) 0) (length s) g.inside)
 
 -- a cause has two octets before its phrase
 phrase_inside : (s : List ℕ) (i at size : ℕ) → 2 ≤ (row_of i).least → Good s i at size → at + 2 + (get_or s (at - 1) 0 - 2) ≤ length s
 phrase_inside s i at size t g = omega (arith, g.fit.least, g.inside)
 
+abbrev cause_read : List ℕ → ℕ → RejectCause
+cause_read s at = record { cause = be16 s at; phrase = record { from = at + 2; count = get_or s (at - 1) 0 - 2 } }
+
 pub cause_kept : (s : List ℕ) (i at size : ℕ) → (row_of i).spare ≡ 0 → 2 ≤ (row_of i).least → Sound i → Judged s i at size
     → Keeps i size (of_cause s (cause_at s at))
-unfolding cause_at when◌then◌else◌
-cause_kept s i at size f t sound (inl z) = rw z (nothing i size)
-cause_kept s i at size f t sound (inr g) =
+unfolding cause_at
+cause_kept s i at size f t sound j =
     let l : ℕ = get_or s (at - 1) 0 in
     let c : List ℕ = octets16 (be16 s at) ++ part s (at + 2) (l - 2) in
-    rw (given at Cause.Absent (Cause.Is (be16 s at) (at + 2) (l - 2)) g.starts)
-    (content s i at size c g
+    kept (λ x. octets16 x.cause ++ part s x.phrase.from x.phrase.count) s i at size (cause_read s at)
+    (λ g. content s i at size c g
     (rw (length-append, length16, length_part s (at + 2) (l - 2) (phrase_inside s i at size t g), f) (omega (arith, g.fit.least)))
-    (sound (be16 c 0)))
+    (sound (be16 c 0))) j
 
 pub phrase_lies_lem : (s : List ℕ) (i at size : ℕ) → 2 ≤ (row_of i).least → Judged s i at size → phrase_lies s (cause_at s at) ≡ true
 unfolding cause_at when◌then◌else◌
 phrase_lies_lem s i at size t (inl z) = rw z
 phrase_lies_lem s i at size t (inr g) =
-    let l : ℕ = get_or s (at - 1) 0 in
-    rw (given at Cause.Absent (Cause.Is (be16 s at) (at + 2) (l - 2)) g.starts)
-    (le-leb (at + 2 + (l - 2)) (length s) (phrase_inside s i at size t g))
+    rw (given at None (Some (cause_read s at)) g.starts)
+    (le-leb (at + 2 + (get_or s (at - 1) 0 - 2)) (length s) (phrase_inside s i at size t g))
 
 -- all fields of a message, each within the size that its ID has
 infixr 20 ◌also◌

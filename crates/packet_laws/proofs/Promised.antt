@@ -14,10 +14,9 @@ use Rattle.octets.specs.Octets.{over}
 use Rattle.message.specs.Answers.{refused, result, refusal_number}
 use Rattle.message.specs.Message.{Said, said}
 use Rattle.message.specs.declared.Message.{Message}
-use Rattle.reading.specs.declared.Reading.{Reading}
-use Rattle.reading.specs.declared.Reading.TheVariants.{Read}
+use Rattle.std.specs.Prelude.{Result, Ok}
+use Rattle.message.specs.declared.Refusal.{Refusal}
 use Rattle.reading.specs.Reading.{Reads, reading_answer}
-use Rattle.writing.specs.declared.Writing.TheVariants.{Written}
 use Rattle.writing.specs.Wire.{wire}
 use Rattle.readable.specs.Readable.{readable}
 use Rattle.writing.specs.Writing.{writing, written, writing_answer}
@@ -25,12 +24,11 @@ use Rattle.packet_laws.specs.Again.{ReadsAs, IsRead, WriteThenRead, RefusedLeave
 use Rattle.header.proofs.Openings.{passed}
 use Rattle.packet_laws.proofs.Back.{read_back}
 use Rattle.packet_laws.proofs.Again.{read_is_written}
-use Rattle.writing.proofs.Ways.{told_one}
-use Rattle.packet_laws.proofs.Coincide.{read_told}
+use Rattle.message.proofs.Answers.{told_one}
 
 -- a reader's answer where a message reads so
-is_read : (s : List ℕ) (what : Said) (q : Reading) → ReadsAs s what → Reads s q → IsRead s q what
-is_read s what q h p = record { message = h.message; read = read_told q (Read h.message) (p ∙ h.read); same = h.same }
+is_read : (s : List ℕ) (what : Said) (q : Result Message Refusal) → ReadsAs s what → Reads s q → IsRead s q what
+is_read s what q h p = record { message = h.message; read = told_one q (Ok h.message) (p ∙ h.read); same = h.same }
 
 -- a writer that answers n: its message is readable, n is all its octets, and they stand at the front of the room
 record Wrote (m : Message) (src room : List ℕ) (n : ℕ) : Type 0 where
@@ -83,5 +81,5 @@ read_then_write s room room' q m r p e h wp =
     let a = read_is_written s m (sym p ∙ ap reading_answer e) in
     let n : ℕ = length (wire (said m s)) in
     let l : n ≤ length room = omega (arith, a.no_longer) in
-    let wr : r ≡ Written n = told_one r (Written n) (wp.0 ∙ writes m s (length room) a.accepted l) in
+    let wr : r ≡ Ok n = told_one r (Ok n) (wp.0 ∙ writes m s (length room) a.accepted l) in
     record { count = n; wrote = wr; read_again = λ q' z. write_then_read m s room room' r n q' wp wr z }

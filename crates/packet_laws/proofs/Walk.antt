@@ -7,7 +7,7 @@ use native.Mathlib.Omega.{arith}
 use mathlib.Core.Bool.{Bool, true, false, ◌&&◌}
 use mathlib.Core.Path.{◌≡◌, refl, ap, ◌∙◌}
 use mathlib.Core.List.{List, [], ◌∷◌, ◌++◌, append_assoc}
-use mathlib.Core.Option.{Option, none, some}
+use Rattle.std.specs.Prelude.{Option, None, Some}
 use lib.Dec.{eqb, leb, lit<}
 use lib.ListN.{length, get_or, drop, replicate, length-append, length-drop, length-replicate, replicate-append-replicate}
 use lib.Seq.{drop_at}
@@ -46,7 +46,7 @@ below_next before least i b h j l = neither (eqb j i) (among before j) (ne_eqb j
 
 -- what a message has at an ID: the first content there is
 unfoldable pub first_of : List Field → ℕ → Option (List ℕ)
-first_of [] i = none
+first_of [] i = None
 first_of (f ∷ fs) i = when eqb i f.id then or_else f.content (first_of fs i) else first_of fs i
 
 -- the walk's answer, for fields that stand in s: it is whole, and each first field starts where it stands
@@ -66,7 +66,7 @@ unfolding field_octets padded
 length_laid i c = simp (length-append, length-replicate) (omega arith)
 
 -- a field that is not there changes nothing
-skip : (s : List ℕ) (i : ℕ) (fs : List Field) (answer : Fields) → Walked s fs answer → Walked s (field i none ∷ fs) answer
+skip : (s : List ℕ) (i : ℕ) (fs : List Field) (answer : Fields) → Walked s fs answer → Walked s (field i None ∷ fs) answer
 unfolding first_of when◌then◌else◌
 skip s i fs answer w =
     record {
@@ -77,7 +77,7 @@ skip s i fs answer w =
 
 -- a field that fits is found where it stands, and the walk goes on behind it
 module _ (s : List ℕ) (i : ℕ) (c rest : List ℕ) (p : ℕ)
-    (known : listed i ≡ true) (fit : fits i (some c) ≡ true) (e : drop p s ≡ field_octets i c ++ rest) where
+    (known : listed i ≡ true) (fit : fits i (Some c) ≡ true) (e : drop p s ≡ field_octets i c ++ rest) where
   abbrev octets : List ℕ
   octets = i ∷ length_of i c ∷ (c ++ (replicate ((row_of i).spare + padding (length_of i c)) 0 ++ rest))
 
@@ -121,7 +121,7 @@ module _ (s : List ℕ) (i : ℕ) (c rest : List ℕ) (p : ℕ)
 
   next : (fs : List Field) (before : List ℕ) (steps : ℕ) → among before i ≡ false
       → Walked s fs (fields_from steps (i ∷ before) s (p + padded (length_of i c)))
-      → Walked s (field i (some c) ∷ fs) (fields_from (suc steps) before s p)
+      → Walked s (field i (Some c) ∷ fs) (fields_from (suc steps) before s p)
   unfolding fields_from first_of start_of when◌then◌else◌
   next fs before steps new w =
       record {
@@ -142,10 +142,10 @@ one : (s : List ℕ) (i : ℕ) (o : Option (List ℕ)) (fs : List Field) (before
     → Walked s fs (fields_from steps past s p))
     → Walked s (field i o ∷ fs) (fields_from steps before s p)
 unfolding optional
-one s i none fs before least steps p l fit b up e h walk = skip s i fs _ (walk before steps p (λ j k. b j (omega arith)) e h)
-one s i (some c) fs before least zero p l fit b up e h walk =
+one s i None fs before least steps p l fit b up e h walk = skip s i fs _ (walk before steps p (λ j k. b j (omega arith)) e h)
+one s i (Some c) fs before least zero p l fit b up e h walk =
     absurd (omega (arith, simp (length-append, length_laid) at h, padded_least (length_of i c)))
-one s i (some c) fs before least (suc steps) p l fit b up e h walk =
+one s i (Some c) fs before least (suc steps) p l fit b up e h walk =
     next s i c (body fs) p l fit e fs before steps (b i up)
     (walk (i ∷ before) steps (p + padded (length_of i c)) (below_next before least i b up) (rest_there s i c (body fs) p l fit e)
     (omega (arith, simp (length-append, length_laid) at h, padded_least (length_of i c))))

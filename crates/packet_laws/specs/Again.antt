@@ -1,27 +1,23 @@
 -- What is written reads back, what was read can be written again, and no promise leaves a choice (document 01, "The packet", "What is
 -- answered to packets" and "How strictly it is stated"). Each statement here is proved in proofs/, in the file named beside it.
 -- Assumes nothing.
-use Rattle.std.specs.Prelude.{ℕ, ◌+◌, ◌≤◌, ◌≡◌, true, List, [], length, take, drop}
+use Rattle.std.specs.Prelude.{ℕ, ◌+◌, ◌≤◌, ◌≡◌, true, List, [], length, take, drop, Result, Ok, Err}
 use Rattle.message.specs.declared.Message.{Message}
 use Rattle.message.specs.declared.Refusal.{Refusal}
 use Rattle.message.specs.Message.{Said, said, lies}
 use Rattle.message.specs.Answers.{Answer, result, refusal_number}
-use Rattle.reading.specs.declared.Reading.{Reading}
-use Rattle.reading.specs.declared.Reading.TheVariants.{Read}
+use Rattle.message.specs.declared.MessageType.{MessageType}
+use Rattle.reading.specs.declared.Judged.{Judged}
 use Rattle.field.specs.Fields.{fields_from, fields_in}
-use Rattle.header.specs.declared.Opening.{Opening}
 use Rattle.reading.specs.Judging.{Judges}
 use Rattle.reading.specs.Reading.{reading, Reads}
-use Rattle.writing.specs.declared.Writing.{Writing}
-use Rattle.writing.specs.declared.Writing.TheVariants.{Written}
 use Rattle.writing.specs.Wire.{wire}
 use Rattle.octets.specs.Octets.{Laid}
 use Rattle.readable.specs.Readable.{readable}
 use Rattle.writing.specs.Writing.{Tells, Writes}
 use Rattle.header.specs.Header.{header_size}
 use Rattle.header.specs.Opening.{Opens}
-use Rattle.walk.specs.declared.Walk.{Walk}
-use Rattle.walk.specs.Walk.{WholeAnswer}
+use Rattle.walk.specs.Walk.{Walked}
 
 -- reading these octets gives a message, and it says this
 pub record ReadsAs (s : List ℕ) (what : Said) : Type 0 where
@@ -56,37 +52,39 @@ StepsSuffice = (s : List ℕ) (more : ℕ) → fields_from (length s + more) [] 
 -- The same through the promises of the code (proofs/Promised), by the very definitions that `reading::read` and `writing::write` promise:
 -- `Reads` of an answer q to s, `Writes` of an answer r and of the room as it is left. First, the answer q to s is a message, and it says
 -- this.
-pub record IsRead (s : List ℕ) (q : Reading) (what : Said) : Type 0 where
+pub record IsRead (s : List ℕ) (q : Result Message Refusal) (what : Said) : Type 0 where
   pub message : Message
-  pub read : q ≡ Read message
+  pub read : q ≡ Ok message
   pub same : said message s ≡ what
 
 -- a writer that answers n leaves n octets that any reader reads as the same message
 abbrev pub WriteThenRead : Type 0
 WriteThenRead =
-    (m : Message) (src room room' : List ℕ) (r : Writing) (n : ℕ) (q : Reading) → Writes m src room r room' → r ≡ Written n
+    (m : Message) (src room room' : List ℕ) (r : Result ℕ Refusal) (n : ℕ) (q : Result Message Refusal) → Writes m src room r room' →
+    r ≡ Ok n
     → Reads (take n room') q → IsRead (take n room') q (said m src)
 
 -- "A refusal returns its number only and writes nothing; a result leaves the room past its end untouched"
 abbrev pub RefusedLeavesRoom : Type 0
 RefusedLeavesRoom =
-    (m : Message) (src room room' : List ℕ) (r : Writing) (why : Refusal) → Writes m src room r room' → r ≡ Writing.Refused why
+    (m : Message) (src room room' : List ℕ) (r : Result ℕ Refusal) (why : Refusal) → Writes m src room r room' → r ≡ Err why
     → room' ≡ room
 
 abbrev pub RestUntouched : Type 0
 RestUntouched =
-    (m : Message) (src room room' : List ℕ) (r : Writing) (n : ℕ) → Writes m src room r room' → r ≡ Written n
+    (m : Message) (src room room' : List ℕ) (r : Result ℕ Refusal) (n : ℕ) → Writes m src room r room' → r ≡ Ok n
     → drop n room' ≡ drop n room
 
 -- what a reader read from s, a writer with room for s writes, and any reader reads it as the same message
-pub record SameAgain (s : List ℕ) (m : Message) (r : Writing) (room' : List ℕ) : Type 0 where
+pub record SameAgain (s : List ℕ) (m : Message) (r : Result ℕ Refusal) (room' : List ℕ) : Type 0 where
   pub count : ℕ
-  pub wrote : r ≡ Written count
-  pub read_again : (q : Reading) → Reads (take count room') q → IsRead (take count room') q (said m s)
+  pub wrote : r ≡ Ok count
+  pub read_again : (q : Result Message Refusal) → Reads (take count room') q → IsRead (take count room') q (said m s)
 
 abbrev pub ReadThenWrite : Type 0
 ReadThenWrite =
-    (s room room' : List ℕ) (q : Reading) (m : Message) (r : Writing) → Reads s q → q ≡ Read m → length s ≤ length room
+    (s room room' : List ℕ) (q : Result Message Refusal) (m : Message) (r : Result ℕ Refusal) → Reads s q → q ≡ Ok m →
+    length s ≤ length room
     → Writes m s room r room' → SameAgain s m r room'
 
 -- "any two results it would allow are proved to coincide" (proofs/Coincide)
@@ -94,9 +92,9 @@ abbrev pub NumbersDiffer : Type 0
 NumbersDiffer = (a b : Refusal) → refusal_number a ≡ refusal_number b → a ≡ b
 
 abbrev pub ReadersCoincide : Type 0
-ReadersCoincide = (s : List ℕ) (q q' : Reading) → Reads s q → Reads s q' → q ≡ q'
+ReadersCoincide = (s : List ℕ) (q q' : Result Message Refusal) → Reads s q → Reads s q' → q ≡ q'
 
-pub record SameResult (r r' : Writing) (room room' : List ℕ) : Type 0 where
+pub record SameResult (r r' : Result ℕ Refusal) (room room' : List ℕ) : Type 0 where
   pub answers : r ≡ r'
   pub rooms : room ≡ room'
 
@@ -104,7 +102,8 @@ pub record SameResult (r r' : Writing) (room room' : List ℕ) : Type 0 where
 -- promise
 abbrev pub WritersCoincide : Type 0
 WritersCoincide =
-    (tells : Answer ℕ) (leaves : List ℕ) (r r' : Writing) (room room' : List ℕ) → Tells tells leaves r room → Tells tells leaves r' room'
+    (tells : Answer ℕ) (leaves : List ℕ) (r r' : Result ℕ Refusal) (room room' : List ℕ) → Tells tells leaves r room →
+    Tells tells leaves r' room'
     → SameResult r r' room room'
 
 -- and of what the writer's leaves lay
@@ -113,19 +112,12 @@ LaysCoincide =
     (before octets after after' : List ℕ) (at end end' : ℕ) → Laid before at octets after end → Laid before at octets after' end'
     → (end ≡ end') × (after ≡ after')
 
-pub record SameJudgement (r r' : Opening) (starts starts' : List ℕ) : Type 0 where
-  pub answers : r ≡ r'
-  pub noted : starts ≡ starts'
-
 abbrev pub JudgesCoincide : Type 0
-JudgesCoincide =
-    (s : List ℕ) (r r' : Opening) (starts starts' : List ℕ) → Judges r s starts → Judges r' s starts' → SameJudgement r r' starts starts'
+JudgesCoincide = (s : List ℕ) (r r' : Result Judged Refusal) → Judges s r → Judges s r' → r ≡ r'
 
 -- and of the two parts that a packet is judged by
 abbrev pub OpeningsCoincide : Type 0
-OpeningsCoincide = (s : List ℕ) (r r' : Opening) → Opens s r → Opens s r' → r ≡ r'
+OpeningsCoincide = (s : List ℕ) (r r' : Result MessageType Refusal) → Opens s r → Opens s r' → r ≡ r'
 
 abbrev pub WalksCoincide : Type 0
-WalksCoincide =
-    (s : List ℕ) (w w' : Walk) (starts starts' : List ℕ) → WholeAnswer (fields_in s) w starts → WholeAnswer (fields_in s) w' starts'
-    → (w ≡ w') × (starts ≡ starts')
+WalksCoincide = (s : List ℕ) (w w' : Result (List ℕ) Refusal) → Walked (fields_in s) w → Walked (fields_in s) w' → w ≡ w'

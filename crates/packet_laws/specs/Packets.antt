@@ -1,13 +1,11 @@
 -- Worked packets, each by computing alone: octets written here by hand from document 01 ("The packet", "What is answered to packets",
 -- "Thursday's exercise") and document 02 (#107), so that the definitions are held from outside. A packet's first line is its head. Assumes
 -- nothing.
-use Rattle.std.specs.Prelude.{ℕ, ◌≡◌, refl, Bool, true, false, List, [], ◌∷◌, eqb}
-use Rattle.std.proofs.Math.Option.{none, some}
+use Rattle.std.specs.Prelude.{ℕ, ◌≡◌, refl, Bool, true, false, List, [], ◌∷◌, eqb, None, Some}
 use Rattle.words.specs.Choice.{when◌then◌else◌}
 use Rattle.octets.specs.Octets.{be16, be32, octets16, octets32, part}
 use Rattle.message.specs.declared.MessageType.{MessageType}
 use Rattle.message.specs.declared.MessageType.TheVariants.{Request, Granted, Taken, Deny, Idle, Ack}
-use Rattle.message.specs.declared.Part.{Part}
 use Rattle.message.specs.Table.{row_in, listed_in, against, at_fault, padding, padded}
 use Rattle.message.specs.Message.{Field, field, Said, said, has, has_all, complete}
 use Rattle.message.specs.Answers.{refused}
@@ -22,7 +20,7 @@ use Rattle.packet_laws.specs.Again.{ReadsAs}
 
 -- a message with these fields and no others: type, Ack bit, SSRC, and the content of each field that it has
 abbrev at : List Field → ℕ → Field
-at [] i = field i none
+at [] i = field i None
 at (f ∷ fs) i = when eqb i f.id then f else at fs i
 
 abbrev with : MessageType → Bool → ℕ → List Field → Said
@@ -52,7 +50,7 @@ deny7 =
     ∷ 0x02 ∷ 0x02 ∷ 0x00 ∷ 0x07 ∷ []
 
 abbrev denies : Bool → Said
-denies asks_ack = with Deny asks_ack 1 (field 2 (some (0 ∷ 7 ∷ [])) ∷ [])
+denies asks_ack = with Deny asks_ack 1 (field 2 (Some (0 ∷ 7 ∷ [])) ∷ [])
 
 pub deny7_read : ReadsAs deny7 (denies false)
 unfolding opened
@@ -91,7 +89,7 @@ granted_again =
     ∷ 0x01 ∷ 0x02 ∷ 0x00 ∷ 0x3C ∷ []
 
 abbrev grants : Said
-grants = with Granted false 1 (field 0 (some (5 ∷ [])) ∷ field 1 (some (0 ∷ 60 ∷ [])) ∷ [])
+grants = with Granted false 1 (field 0 (Some (5 ∷ [])) ∷ field 1 (Some (0 ∷ 60 ∷ [])) ∷ [])
 
 pub granted_read : ReadsAs granted grants
 unfolding opened
@@ -109,11 +107,11 @@ taken =
     ∷ 0x08 ∷ 0x02 ∷ 0x00 ∷ 0x02 ∷ []
 
 pub taken_read : ReadsAs taken
-    (with Taken false 1 (field 4 (some (0x74 ∷ 0x65 ∷ 0x73 ∷ 0x74 ∷ 0x31 ∷ [])) ∷ field 8 (some (0 ∷ 2 ∷ [])) ∷ []))
+    (with Taken false 1 (field 4 (Some (0x74 ∷ 0x65 ∷ 0x73 ∷ 0x74 ∷ 0x31 ∷ [])) ∷ field 8 (Some (0 ∷ 2 ∷ [])) ∷ []))
 unfolding opened
 taken_read = record { message = _; read = refl; same = refl }
 
-pub taken-part : taken_read.message.granted ≡ Part.At 14 5
+pub taken-part : taken_read.message.granted ≡ Some (record { from = 14; count = 5 })
 unfolding opened taken_read
 taken-part = refl
 
@@ -123,7 +121,7 @@ idle =
     0x85 ∷ 0xCC ∷ 0x00 ∷ 0x03 ∷ 0x00 ∷ 0x00 ∷ 0x00 ∷ 0x01 ∷ 0x4D ∷ 0x43 ∷ 0x50 ∷ 0x54
     ∷ 0x08 ∷ 0x02 ∷ 0xFF ∷ 0xFF ∷ []
 
-pub idle_read : ReadsAs idle (with Idle false 1 (field 8 (some (255 ∷ 255 ∷ [])) ∷ []))
+pub idle_read : ReadsAs idle (with Idle false 1 (field 8 (Some (255 ∷ 255 ∷ [])) ∷ []))
 unfolding opened
 idle_read = record { message = _; read = refl; same = refl }
 
@@ -133,7 +131,7 @@ acked =
     ∷ 0x0A ∷ 0x02 ∷ 0x00 ∷ 0x02
     ∷ 0x0C ∷ 0x02 ∷ 0x01 ∷ 0x00 ∷ []
 
-pub acked_read : ReadsAs acked (with Ack false 1 (field 10 (some (0 ∷ 2 ∷ [])) ∷ field 12 (some (1 ∷ [])) ∷ []))
+pub acked_read : ReadsAs acked (with Ack false 1 (field 10 (Some (0 ∷ 2 ∷ [])) ∷ field 12 (Some (1 ∷ [])) ∷ []))
 unfolding opened
 acked_read = record { message = _; read = refl; same = refl }
 
@@ -145,7 +143,7 @@ asks =
     ∷ 0x00 ∷ 0x02 ∷ 0x05 ∷ 0x00
     ∷ 0x07 ∷ 0x02 ∷ 0x09 ∷ 0x00 ∷ []
 
-pub asks_read : ReadsAs asks (with Request false 1 (field 0 (some (5 ∷ [])) ∷ []))
+pub asks_read : ReadsAs asks (with Request false 1 (field 0 (Some (5 ∷ [])) ∷ []))
 unfolding opened
 asks_read = record { message = _; read = refl; same = refl }
 

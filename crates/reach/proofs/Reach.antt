@@ -17,10 +17,9 @@ use Rattle.hall.specs.declared.Hall.{Hall}
 use Rattle.identities.specs.declared.Names.{Names}
 use Rattle.hall.specs.declared.Newcomer.{Newcomer}
 use Rattle.joining.specs.declared.Joined.{Joined}
-use Rattle.hall.specs.declared.Found.TheVariants.{Nowhere}
+use Rattle.std.proofs.Common.{None, is_some}
 use Rattle.hall.specs.Seats.{no_flags, in_range, empty_hall, is_present, has_ssrc, seat_of, with_seat, vacated, no_one}
 use Rattle.identities.specs.Identity.{octets_of, name_of, no_name, no_names, name_at, with_name, same, has_name, seat_named}
-use Rattle.hall.specs.Seats.{is_at}
 use Rattle.joining.specs.Join.{ssrc_taken, join}
 use Rattle.joining.specs.Joins.{Passes, Joins, turned_away, sits_down}
 use Rattle.joining.proofs.Joins.{every_join}
@@ -123,17 +122,17 @@ module _ (h : Hall) (ns : Names) (k : SeatsOk h ns) (c : Core) (v : CoreOk h c) 
   unfolding ssrc_taken seat_of
   new_ssrc q s p e =
       by_test (eqb n.ssrc h.settings.ssrc)
-      (λ x. clash (if_yes _ true (is_at (seat_of h n.ssrc)) x) q)
+      (λ x. clash (if_yes _ true (is_some (seat_of h n.ssrc)) x) q)
       (λ x.
-      let z : seat_of h n.ssrc ≡ Nowhere = not_at (seat_of h n.ssrc) (sym (if_no _ true (is_at (seat_of h n.ssrc)) x) ∙ q) in
+      let z : seat_of h n.ssrc ≡ None = not_at (seat_of h n.ssrc) (sym (if_no _ true (is_some (seat_of h n.ssrc)) x) ∙ q) in
       let y : has_ssrc h n.ssrc s ≡ true = rw (p, eq-eqb (get_or h.ssrcs s 0) n.ssrc e) in
       clash y (none_holds (has_ssrc h n.ssrc) 16 0 s z (omega arith) (sixteen s p)))
 
   new_desk : ssrc_taken h n.ssrc ≡ false → n.ssrc ≡ h.settings.ssrc → ⊥
   unfolding ssrc_taken
-  new_desk q e = clash (if_yes _ true (is_at (seat_of h n.ssrc)) (eq-eqb n.ssrc h.settings.ssrc e)) q
+  new_desk q e = clash (if_yes _ true (is_some (seat_of h n.ssrc)) (eq-eqb n.ssrc h.settings.ssrc e)) q
 
-  new_name : is_at (seat_named h ns o) ≡ false → (s : ℕ) → is_present h s ≡ true → same (octets_of (name_at ns s)) o ≡ true → ⊥
+  new_name : is_some (seat_named h ns o) ≡ false → (s : ℕ) → is_present h s ≡ true → same (octets_of (name_at ns s)) o ≡ true → ⊥
   unfolding seat_named
   new_name q s p e =
       let y : has_name h ns o s ≡ true = rw (p, e) in
@@ -190,7 +189,7 @@ module _ (h : Hall) (ns : Names) (k : SeatsOk h ns) (c : Core) (v : CoreOk h c) 
       (λ z. clash refl z) (ap name_of (sym w))
 
   join_kept : (j : Joined) → Joins h ns o n j → SeatsOk j.hall j.names × CoreOk j.hall c
-  join_kept j (turned_away a f q) = rw q (k, v)
+  join_kept j (turned_away r q) = rw q (k, v)
   join_kept j (sits_down t a f p b q) = rw q (takes a t b, core_joined t b)
 
 -- whatever happens to a sound desk leaves it sound

@@ -141,7 +141,7 @@ module _ (d : Desk) (x : Doing) (l : Outcome) (k : HallOk d.hall) (o : CoreOk d.
 
   pub keeps : way.Way d x l → CoreOk h l.desk.core
   unfolding waits full
-  keeps (way.refuses a n u v q m) = rw (ap (λ (y : Desk). y.core) q) o
+  keeps (way.refuses r u v q m) = rw (ap (λ (y : Desk). y.core) q) o
   keeps (way.grants_holder t p e b a w n q m) = rw q o
   keeps (way.denies t p n a s u b q m) = rw (ap (λ (y : Desk). y.core) q) o
   keeps (way.gives t p a s i q m) =
@@ -217,7 +217,7 @@ module _ (d : Desk) (t : ℕ) (l : Outcome) (k : HallOk d.hall) (o : CoreOk d.ha
 
   pub leaver_gone : way.Way d (leaves t) l → Gone l.desk.core
   unfolding waits
-  leaver_gone (way.refuses a n u v q m) = clash p (v t refl)
+  leaver_gone (way.refuses r u v q m) = clash p (v t refl)
   leaver_gone (way.grants_holder s v e b a w n q m) = asks-nobody a
   leaver_gone (way.denies s v n a w u b q m) = asks-nobody a
   leaver_gone (way.gives s v a w i q m) = asks-nobody a

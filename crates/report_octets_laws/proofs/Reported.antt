@@ -1,5 +1,6 @@
 -- A report and its 24 octets, both ways (specs/Reported). Assumes nothing.
 use Prim.Native.Nat.{ℕ, zero, suc, ◌+◌, ◌*◌, ◌/◌, ◌%◌, ◌^◌, ◌≤◌, ◌<◌}
+use Rattle.std.proofs.Common.{Option, Some, None}
 use mathlib.Core.Path.{◌≡◌, refl, ap, sym, ◌∙◌}
 use mathlib.Core.Bool.{Bool, true, false, ◌&&◌}
 use mathlib.Core.List.{List, [], ◌∷◌, ◌++◌, append_assoc, append-nil}
@@ -9,21 +10,19 @@ use lib.Dec.{eqb, leb, ltb}
 use lib.ListN.{length, get_or, drop, drop_of_length-le}
 use lib.Seq.{drop-cons}
 use borrow.Author.Tests.{eqb-true, eqb-false, eq-eqb, ne_eqb, ltb-true, lt-ltb, leb-true}
+use Rattle.std.proofs.lemmas.Bool.Decides.{nat_tests}
 use Rattle.words.specs.Choice.{when◌then◌else◌, if_yes, if_no, by_test, by_if, one}
 use Rattle.words.proofs.Tests.{clash, and_both, and_three, and_four, and_five, four, or_else}
 use Rattle.octets.specs.Octets.{Octets, be16, octets16}
 use Rattle.steps.specs.declared.Kind.{Kind}
 use Rattle.steps.specs.declared.Kind.TheVariants as say
 use Rattle.steps.specs.declared.Sending.{Sending}
-use Rattle.steps.specs.declared.Mark.{Mark}
-use Rattle.steps.specs.declared.Mark.TheVariants.{NoSeat, Seat}
 use Rattle.steps.specs.declared.Given.{Given}
 use Rattle.steps.specs.declared.Given.TheVariants.{NotGiven, AtOnce, OutOfLine}
 use Rattle.steps.specs.declared.Marks.{Marks}
 use Rattle.report_octets.specs.Places.{report_size, struck_place, struck_zero, placed_place, ended_place, given_place, how_place, how_zero}
 use Rattle.report_octets.specs.Places.{first_place, second_place, seat_within, number_within, priority_within, zero_within, mask_within}
 use Rattle.report_octets.specs.declared.Particulars.{Particulars}
-use Rattle.report_octets.specs.declared.Told.TheVariants.{Says}
 use Rattle.report_octets.specs.Report.{mask_of, seat_octet, given_octet, how_octet, with, particulars, octets_of_message, marks_octets}
 use Rattle.report_octets.specs.Report.{octets_of_report}
 use Rattle.report_octets.specs.Report.{particulars_at, kind_of, alike, said_by, told_in}
@@ -92,10 +91,10 @@ kind_back (say.Idle n) h = refl
 kind_back (say.Revoke n) h = refl
 kind_back (say.Info k p) h = let l : k < 256 = h.0 in rw (mod-eq_of_lt l)
 
-mark_back : (m : Mark) → MarkFits m → mark_of (seat_octet m) ≡ m
+mark_back : (m : Option ℕ) → MarkFits m → mark_of (seat_octet m) ≡ m
 unfolding mark_of when◌then◌else◌
-mark_back NoSeat h = refl
-mark_back (Seat s) h = rw (ne_eqb s 255 (λ q. omega (arith, q)))
+mark_back None h = refl
+mark_back (Some s) h = rw (ne_eqb s 255 (λ q. omega (arith, q)))
 
 given_back : (g : Given) → given_of (given_octet g) (how_octet g) ≡ g
 unfolding given_of when◌then◌else◌
@@ -170,7 +169,7 @@ module _ (r : List ℕ) where
 
 mark_forth : (n : ℕ) → seat_octet (mark_of n) ≡ n
 unfolding mark_of
-mark_forth n = by_if (λ (m : Mark). seat_octet m ≡ n) (eqb n 255) (λ q. sym (eqb-true n 255 q)) (λ _. refl)
+mark_forth n = by_if (λ (m : Option ℕ). seat_octet m ≡ n) (eqb n 255) (λ q. sym (eqb-true n 255 q)) (λ _. refl)
 
 given_forth : (s how : ℕ) → is_how s how ≡ true → (given_octet (given_of s how) ≡ s) × (how_octet (given_of s how) ≡ how)
 unfolding given_of is_how
@@ -194,10 +193,11 @@ with-same p q r s = cc
 alike_same : (q p : Particulars) → alike q p ≡ true → p ≡ q
 unfolding alike
 alike_same q p e =
-    let a =
-    and_four (eqb q.kind p.kind) (eqb q.seat p.seat) (eqb q.number p.number) (eqb q.priority p.priority) e in
-    sym (with-same (eqb-true q.kind p.kind a.0) (eqb-true q.seat p.seat a.1) (eqb-true q.number p.number a.2)
-    (eqb-true q.priority p.priority a.3))
+    let k : p.kind ≡ q.kind = grind (arith, nat_tests) in
+    let s : p.seat ≡ q.seat = grind (arith, nat_tests) in
+    let n : p.number ≡ q.number = grind (arith, nat_tests) in
+    let r : p.priority ≡ q.priority = grind (arith, nat_tests) in
+    with-same k s n r
 
 -- a message that passes its test
 pub record IsMessage (q : Particulars) (behind : ℕ) : Type 0 where
@@ -302,9 +302,9 @@ message_octets_lem m xs k o =
     let to : Every (t / 256 ∷ t % 256 ∷ xs) = (high_small t (mask_small m.to k.to), (low_small t, o)) in
     (f.kind, (omega (arith, f.seat), (high_small q.number f.number, (low_small q.number, (f.priority, (omega arith, to))))))
 
-seat_small : (m : Mark) → MarkFits m → seat_octet m < 256
-seat_small NoSeat h = omega arith
-seat_small (Seat s) h = omega arith
+seat_small : (m : Option ℕ) → MarkFits m → seat_octet m < 256
+seat_small None h = omega arith
+seat_small (Some s) h = omega arith
 
 given_small : (g : Given) → GivenFits g → (given_octet g < 256) × (how_octet g < 256)
 given_small NotGiven h = (omega arith, omega arith)
@@ -320,10 +320,10 @@ marks-octets m xs k o =
     (seat_small m.placed k.placed, (seat_small m.ended k.ended, (g.0, (g.1, (omega arith, o))))) in
     (high_small t (mask_small m.struck k.struck), (low_small t, (omega arith, seats)))
 
-mark_told : (m : Mark) → MarkFits m → is_mark (seat_octet m) ≡ true
+mark_told : (m : Option ℕ) → MarkFits m → is_mark (seat_octet m) ≡ true
 unfolding is_mark
-mark_told NoSeat h = refl
-mark_told (Seat s) h = rw (lt-ltb s 16 h)
+mark_told None h = refl
+mark_told (Some s) h = rw (lt-ltb s 16 h)
 
 given_told : (g : Given) → GivenFits g → is_how (given_octet g) (how_octet g) ≡ true
 unfolding is_how when◌then◌else◌
@@ -448,7 +448,7 @@ says_a_report r o e =
 -- THE MESSAGES THAT ARE WRITTEN AS PACKETS
 
 said_so : (r : List ℕ) (at : ℕ) → is_message_at r at ≡ true →
-    said_by (particulars_at r at) (get_or r (at + zero_within) 0) ≡ Says (sending_at r at).kind
+    said_by (particulars_at r at) (get_or r (at + zero_within) 0) ≡ Some (sending_at r at).kind
 unfolding said_by sending_at when◌then◌else◌
 said_so r at e =
     let m = is_message_lem (particulars_at r at) (get_or r (at + zero_within) 0) e in

@@ -1,13 +1,12 @@
 -- A report and its 24 octets (docs/FORMS.md, "A report: 24 octets"): what octets say, whole; which octets are a report's; and which reports
 -- have octets, the rules' or not: all of the desk's shape. Then the laws, both ways, each proved in proofs/Reported. Assumes nothing.
 use Rattle.std.specs.Prelude.{ℕ, zero, suc, ◌+◌, ◌/◌, ◌%◌, ◌<◌, Bool, true, ◌&&◌, ◌||◌, List, [], ◌∷◌, ◌≡◌, eqb, leb, ltb, length, get_or}
+use Rattle.std.specs.Prelude.{Option, Some, None}
 use Rattle.words.specs.Choice.{when◌then◌else◌}
 use Rattle.octets.specs.Octets.{Octets, be16}
 use Rattle.steps.specs.declared.Kind.{Kind}
 use Rattle.steps.specs.declared.Kind.TheVariants as say
 use Rattle.steps.specs.declared.Sending.{Sending}
-use Rattle.steps.specs.declared.Mark.{Mark}
-use Rattle.steps.specs.declared.Mark.TheVariants.{NoSeat, Seat}
 use Rattle.steps.specs.declared.Given.{Given}
 use Rattle.steps.specs.declared.Given.TheVariants.{NotGiven, AtOnce, OutOfLine}
 use Rattle.steps.specs.declared.Marks.{Marks}
@@ -15,7 +14,6 @@ use Rattle.steps.specs.declared.Report.{Report}
 use Rattle.report_octets.specs.Places.{report_size, struck_place, struck_zero, placed_place, ended_place, given_place, how_place, how_zero}
 use Rattle.report_octets.specs.Places.{first_place, second_place, zero_within, mask_within}
 use Rattle.report_octets.specs.declared.Particulars.{Particulars}
-use Rattle.report_octets.specs.declared.Told.TheVariants.{Says}
 use Rattle.report_octets.specs.Report.{octets_of_report, particulars, particulars_at, kind_of, alike, told_in}
 
 -- WHAT OCTETS SAY
@@ -28,8 +26,8 @@ seats_in (suc n) mask = eqb (mask % 2) 1 ∷ seats_in n (mask / 2)
 unfoldable pub set_of : ℕ → List Bool
 set_of mask = seats_in 16 mask
 
-unfoldable pub mark_of : ℕ → Mark
-mark_of n = when eqb n 255 then NoSeat else Seat n
+unfoldable pub mark_of : ℕ → Option ℕ
+mark_of n = when eqb n 255 then None else Some n
 
 unfoldable pub given_of : ℕ → ℕ → Given
 given_of seat how = when eqb how 1 then AtOnce seat else when eqb how 2 then OutOfLine seat else NotGiven
@@ -74,9 +72,9 @@ is_report r = eqb (length r) report_size && are_marks r && is_message_at r first
 
 -- WHICH REPORTS HAVE OCTETS: seats are 0 to 15, sets are of sixteen seats, and every number fits its octets
 
-abbrev pub MarkFits : Mark → Type 0
-MarkFits NoSeat = Unit {0}
-MarkFits (Seat s) = s < 16
+abbrev pub MarkFits : Option ℕ → Type 0
+MarkFits None = Unit {0}
+MarkFits (Some s) = s < 16
 
 abbrev pub GivenFits : Given → Type 0
 GivenFits NotGiven = Unit {0}
@@ -127,4 +125,4 @@ SaysAReport = (r : List ℕ) → Octets r → is_report r ≡ true → ReportFit
 -- a report's messages are those that are written as packets
 abbrev pub SameMessages : Type 0
 SameMessages = (r : List ℕ) → is_report r ≡ true →
-    (told_in r 0 ≡ Says (report_in r).first.kind) × (told_in r 1 ≡ Says (report_in r).second.kind)
+    (told_in r 0 ≡ Some (report_in r).first.kind) × (told_in r 1 ≡ Some (report_in r).second.kind)

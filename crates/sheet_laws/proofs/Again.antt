@@ -1,5 +1,5 @@
 -- An accepted sheet, loaded and saved, is the same octets. Assumes nothing.
-use Prim.Native.Nat.{ℕ, suc, ◌+◌, ◌≤◌}
+use Prim.Native.Nat.{ℕ, ◌+◌, ◌≤◌}
 use native.Mathlib.Omega.{arith}
 use mathlib.Core.Bool.{true}
 use mathlib.Core.List.{List, ◌++◌}
@@ -7,7 +7,7 @@ use mathlib.Core.Path.{◌≡◌, refl, sym, ap, ◌∙◌}
 use lib.Dec.{eqb}
 use lib.ListN.{length, take, drop, take-append-drop}
 use lib.Seq.{length-take-le, drop-drop}
-use borrow.Author.Tests.{eqb-true, eqb-false}
+use borrow.Author.Tests.{eqb-true}
 use Rattle.words.specs.Choice.{by_test}
 use Rattle.words.proofs.Tests.{and_both}
 use Rattle.octets.specs.Octets.{part, Octets}
@@ -17,19 +17,19 @@ use Rattle.identities.specs.Identity.{no_names}
 use Rattle.seat_octets.specs.Layout.{settings_size, settings_octets, unused_zero, zeros_fit}
 use Rattle.seat_octets.proofs.SettingsLaws.{settings_forth, zeros_say}
 use Rattle.sheet.specs.Layout.{Seat, tail_size, seats_octets, trailer, sheet, sheet_of}
-use Rattle.sheet.specs.Framing.{settings_place, trailer_place, settings_offset, seat_count, verdict_number, framing}
+use Rattle.sheet.specs.Framing.{settings_place, trailer_place, settings_offset, seat_count, framing}
 use Rattle.sheet.proofs.Frames.{Framed, framed}
-use Rattle.loading.specs.Loading.{Load, not_loaded, settings_on, Seats, whole, fault, read_seats, join_all, seat_all, settled, loading}
+use Rattle.std.proofs.Common.{Option, Some, None, Result, Ok, Err}
+use Rattle.events.specs.declared.Desk.{Desk}
+use Rattle.sheet.specs.declared.Refusal.{Refusal}
+use Rattle.sheet.specs.declared.Refusal.TheVariants.{OutsideRange, SeatAtFault}
+use Rattle.loading.specs.Loading.{settings_on, read_seats, join_all, seat_all, settled, loading}
 use Rattle.loading.proofs.Loads.{loads_framed, loads_refused, settles_range, settles_zeros, settles}
 use Rattle.sheet_laws.specs.Sheets.{IsDesk, LoadsAtLevel0, WrittenBack}
 use Rattle.sheet_laws.proofs.Read.{sheet-ends}
 use Rattle.sheet_laws.proofs.Printed.{seats_back, trailer_back}
 use Rattle.sheet_laws.proofs.Back.{joined}
 use Rattle.sheet_laws.proofs.Saved.{saves, written}
-
-refused_number : (n : ℕ) → (not_loaded n).number ≡ n
-unfolding not_loaded
-refused_number n = refl
 
 -- what every check found
 pub record Sound (s : List ℕ) : Type 0 where
@@ -38,27 +38,23 @@ pub record Sound (s : List ℕ) : Type 0 where
   pub zeros : zeros_fit s (settings_place s) ≡ true
   pub goes : loading s ≡ settled s
 
-module _ (s : List ℕ) (a : (loading s).number ≡ 0) where
-  not_so : {P : Type 0} (n : ℕ) → (n ≡ 0 → ⊥) → loading s ≡ not_loaded n → P
-  not_so n k e = absurd (k (sym (refused_number n) ∙ ap (λ (l : Load). l.number) (sym e) ∙ a))
-
-  above : (n : ℕ) → suc n ≡ 0 → ⊥
-  above n q = omega (arith, q)
+module _ (s : List ℕ) (d : Desk) (a : loading s ≡ Ok d) where
+  not_so : {P : Type 0} (r : Refusal) → loading s ≡ Err r → P
+  not_so r e = let q : Err r ≡ Ok d = sym e ∙ a in cc
 
   sound : Sound s
-  sound =
-      by_test (eqb (verdict_number (framing s)) 0)
-      (λ t.
-      let f = eqb-true (verdict_number (framing s)) 0 t in
-      let goes = loads_framed s f in
-      by_test (in_range (settings_on s))
-      (λ r.
-      by_test (zeros_fit s (settings_place s))
-      (λ z. record { frame = framed s f; range = r; zeros = z; goes = goes })
-      (λ z. not_so 44 (above 43) (goes ∙ settles_zeros s r z)))
-      (λ r. not_so 44 (above 43) (goes ∙ settles_range s r)))
-      (λ t. let k = eqb-false (verdict_number (framing s)) 0 t in
-      not_so (verdict_number (framing s)) k (loads_refused s (verdict_number (framing s)) refl k))
+  sound = by_frame (framing s) refl
+    where
+      by_frame : (f : Result (Unit {0}) Refusal) → framing s ≡ f → Sound s
+      by_frame (Err r) e = not_so r (loads_refused s r e)
+      by_frame (Ok u) e =
+          let goes = loads_framed s e in
+          by_test (in_range (settings_on s))
+          (λ r.
+          by_test (zeros_fit s (settings_place s))
+          (λ z. record { frame = framed s e; range = r; zeros = z; goes = goes })
+          (λ z. not_so OutsideRange (goes ∙ settles_zeros s r z)))
+          (λ r. not_so OutsideRange (goes ∙ settles_range s r))
 
   abbrev st : Settings
   st = settings_on s
@@ -69,12 +65,12 @@ module _ (s : List ℕ) (a : (loading s).number ≡ 0) where
   -- the seats that were read, and their desk
   pub record Found : Type 0 where
     pub seats : List Seat
-    pub read : read_seats (seat_count s) s 0 ≡ whole seats
+    pub read : read_seats (seat_count s) s 0 ≡ Some seats
     pub is : loading s ≡ join_all (empty_hall st) no_names seats
 
-  find : (x : Seats) → read_seats (seat_count s) s 0 ≡ x → Found
-  find (whole zs) e = record { seats = zs; read = e; is = seated ∙ ap (seat_all (empty_hall st) no_names) e }
-  find fault e = not_so 45 (above 44) (seated ∙ ap (seat_all (empty_hall st) no_names) e)
+  find : (x : Option (List Seat)) → read_seats (seat_count s) s 0 ≡ x → Found
+  find (Some zs) e = record { seats = zs; read = e; is = seated ∙ ap (seat_all (empty_hall st) no_names) e }
+  find None e = not_so SeatAtFault (seated ∙ ap (seat_all (empty_hall st) no_names) e)
 
   found : Found
   found = find (read_seats (seat_count s) s 0) refl
@@ -119,22 +115,24 @@ module _ (s : List ℕ) (a : (loading s).number ≡ 0) where
         let k : seat_count s ≤ 16 = sound.frame.few in
         omega (arith, b.count)
 
-    desk : IsDesk (join_all (empty_hall st) no_names found.seats) found.seats (settings_on s)
-    desk = joined found.seats st few (ap (λ (l : Load). l.number) (sym found.is) ∙ a)
+    desk : IsDesk d found.seats (settings_on s)
+    desk = joined found.seats st d few (sym found.is ∙ a)
 
-    back : sheet_of (loading s).hall (loading s).names ≡ s
+    back : sheet_of d.hall d.names ≡ s
     unfolding sheet_of
-    back = rw (found.is, desk.seats, desk.settings) sheet_again
+    back =
+        ap (λ (xs : List Seat). sheet xs d.hall.settings) desk.seats ∙ ap (sheet found.seats) desk.settings ∙ sheet_again
 
-    level : (loading s).hall.settings.normal ≡ 0
-    level = rw (found.is, desk.settings) (eqb-true (settings_on s).normal 0 zeros_apart.0)
+    level : d.hall.settings.normal ≡ 0
+    level = rw desk.settings (eqb-true (settings_on s).normal 0 zeros_apart.0)
 
 pub loads_at_level_0 : LoadsAtLevel0
-loads_at_level_0 s octets a = level s a octets
+loads_at_level_0 s d octets a = level s d a octets
 
 pub written_back : WrittenBack
-written_back s room octets a =
-    let h = (loading s).hall in
-    let ns = (loading s).names in
-    let e = back s a octets in
-    record { done = λ l. saves h ns room (level s a octets) (rw e l); octets = λ z. written h ns room z ∙ e }
+written_back s room d octets a =
+    let e = back s d a octets in
+    record {
+      done = λ l. saves d.hall d.names room (level s d a octets) (rw e l);
+      octets = λ z. written d.hall d.names room z ∙ e;
+    }

@@ -16,30 +16,24 @@ use Rattle.hall.specs.declared.Newcomer.{Newcomer}
 use Rattle.identities.specs.declared.Names.{Names}
 use Rattle.hall.specs.declared.Hall.{Hall}
 use Rattle.joining.specs.declared.Joined.{Joined}
-use Rattle.hall.specs.declared.Found.{Found}
-use Rattle.hall.specs.declared.Found.TheVariants.{At, Nowhere}
+use Rattle.std.proofs.Common.{Option, Some, None, Result, Ok, IsOk, is_some}
 use Rattle.hall.specs.Seats.{has_ssrc, seat_of, with_seat}
 use Rattle.identities.specs.Identity.{same, has_name, seat_named, length_allowed}
-use Rattle.hall.specs.Seats.{is_at}
 use Rattle.joining.specs.Join.{ssrc_taken, join, seated}
 use Rattle.joining.specs.Joins.{Passes, Joins, turned_away, sits_down}
 use Rattle.joining.proofs.Joins.{join_seats, every_join}
 use Rattle.sheet.specs.Layout.{Seat, seat_at}
-use Rattle.loading.specs.Loading.{Load, loaded, not_loaded, if_seated, join_all}
+use Rattle.events.specs.declared.Desk.{Desk}
+use Rattle.sheet.specs.declared.Refusal.{Refusal}
+use Rattle.loading.specs.Loading.{loaded, if_seated, join_all}
 use Rattle.sheet_laws.proofs.Rows.{first_none, nobody, Row, row_free, row_on}
 
-differ : ◌≡◌ {A = ℕ} 0 1 → ⊥
-differ z = omega arith
-
-no_seat : (s : ℕ) → Nowhere ≡ At s → ⊥
-no_seat s e = differ (cc)
-
 -- a newcomer that has a seat has passed every test
-join_passed : (h : Hall) (ns : Names) (o : List ℕ) (n : Newcomer) (s : ℕ) → (join h ns o n).seat ≡ At s → Passes h ns o n
+join_passed : (h : Hall) (ns : Names) (o : List ℕ) (n : Newcomer) (s : ℕ) → (join h ns o n).seat ≡ Some s → Passes h ns o n
 join_passed h ns o n s e = go (every_join h ns o n)
   where
     go : Joins h ns o n (join h ns o n) → Passes h ns o n
-    go (turned_away a f q) = absurd (no_seat s (sym (ap (λ (j : Joined). j.seat) q) ∙ e))
+    go (turned_away r q) = let none : None ≡ Some s = sym (ap (λ (j : Joined). j.seat) q) ∙ e in cc
     go (sits_down t p f z b q) = p
 
 -- what the row becomes when the next of the list joins
@@ -48,12 +42,12 @@ module _ (h : Hall) (ns : Names) (zs : List Seat) (k : ℕ) (row : Row h ns zs k
   next = join h ns (get_or zs k nobody).identity (get_or zs k nobody).who
 
   pub next_is : Passes h ns (get_or zs k nobody).identity (get_or zs k nobody).who
-      → next ≡ seated h ns (get_or zs k nobody).identity (get_or zs k nobody).who (At k)
+      → next ≡ seated h ns (get_or zs k nobody).identity (get_or zs k nobody).who (Some k)
   next_is p =
       join_seats h ns (get_or zs k nobody).identity (get_or zs k nobody).who p
       ∙ ap (seated h ns (get_or zs k nobody).identity (get_or zs k nobody).who) (row_free h ns zs k row w)
 
-  pub next_seat : Passes h ns (get_or zs k nobody).identity (get_or zs k nobody).who → next.seat ≡ At k
+  pub next_seat : Passes h ns (get_or zs k nobody).identity (get_or zs k nobody).who → next.seat ≡ Some k
   unfolding seated
   next_seat p = rw (next_is p)
 
@@ -66,10 +60,10 @@ module _ (h : Hall) (ns : Names) (zs : List Seat) (k : ℕ) (row : Row h ns zs k
   next-settings p = rw (next_is p)
 
 -- a desk with these seats in a row, and these settings
-pub record Filled (st : Settings) (zs : List Seat) (l : Load) : Type 0 where
-  pub is : l ≡ loaded l.hall l.names
-  pub row : Row l.hall l.names zs (length zs)
-  pub settings : l.hall.settings ≡ st
+pub record Filled (st : Settings) (zs : List Seat) (d : Desk) : Type 0 where
+  pub is : d ≡ loaded d.hall d.names
+  pub row : Row d.hall d.names zs (length zs)
+  pub settings : d.hall.settings ≡ st
 
 -- a seat that may be on a sheet with these settings, and two that may both be
 pub record SeatOk (st : Settings) (x : Seat) : Type 0 where
@@ -128,45 +122,43 @@ module _ (st : Settings) (h : Hall) (ns : Names) (zs : List Seat) (k : ℕ) (row
       let o = fine_at st zs k fine l in
       record {
         long = o.long;
-        unnamed = ap is_at (first_none (has_name h ns x.identity) 16 0 (λ i b. no_name i b));
+        unnamed = ap is_some (first_none (has_name h ns x.identity) 16 0 (λ i b. no_name i b));
         unheard =
-            rw (is, o.not_desk) (ap is_at (first_none (has_ssrc h x.who.ssrc) 16 0 (λ i b. no_ssrc i b)));
+            rw (is, o.not_desk) (ap is_some (first_none (has_ssrc h x.who.ssrc) 16 0 (λ i b. no_ssrc i b)));
       }
 
-refused_45 : (not_loaded 45).number ≡ 0 → ⊥
-unfolding not_loaded
-refused_45 e = omega arith
-
-by_seat {ℓ} : (P : Load → Type ℓ) (f : Found) (m : Load) → (if_seated f m).number ≡ 0 → ((s : ℕ) → f ≡ At s → m.number ≡ 0 → P m) →
-    P (if_seated f m)
-by_seat P (At s) m a g = g s refl a
-by_seat P Nowhere m a g = absurd (refused_45 a)
+-- a seat that was taken, where all that follow took theirs
+by_seat {ℓ} : {P : Type ℓ} (f : Option ℕ) (m : Result Desk Refusal) (d : Desk) → if_seated f m ≡ Ok d →
+    ((s : ℕ) → f ≡ Some s → m ≡ Ok d → P) → P
+by_seat (Some s) m d e g = g s refl e
+by_seat None m d e g = cc
 
 module _ (st : Settings) (zs : List Seat) (few : length zs ≤ 16) where
   ended : (k : ℕ) → length zs ≤ k → drop k zs ≡ []
   ended k l = drop_of_length-le zs l
 
   -- where all were seated, the desk is filled
-  pub filled : (n k : ℕ) (h : Hall) (ns : Names) → k + n ≡ length zs → Row h ns zs k → h.settings ≡ st
-      → (join_all h ns (drop k zs)).number ≡ 0 → Filled st zs (join_all h ns (drop k zs))
+  pub filled : (n k : ℕ) (h : Hall) (ns : Names) (d : Desk) → k + n ≡ length zs → Row h ns zs k → h.settings ≡ st
+      → join_all h ns (drop k zs) ≡ Ok d → Filled st zs d
   unfolding join_all
-  filled zero k h ns e row s a =
+  filled zero k h ns d e row s a =
       let q : k ≡ length zs = omega arith in
-      rw (ended k (omega arith)) (record { is = refl; row = subst (λ (m : ℕ). Row h ns zs m) q row; settings = s })
-  filled (suc n) k h ns e row s a =
+      let b : Ok (loaded h ns) ≡ Ok d = rw (ended k (omega arith)) at a in
+      let c : loaded h ns ≡ d = cc in
+      rw (← c) (record { is = refl; row = subst (λ (m : ℕ). Row h ns zs m) q row; settings = s })
+  filled (suc n) k h ns d e row s a =
       let l : k < length zs = omega arith in
       let w : k < 16 = omega arith in
       let c : drop k zs ≡ get_or zs k nobody ∷ drop (suc k) zs = drop-cons zs k nobody l in
       let j = next h ns zs k row w in
-      rw c
-      (by_seat (Filled st zs) j.seat (join_all j.hall j.names (drop (suc k) zs)) (rw c at a)
+      by_seat j.seat (join_all j.hall j.names (drop (suc k) zs)) d (rw c at a)
       (λ t q b.
       let p = join_passed h ns (get_or zs k nobody).identity (get_or zs k nobody).who t q in
-      filled n (suc k) j.hall j.names (omega arith) (next_row h ns zs k row w p) (next-settings h ns zs k row w p ∙ s) b))
+      filled n (suc k) j.hall j.names d (omega arith) (next_row h ns zs k row w p) (next-settings h ns zs k row w p ∙ s) b)
 
   -- a fine list is seated whole
   pub all_seated : (n k : ℕ) (h : Hall) (ns : Names) → k + n ≡ length zs → Row h ns zs k → h.settings ≡ st → Fine st zs
-      → (join_all h ns (drop k zs)).number ≡ 0
+      → IsOk (join_all h ns (drop k zs))
   unfolding join_all
   all_seated zero k h ns e row s f = rw (ended k (omega arith))
   all_seated (suc n) k h ns e row s f =

@@ -5,6 +5,7 @@ use native.Mathlib.Omega.{arith}
 use mathlib.Core.Bool.{true}
 use mathlib.Core.Path.{◌≡◌}
 use borrow.Author.Tests.{ne_eqb}
+use Rattle.std.proofs.lemmas.Bool.Decides.{nat_tests}
 use Rattle.words.specs.Choice.{when◌then◌else◌, by_test}
 use Rattle.identities.specs.declared.Names.{Names}
 use Rattle.hall.specs.declared.Hall.{Hall}
@@ -27,7 +28,7 @@ kept h ns k =
       apart =
           λ s t l w e f.
           record {
-            ssrcs = ne_eqb _ _ (λ q. let z = k.ssrcs s t e f q in absurd (omega (arith, z)));
+            ssrcs = grind (arith, nat_tests, k.ssrcs s t e f);
             identities =
                 by_test (same (octets_of (name_at ns s)) (octets_of (name_at ns t)))
                 (λ q. let z = k.identities s t e f q in absurd (omega (arith, z))) (λ q. q);

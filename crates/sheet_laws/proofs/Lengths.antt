@@ -3,20 +3,17 @@ use Prim.Native.Nat.{ℕ, zero, suc, ◌+◌, ◌*◌, ◌≤◌, ◌<◌}
 use native.Mathlib.Omega.{arith}
 use mathlib.Core.Bool.{true}
 use mathlib.Core.Path.{◌≡◌}
-use lib.Dec.{eqb}
 use lib.ListN.{length, length-append}
-use borrow.Author.Tests.{eqb-true, eqb-false}
 use Rattle.words.specs.Choice.{when◌then◌else◌, by_test}
 use Rattle.hall.specs.declared.Hall.{Hall}
 use Rattle.hall.specs.Seats.{is_present}
 use Rattle.identities.specs.declared.Names.{Names}
 use Rattle.identities.proofs.Naming.{allowed_short}
-use Rattle.sheet.specs.Layout.{octets_of_seat, seats_octets, seat_at, seats_from, seats_of}
+use Rattle.sheet.specs.Layout.{longest_sheet, octets_of_seat, seats_octets, seat_at, seats_from, seats_of}
 use Rattle.sheet.proofs.Sizes.{length_seat, length-sheet_of}
-use Rattle.saving.specs.Saving.{saving}
 use Rattle.sheet_laws.specs.Sheets.{AllLengths}
 use Rattle.sheet_laws.proofs.Kept.{Kept, kept}
-use Rattle.sheet_laws.proofs.Saved.{saves, length-written, refused_none}
+use Rattle.sheet_laws.proofs.Saved.{saves, if_saved}
 
 module _ (h : Hall) (ns : Names) (k : Kept h ns) where
   one_long : (s : ℕ) → s < 16 → is_present h s ≡ true → length (octets_of_seat (seat_at h ns s)) ≤ 69
@@ -42,13 +39,8 @@ module _ (h : Hall) (ns : Names) (k : Kept h ns) where
 pub lengths : AllLengths
 lengths h ns room =
     record {
-      shortest = λ z. omega (arith, length-sheet_of h ns, length-written h ns room z);
+      shortest = if_saved h ns room (λ n. 20 ≤ n) (omega (arith, length-sheet_of h ns));
       longest =
-          λ k.
-          by_test (eqb (saving h ns room).number 0)
-          (λ t.
-          let z = eqb-true (saving h ns room).number 0 t in
-          omega (arith, length-sheet_of h ns, length-written h ns room z, seats_long h ns (kept h ns k)))
-          (λ t. omega (arith, refused_none h ns room (eqb-false (saving h ns room).number 0 t)));
+          λ k. if_saved h ns room (λ n. n ≤ longest_sheet) (omega (arith, length-sheet_of h ns, seats_long h ns (kept h ns k)));
       enough = λ k e l. saves h ns room e (omega (arith, length-sheet_of h ns, seats_long h ns (kept h ns k)));
     }

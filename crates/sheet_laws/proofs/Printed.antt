@@ -5,6 +5,8 @@ use native.Mathlib.Omega.{arith}
 use mathlib.Core.Bool.{Bool, true, false}
 use mathlib.Core.List.{List, [], ◌∷◌, ◌++◌, append_assoc, append-nil}
 use mathlib.Core.Path.{◌≡◌, refl, sym, ap, ◌∙◌}
+use Rattle.std.proofs.Common.{Option, Some, None}
+use Rattle.std.specs.Option.{option_map}
 use lib.Dec.{leb, eqb}
 use lib.ListN.{length, get_or, take, drop, length-drop}
 use lib.Seq.{drop-drop, take-add, take_all}
@@ -19,7 +21,7 @@ use Rattle.seat_octets.proofs.Bits.{flags_forth}
 use Rattle.sheet.specs.Layout.{Seat, trailer_size, tail_size, octets_of_seat, seats_octets, trailer}
 use Rattle.sheet.specs.Framing.{settings_place, trailer_place, settings_offset, seats_offset, seat_count, form_of, letters_of}
 use Rattle.sheet.proofs.Frames.{Framed}
-use Rattle.loading.specs.Loading.{identity_length, after_seat, who_is, read_seat, laid_out, Seats, whole, fault, seat_infront, read_seats}
+use Rattle.loading.specs.Loading.{identity_length, after_seat, who_is, read_seat, laid_out, read_seats}
 use Rattle.loading.proofs.Loads.{laid_fits}
 
 module _ (s : List ℕ) (octets : Octets s) where
@@ -86,18 +88,19 @@ module _ (s : List ℕ) (octets : Octets s) where
       pub count : length zs ≡ n
       pub written : take at s ++ seats_octets zs ≡ take (settings_place s) s
 
-    back_none : (at : ℕ) (zs : List Seat) (t : Bool) → eqb at (settings_place s) ≡ t → (when t then whole [] else fault) ≡ whole zs →
+    back_none : (at : ℕ) (zs : List Seat) (t : Bool) → eqb at (settings_place s) ≡ t → (when t then Some [] else None) ≡ Some zs →
         Back 0 at zs
     unfolding when◌then◌else◌ seats_octets
     back_none at zs true q e =
         let z : [] ≡ zs = cc in
         rw (← z) (record { count = refl; written = append-nil (take at s) ∙ ap (λ (m : ℕ). take m s) (eqb-true at (settings_place s) q) })
-    back_none at zs false q e = absurd (let z : ◌≡◌ {A = ℕ} 0 1 = cc in omega arith)
+    back_none at zs false q e = cc
 
-    back_one : (n at : ℕ) (zs : List Seat) (rest : Seats) → laid_out s at ≡ true → seat_infront (read_seat s at) rest ≡ whole zs
-        → ((ys : List Seat) → rest ≡ whole ys → Back n (after_seat s at) ys) → Back (suc n) at zs
+    back_one : (n at : ℕ) (zs : List Seat) (rest : Option (List Seat)) → laid_out s at ≡ true
+        → option_map (λ (ys : List Seat). read_seat s at ∷ ys) rest ≡ Some zs
+        → ((ys : List Seat) → rest ≡ Some ys → Back n (after_seat s at) ys) → Back (suc n) at zs
     unfolding seats_octets
-    back_one n at zs (whole ys) l e next =
+    back_one n at zs (Some ys) l e next =
         let z : read_seat s at ∷ ys ≡ zs = cc in
         let b = next ys refl in
         rw (← z)
@@ -107,15 +110,15 @@ module _ (s : List ℕ) (octets : Octets s) where
               sym (append_assoc (take at s) (octets_of_seat (read_seat s at)) (seats_octets ys))
               ∙ ap (λ (o : List ℕ). o ++ seats_octets ys) (seat_back at l) ∙ b.written;
         })
-    back_one n at zs fault l e next = absurd (let z : ◌≡◌ {A = ℕ} 0 1 = cc in omega arith)
+    back_one n at zs None l e next = cc
 
-    pub seats_back : (n at : ℕ) (zs : List Seat) → read_seats n s at ≡ whole zs → Back n at zs
+    pub seats_back : (n at : ℕ) (zs : List Seat) → read_seats n s at ≡ Some zs → Back n at zs
     unfolding read_seats when◌then◌else◌
     seats_back zero at zs e = back_none at zs (eqb at (settings_place s)) refl e
     seats_back (suc n) at zs e =
         by_test (laid_out s at)
         (λ l. back_one n at zs (read_seats n s (after_seat s at)) l (rw l at e) (λ ys q. seats_back n (after_seat s at) ys q))
-        (λ l. absurd (no_seats_lem zs (rw l at e)))
+        (λ l. no_seats_lem zs (rw l at e))
       where
-        no_seats_lem : (ys : List Seat) → fault ≡ whole ys → ⊥
-        no_seats_lem ys q = let z : ◌≡◌ {A = ℕ} 0 1 = cc in omega arith
+        no_seats_lem : (ys : List Seat) → None ≡ Some ys → Back (suc n) at zs
+        no_seats_lem ys q = cc

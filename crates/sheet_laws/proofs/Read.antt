@@ -4,6 +4,7 @@ use native.Mathlib.Omega.{arith}
 use mathlib.Core.Bool.{true}
 use mathlib.Core.List.{List, [], ◌∷◌, ◌++◌, append_assoc}
 use mathlib.Core.Path.{◌≡◌, refl, sym, ap, ◌∙◌}
+use Rattle.std.proofs.Common.{Some}
 use lib.Dec.{eqb}
 use lib.ListN.{length, get_or, length-append}
 use lib.Seq.{take-append_seam}
@@ -20,7 +21,7 @@ use Rattle.sheet.specs.Layout.{Seat, form, sheet_letters, tail_size, octets_of_s
 use Rattle.sheet.specs.Framing.{settings_place, trailer_place, seat_count}
 use Rattle.sheet.proofs.Frames.{Framed}
 use Rattle.sheet.proofs.Sizes.{length_seat, length-trailer, length-sheet}
-use Rattle.loading.specs.Loading.{settings_on, identity_length, after_seat, who_is, read_seat, laid_out, whole, read_seats}
+use Rattle.loading.specs.Loading.{settings_on, identity_length, after_seat, who_is, read_seat, laid_out, read_seats}
 
 -- what stands in the trailer
 module _ (at count : ℕ) where
@@ -172,7 +173,7 @@ module _ (x : Seat) (r : List ℕ) where
         )
 
 pub all_read : (xs : List Seat) (s p r : List ℕ) (at : ℕ) → s ≡ p ++ (seats_octets xs ++ r) → at ≡ length p → length r ≡ tail_size
-    → read_seats (length xs) s at ≡ whole xs
+    → read_seats (length xs) s at ≡ Some xs
 unfolding read_seats seats_octets when◌then◌else◌
 all_read [] s p r at is here l =
     let q : length s ≡ length p + tail_size = rw is (length-append p r ∙ ap (λ (n : ℕ). length p + n) l) in
@@ -182,13 +183,13 @@ all_read (x ∷ xs) s p r at is here l =
     let is' : s ≡ p ++ (octets_of_seat x ++ rest) =
     is ∙ ap (λ (t : List ℕ). p ++ t) (append_assoc (octets_of_seat x) (seats_octets xs) r) in
     let k : tail_size ≤ length rest = omega (arith, length-append (seats_octets xs) r) in
-    let on : read_seats (length xs) s (after_seat s at) ≡ whole xs =
+    let on : read_seats (length xs) s (after_seat s at) ≡ Some xs =
     all_read xs s (p ++ octets_of_seat x) r (after_seat s at) (is' ∙ sym (append_assoc p (octets_of_seat x) rest))
     (after_read x rest s p at is' here ∙ sym (length-append p (octets_of_seat x))) l in
     rw (seat_laid_out x rest s p at is' here k, seat_read x rest s p at is' here, on)
 
 -- the seats of a sheet
-pub seats_again : (xs : List Seat) (st : Settings) → read_seats (seat_count (sheet xs st)) (sheet xs st) 0 ≡ whole xs
+pub seats_again : (xs : List Seat) (st : Settings) → read_seats (seat_count (sheet xs st)) (sheet xs st) 0 ≡ Some xs
 seats_again xs st =
     ap (λ (n : ℕ). read_seats n (sheet xs st) 0) (count_read xs st)
     ∙ all_read xs (sheet xs st) [] (ending xs st) 0 (sheet-ends xs st) refl (length-ending xs st)

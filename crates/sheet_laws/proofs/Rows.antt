@@ -9,13 +9,14 @@ use lib.Dec.{ltb, eqb}
 use lib.ListN.{length, get_or, drop, length-set, get_or-replicate, drop_of_length-le}
 use lib.Seq.{get_or-set_same, get_or-set_other, drop-cons}
 use borrow.Author.Tests.{eqb-true, eqb-false, lt-ltb, le-ltb, ltb-true, ltb-false}
+use Rattle.std.proofs.lemmas.Bool.Decides.{nat_tests}
 use Rattle.words.specs.Choice.{when◌then◌else◌, by_test}
 use Rattle.hall.specs.declared.Settings.{Settings}
 use Rattle.hall.specs.declared.Newcomer.{Newcomer}
 use Rattle.identities.specs.declared.Name.{Name}
 use Rattle.identities.specs.declared.Names.{Names}
 use Rattle.hall.specs.declared.Hall.{Hall}
-use Rattle.hall.specs.declared.Found.TheVariants.{At, Nowhere}
+use Rattle.std.proofs.Common.{Some, None}
 use Rattle.hall.specs.Seats.{no_flags, empty_hall, is_present, first_from, free_seat, with_seat, no_one}
 use Rattle.identities.specs.Identity.{octets_of, name_of, no_name, no_names, Sixteen, with_name, length_allowed}
 use Rattle.identities.proofs.Naming.{allowed_short, name-octets}
@@ -23,7 +24,7 @@ use Rattle.sheet.specs.Layout.{Seat, seat_at, seats_from, seats_of}
 
 -- a search: the lowest seat where a test holds, and none where it holds nowhere
 pub first_at : (test : ℕ → Bool) (n s k : ℕ) → s ≤ k → k < s + n → ((i : ℕ) → i < k → test i ≡ false) → test k ≡ true →
-    first_from test n s ≡ At k
+    first_from test n s ≡ Some k
 unfolding when◌then◌else◌
 first_at test zero s k l h f t = absurd (omega arith)
 first_at test (suc n) s k l h f t =
@@ -32,7 +33,7 @@ first_at test (suc n) s k l h f t =
     let lt : s < k = omega (arith, eqb-false s k e) in
     rw (f s lt) (first_at test n (suc s) k (omega arith) (omega arith) f t))
 
-pub first_none : (test : ℕ → Bool) (n s : ℕ) → ((i : ℕ) → i < s + n → test i ≡ false) → first_from test n s ≡ Nowhere
+pub first_none : (test : ℕ → Bool) (n s : ℕ) → ((i : ℕ) → i < s + n → test i ≡ false) → first_from test n s ≡ None
 unfolding when◌then◌else◌
 first_none test zero s f = refl
 first_none test (suc n) s f = rw (f s (omega arith)) (first_none test n (suc s) (λ i h. f i (omega arith)))
@@ -98,7 +99,7 @@ row-starts st zs =
     }
 
 module _ (h : Hall) (ns : Names) (zs : List Seat) (k : ℕ) (row : Row h ns zs k) (w : k < 16) where
-  pub row_free : free_seat h ≡ At k
+  pub row_free : free_seat h ≡ Some k
   unfolding free_seat
   row_free =
       first_at (λ (s : ℕ). not (is_present h s)) 16 0 k (omega arith) (omega arith)
@@ -134,9 +135,7 @@ module _ (h : Hall) (ns : Names) (zs : List Seat) (k : ℕ) (row : Row h ns zs k
       }
     where
       below_same : (i k : ℕ) → (i ≡ k → ⊥) → ltb i k ≡ ltb i (k + 1)
-      below_same i k d =
-          by_test (ltb i k) (λ e. e ∙ sym (lt-ltb i (k + 1) (omega (arith, ltb-true i k e))))
-          (λ e. e ∙ sym (le-ltb i (k + 1) (omega (arith, ltb-false i k e, d))))
+      below_same i k d = grind (arith, nat_tests)
 
 -- the seats of a hall whose row is the whole list
 module _ (h : Hall) (ns : Names) (zs : List Seat) (few : length zs ≤ 16) (row : Row h ns zs (length zs)) where

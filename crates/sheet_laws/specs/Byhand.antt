@@ -1,6 +1,6 @@
 -- A sheet written by hand from document 01, "The sheet", with no help from the definitions: it loads, and as what it says. By computing
 -- alone, so the definitions are held from outside. Assumes nothing.
-use Rattle.std.specs.Prelude.{ℕ, true, false, List, [], ◌∷◌, ◌++◌, ◌≡◌, refl, replicate}
+use Rattle.std.specs.Prelude.{ℕ, true, false, List, [], ◌∷◌, ◌++◌, IsOk, IfOk, ◌≡◌, refl, replicate}
 use Rattle.words.specs.Choice.{when◌then◌else◌}
 use Rattle.octets.specs.Octets.{be16, be32, octets16, octets32, part, over}
 use Rattle.hall.specs.declared.Flags.{Flags}
@@ -11,7 +11,7 @@ use Rattle.seat_octets.specs.Layout.{flags_octet, flags_of, settings_octets, set
 use Rattle.sheet.specs.Layout.{Seat, octets_of_seat, seats_octets, trailer, seats_of, sheet, sheet_of}
 use Rattle.sheet.specs.Framing.{framing}
 use Rattle.saving.specs.Saving.{saving, room_after}
-use Rattle.loading.specs.Loading.{not_loaded, who_is, read_seat, laid_out, read_seats, join_all, loading}
+use Rattle.loading.specs.Loading.{who_is, read_seat, laid_out, read_seats, join_all, loading}
 
 -- two seats, a and bc, the settings, the trailer: 37 octets
 abbrev pub by_hand : List ℕ
@@ -35,26 +35,26 @@ two =
 -- all that loading and saving stand on, opened, so that a sheet computes
 opened : Type 0
 unfolding
-    loading framing not_loaded settings_in zeros_fit read_seats read_seat who_is flags_of laid_out join_all join seated ssrc_taken
+    loading framing settings_in zeros_fit read_seats read_seat who_is flags_of laid_out join_all join seated ssrc_taken
     seat_named same
     length_allowed seat_of free_seat with_seat with_name name_of octets_of no_names empty_hall in_range seats_of sheet_of sheet seats_octets
     octets_of_seat
     settings_octets trailer flags_octet saving room_after over be16 be32 octets16 octets32 part when◌then◌else◌
 opened = ℕ
 
-pub accepted : (loading by_hand).number ≡ 0
+pub accepted : IsOk (loading by_hand)
 unfolding opened
 accepted = refl
 
-pub its_seats : seats_of (loading by_hand).hall (loading by_hand).names ≡ two
+pub its_seats : IfOk (loading by_hand) (λ d. seats_of d.hall d.names ≡ two)
 unfolding opened
 its_seats = refl
 
-pub its_settings : (loading by_hand).hall.settings ≡ settings_of 1 200 2 2 2 30 0
+pub its_settings : IfOk (loading by_hand) (λ d. d.hall.settings ≡ settings_of 1 200 2 2 2 30 0)
 unfolding opened
 its_settings = refl
 
 -- saved again into a room that is longer by two
-pub saved_again : room_after (loading by_hand).hall (loading by_hand).names (replicate 39 0xFF) ≡ by_hand ++ (0xFF ∷ 0xFF ∷ [])
+pub saved_again : IfOk (loading by_hand) (λ d. room_after d.hall d.names (replicate 39 0xFF) ≡ by_hand ++ (0xFF ∷ 0xFF ∷ []))
 unfolding opened
 saved_again = refl

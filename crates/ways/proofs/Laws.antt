@@ -4,9 +4,7 @@ use Prim.Native.Nat.{ℕ}
 use mathlib.Core.Path.{◌≡◌, ap, sym, ◌∙◌}
 use native.Mathlib.Omega.{arith}
 use Rattle.hall.specs.declared.Hall.{Hall}
-use Rattle.hall.specs.declared.Asked.{Asked}
-use Rattle.hall.specs.declared.Found.{Found}
-use Rattle.hall.specs.declared.Found.TheVariants.{At, Nowhere}
+use Rattle.std.specs.Prelude.{Option, Some, None}
 use Rattle.hall.specs.Seats.{effective, seat_of}
 use Rattle.steps.specs.declared.Phase.{Phase}
 use Rattle.steps.specs.declared.Core.{Core}
@@ -33,13 +31,13 @@ module _ {c : Core} {h : Hall} {t : ℕ} {new : Core} {first second : Sending} w
 -- the priority that a seat asks for is its effective one
 module _ (h : Hall) (t p : ℕ) where
   pub record Effective : Type 0 where
-    pub field : Asked
+    pub field : Option ℕ
     pub is : p ≡ effective h t field
 
-  from_seat_lem : (a : Asked) (f : Found) → from_seat h a f ≡ asks t p → Effective
-  from_seat_lem a (At s) q =
+  from_seat_lem : (a f : Option ℕ) → from_seat h a f ≡ asks t p → Effective
+  from_seat_lem a (Some s) q =
       let i : s ≡ t = cc in record { field = a; is = (let j : effective h s a ≡ p = cc in sym j ∙ ap (λ (u : ℕ). effective h u a) i) }
-  from_seat_lem a Nowhere q = let z : ◌≡◌ {A = ℕ} 0 1 = cc in absurd (omega arith)
+  from_seat_lem a None q = let z : ◌≡◌ {A = ℕ} 0 1 = cc in absurd (omega arith)
 
   by_event : (e : Event) → asked_by h e ≡ asks t p → Effective
   by_event (Request x a) q = from_seat_lem a (seat_of h x) q

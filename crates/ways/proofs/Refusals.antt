@@ -6,8 +6,8 @@ use Rattle.words.specs.Choice.{by_if}
 use Rattle.words.proofs.Tests.{clash, neither}
 use Rattle.line.specs.declared.Line.{Line}
 use Rattle.hall.specs.declared.Hall.{Hall}
-use Rattle.hall.specs.declared.Answer.{Answer}
-use Rattle.hall.specs.declared.Answer.TheVariants.{Done}
+use Rattle.std.specs.Prelude.{Ok}
+use Rattle.hall.specs.Answers.{DeskAnswer}
 use Rattle.steps.specs.declared.Core.{Core}
 use Rattle.steps.specs.declared.Kind.{Kind}
 use Rattle.steps.specs.declared.Sending.{Sending}
@@ -43,14 +43,14 @@ six_none {c} {h} {t} (informs_and_presses e b k q f s) = rw (f, s, info_none c.l
 
 module _ (d : Desk) (x : Doing) (l : Outcome) where
   -- what is done is not refused
-  done : {first second : Sending} {m : Marks} {A : Type 0} → Reports l first second m → (l.answer ≡ Done → ⊥) → A
+  done : {first second : Sending} {m : Marks} {A : Type 0} → Reports l first second m → (l.answer ≡ Ok tt → ⊥) → A
   done q n = absurd (n q.0)
 
   abbrev Same : Type 0
   Same = (l.desk ≡ d) × (l.report.first ≡ silence) × (l.report.second ≡ silence) × (l.report.marks ≡ no_marks)
 
-  refused-same : way.Way d x l → (l.answer ≡ Done → ⊥) → Same
-  refused-same (way.refuses a f u v q m) n =
+  refused-same : way.Way d x l → (l.answer ≡ Ok tt → ⊥) → Same
+  refused-same (way.refuses r u v q m) n =
       (q, ap (λ (r : Report). r.first) m.1, ap (λ (r : Report). r.second) m.1, ap (λ (r : Report). r.marks) m.1)
   refused-same (way.grants_holder t p e b a w k q m) n = done m n
   refused-same (way.denies t p c a s u b q m) n = done m n
@@ -74,14 +74,14 @@ module _ (d : Desk) (x : Doing) (l : Outcome) where
   refused-same (way.idles_on y i q m) n = done m n
 
   -- what says something else is no Deny
-  other : {a : Answer} {r : Report} {A : Type 0} → (l.answer ≡ a) × (l.report ≡ r) → denies r ≡ false → denies l.report ≡ true → A
+  other : {a : DeskAnswer} {r : Report} {A : Type 0} → (l.answer ≡ a) × (l.report ≡ r) → denies r ≡ false → denies l.report ≡ true → A
   other q f z = clash z (ap denies q.1 ∙ f)
 
   abbrev Kept : Type 0
-  Kept = (l.answer ≡ Done) × (l.desk ≡ d) × (l.report.second ≡ silence) × (l.report.marks ≡ no_marks)
+  Kept = (l.answer ≡ Ok tt) × (l.desk ≡ d) × (l.report.second ≡ silence) × (l.report.marks ≡ no_marks)
 
   denied-same : way.Way d x l → denies l.report ≡ true → Kept
-  denied-same (way.refuses a f u v q m) z = other m refl z
+  denied-same (way.refuses r u v q m) z = other m refl z
   denied-same (way.grants_holder t p e b a w k q m) z = other m refl z
   denied-same (way.denies t p c a s u b q m) z =
       (m.0, q, ap (λ (r : Report). r.second) m.1, ap (λ (r : Report). r.marks) m.1)

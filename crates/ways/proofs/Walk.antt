@@ -18,10 +18,9 @@ use Rattle.line.specs.declared.Line.{Line}
 use Rattle.line.specs.Line.{waiting, line_of, enter, entry_of}
 use Rattle.hall.specs.declared.Hall.{Hall}
 use Rattle.identities.specs.declared.Names.{Names}
-use Rattle.hall.specs.declared.Answer.{Answer}
-use Rattle.hall.specs.declared.Answer.TheVariants.{Done, CallStopped, NoSuchSeat, NotExpected, NotRead}
-use Rattle.hall.specs.declared.Found.{Found}
-use Rattle.hall.specs.declared.Found.TheVariants.{At, Nowhere}
+use Rattle.std.specs.Prelude.{Option, Some, None, Result, Ok}
+use Rattle.hall.specs.declared.Refusal.{Refusal}
+use Rattle.hall.specs.declared.Refusal.TheVariants.{CallStopped, NoSuchSeat, NotExpected, NotRead}
 use Rattle.joining.specs.declared.Joined.{Joined}
 use Rattle.hall.specs.declared.Newcomer.{Newcomer}
 use Rattle.hall.specs.Seats.{alone, queues, receives_only, effective, is_present, has_ssrc, seat_of, vacated, finds}
@@ -33,7 +32,6 @@ use Rattle.joining.proofs.Joins.{every_join}
 use Rattle.steps.specs.declared.AlsoRuns.{AlsoRuns}
 use Rattle.steps.specs.declared.Kind.{Kind}
 use Rattle.steps.specs.declared.Report.{Report}
-use Rattle.steps.specs.declared.Mark.TheVariants.{Seat}
 use Rattle.steps.specs.declared.Phase.{Phase}
 use Rattle.steps.specs.declared.Phase.TheVariants.{Stopped, Idle, Taken, Revoking}
 use Rattle.steps.specs.declared.Core.{Core}
@@ -45,7 +43,6 @@ use Rattle.request.specs.Request.{is_idle, waits, full, presses, priority_in, de
 use Rattle.request.specs.Request.{asks_again, placed, request}
 use Rattle.events.specs.declared.Event.{Event}
 use Rattle.events.specs.declared.Event.TheVariants.{Start, Stop, Expiry, Request, Release, Position, Media, Other}
-use Rattle.events.specs.declared.Caller.{Caller}
 use Rattle.timers.specs.declared.Timer.{Timer}
 use Rattle.timers.specs.declared.Timer.TheVariants as timer
 use Rattle.timers.specs.Timers.{is_stopped, runs, running}
@@ -60,19 +57,6 @@ use Rattle.ways.specs.Ways as way
 use Rattle.ways.proofs.Apart.{no_leave, not-leave, gives_up_lem, asks-nobody, this_one, not-asked}
 use Rattle.ways.proofs.Phases.{stopped_quiet, idle_quiet, busy_else, t7_idle, taken_held, revoking_held}
 
--- a refusal is not done
-not_21 : CallStopped ≡ Done → ⊥
-not_21 q = let z : ◌≡◌ {A = ℕ} 0 1 = cc in omega arith
-
-not_22 : NoSuchSeat ≡ Done → ⊥
-not_22 q = let z : ◌≡◌ {A = ℕ} 0 1 = cc in omega arith
-
-not_23 : NotExpected ≡ Done → ⊥
-not_23 q = let z : ◌≡◌ {A = ℕ} 0 1 = cc in omega arith
-
-not_read : {n : ℕ} → NotRead n ≡ Done → ⊥
-not_read q = let z : ◌≡◌ {A = ℕ} 0 1 = cc in omega arith
-
 -- 6
 something : (l : Line) (t : ℕ) → is_nothing (info_of l t) ≡ false
 unfolding info_of
@@ -81,7 +65,7 @@ something l t = by_if (λ (k : Kind). is_nothing k ≡ false) _ (λ _. refl) (λ
 module _ (c : Core) (h : Hall) (t : ℕ) where
   pub record Sixth (r : Step) : Type 0 where
     pub goes : way.Six c h t r.core r.report.first r.report.second
-    pub plain : (r.answer ≡ Done) × (r.report ≡ record { first = r.report.first; second = r.report.second; marks = no_marks })
+    pub plain : (r.answer ≡ Ok tt) × (r.report ≡ record { first = r.report.first; second = r.report.second; marks = no_marks })
 
   informs : Sixth (informed c h t)
   unfolding informed when◌then◌else◌
@@ -135,8 +119,8 @@ module _ (d : Desk) (x : Doing) where
     asks_none : asked_by h e ≡ nobody → asking h x ≡ nobody
     asks_none q = ap (asked_in h) is ∙ q
 
-    refuse : (a : Answer) → (a ≡ Done → ⊥) → ((t p : ℕ) → asking h x ≡ asks t p → way.Unmoved c h t p) → W (refused c a)
-    refuse a n m = way.refuses a n m (λ u q. no_leave is q) refl (refl, refl)
+    refuse : (r : Refusal) → ((t p : ℕ) → asking h x ≡ asks t p → way.Unmoved c h t p) → W (refused c r)
+    refuse r m = way.refuses r m (λ u q. no_leave is q) refl (refl, refl)
 
     -- Request
     module _ (t p : ℕ) (a : asking h x ≡ asks t p) (s : way.Sits h t) where
@@ -149,10 +133,10 @@ module _ (d : Desk) (x : Doing) where
 
       holder-asks : holds c.phase t ≡ true → (o : Phase) → c.phase ≡ o → W (holder_asks c o)
       unfolding holder_asks
-      holder-asks k Stopped q = refuse NotExpected not_23 (unmoved (way.holder k))
-      holder-asks k (Idle t7) q = refuse NotExpected not_23 (unmoved (way.holder k))
+      holder-asks k Stopped q = refuse NotExpected (unmoved (way.holder k))
+      holder-asks k (Idle t7) q = refuse NotExpected (unmoved (way.holder k))
       holder-asks k (Taken e b) q = way.grants_holder t p e b a q k refl (refl, refl)
-      holder-asks k (Revoking e n) q = refuse NotExpected not_23 (unmoved (way.holder k))
+      holder-asks k (Revoking e n) q = refuse NotExpected (unmoved (way.holder k))
 
       at_once : is_idle c.phase ≡ true → W (given_at_once c h (entry_of t p))
       unfolding given_at_once given
@@ -179,7 +163,7 @@ module _ (d : Desk) (x : Doing) where
               record {
                 first = y.first;
                 second = y.second;
-                marks = record { placed = Seat t; struck = y.marks.struck; ended = y.marks.ended; given = y.marks.given };
+                marks = record { placed = Some t; struck = y.marks.struck; ended = y.marks.ended; given = y.marks.given };
               }
 
       requests : is_stopped c.phase ≡ false → W (request c h t p)
@@ -195,18 +179,18 @@ module _ (d : Desk) (x : Doing) where
           (λ f. comes (presses c h t p) (busy_else c.phase o i) n r w f))))))
 
     -- a seat's events: 21, 22, then its rule
-    heard_on : (ssrc : ℕ) (rule : ℕ → Step) → ((t : ℕ) → seat_of h ssrc ≡ At t → way.Sits h t → is_stopped c.phase ≡ false → W (rule t)) →
-        (seat_of h ssrc ≡ Nowhere → (t p : ℕ) → asking h x ≡ asks t p → way.Unmoved c h t p) → W (heard c (caller_of c h ssrc) rule)
+    heard_on : (ssrc : ℕ) (rule : ℕ → Step) → ((t : ℕ) → seat_of h ssrc ≡ Some t → way.Sits h t → is_stopped c.phase ≡ false → W (rule t)) →
+        (seat_of h ssrc ≡ None → (t p : ℕ) → asking h x ≡ asks t p → way.Unmoved c h t p) → W (heard c (caller_of c h ssrc) rule)
     unfolding caller_of seat_of
     heard_on ssrc rule f m =
-        by_if (λ (who : Caller). W (heard c who rule)) (is_stopped c.phase)
-        (λ q. refuse CallStopped not_21 (λ t p _. way.quiet (stopped_quiet c.phase q)))
+        by_if (λ (who : Result ℕ Refusal). W (heard c who rule)) (is_stopped c.phase)
+        (λ q. refuse CallStopped (λ t p _. way.quiet (stopped_quiet c.phase q)))
         (λ q. go (seat_of h ssrc) refl q)
       where
-        go : (o : Found) → seat_of h ssrc ≡ o → is_stopped c.phase ≡ false → W (heard c (sitting o) rule)
-        go (At t) q o =
+        go : (o : Option ℕ) → seat_of h ssrc ≡ o → is_stopped c.phase ≡ false → W (heard c (sitting o) rule)
+        go (Some t) q o =
             let z = found_holds (has_ssrc h ssrc) 16 0 t q in f t q (record { present = and_left (is_present h t) _ z.0; below = z.1 }) o
-        go Nowhere q o = refuse NoSuchSeat not_22 (m q)
+        go None q o = refuse NoSuchSeat (m q)
 
     -- nobody asks
     module _ (a : asking h x ≡ nobody) where
@@ -214,7 +198,7 @@ module _ (d : Desk) (x : Doing) where
       unasked = not-asked (asking h x) a
 
       unexpected : W (refused c NotExpected)
-      unexpected = refuse NotExpected not_23 unasked
+      unexpected = refuse NotExpected unasked
 
       ends_here : (t : ℕ) → holds c.phase t ≡ true → W (floor_ends c h t)
       ends_here t k = ends d x h d.names t a (λ u q. no_leave is q) k
@@ -225,13 +209,13 @@ module _ (d : Desk) (x : Doing) where
           by_if W (holds c.phase t) (λ k. ends_here t k)
           (λ n. by_if W (waits c t) (λ w. way.strikes t a g n w refl (refl, refl)) (λ _. unexpected))
 
-      rest : W (answered c Done)
+      rest : W (answered c (Ok tt))
       rest = way.rests a (λ u q. no_leave is q) refl (refl, refl)
 
       -- the timers
       stop_in : stops_call x ≡ true → (o : Phase) → c.phase ≡ o → W (stops c o)
       unfolding stops halted
-      stop_in y Stopped q = refuse CallStopped not_21 unasked
+      stop_in y Stopped q = refuse CallStopped unasked
       stop_in y (Idle t7) q = way.closes y (ap is_idle q) refl (refl, refl)
       stop_in y (Taken e b) q = way.halts e.seat y (taken_held q) refl (refl, refl)
       stop_in y (Revoking e n) q = way.halts e.seat y (revoking_held q) refl (refl, refl)
@@ -243,27 +227,27 @@ module _ (d : Desk) (x : Doing) where
       ends_in_lem (Taken e b) q = ends_here e.seat (taken_held q)
       ends_in_lem (Revoking e n) q = ends_here e.seat (revoking_held q)
 
-      revokes_in_lem : becomes x ≡ an_event (Expiry timer.T2) → (o : Phase) → c.phase ≡ o → W (revokes_in c o)
+      revokes_in_lem : becomes x ≡ an_event (Expiry (Some timer.T2)) → (o : Phase) → c.phase ≡ o → W (revokes_in c o)
       unfolding revokes_in revokes
       revokes_in_lem y Stopped q = unexpected
       revokes_in_lem y (Idle t7) q = unexpected
       revokes_in_lem y (Taken e b) q = way.revokes e b y q refl (refl, refl)
       revokes_in_lem y (Revoking e n) q = unexpected
 
-      revokes_again_lem : becomes x ≡ an_event (Expiry timer.T8) → (o : Phase) → c.phase ≡ o → W (revokes_again c o)
+      revokes_again_lem : becomes x ≡ an_event (Expiry (Some timer.T8)) → (o : Phase) → c.phase ≡ o → W (revokes_again c o)
       unfolding revokes_again
       revokes_again_lem y Stopped q = unexpected
       revokes_again_lem y (Idle t7) q = unexpected
       revokes_again_lem y (Taken e b) q = unexpected
       revokes_again_lem y (Revoking e n) q = way.revokes_again e n y q refl (refl, refl)
 
-      idles_again_lem : becomes x ≡ an_event (Expiry timer.T7) → is_idle c.phase ≡ true → W (idle_again c h)
+      idles_again_lem : becomes x ≡ an_event (Expiry (Some timer.T7)) → is_idle c.phase ≡ true → W (idle_again c h)
       unfolding idle_again
       idles_again_lem y i =
           by_if W (ltb c.c7 h.settings.c7) (λ q. way.idles_again y i (ltb-true _ _ q) refl (refl, refl))
           (λ _. way.idles_on y i refl (refl, refl))
 
-      grants_again_lem : becomes x ≡ an_event (Expiry timer.T20) → (o : Phase) → c.phase ≡ o → W (grants_again c h o)
+      grants_again_lem : becomes x ≡ an_event (Expiry (Some timer.T20)) → (o : Phase) → c.phase ≡ o → W (grants_again c h o)
       unfolding grants_again grants_or_ends
       grants_again_lem y Stopped q = unexpected
       grants_again_lem y (Idle t7) q = unexpected
@@ -287,22 +271,22 @@ module _ (d : Desk) (x : Doing) where
       starts_on_lem y (Taken e b) q = unexpected
       starts_on_lem y (Revoking e n) q = unexpected
 
-fires_on : (d : Desk) (x : Doing) (t : Timer) → becomes x ≡ an_event (Expiry t) → runs (running d.core.phase) t ≡ true →
+fires_on : (d : Desk) (x : Doing) (t : Option Timer) → becomes x ≡ an_event (Expiry t) → runs (running d.core.phase) t ≡ true →
     W d x (fires d.core d.hall t)
 unfolding fires
-fires_on d x timer.T1 y q = ends_in_lem d x y (asks_none d x y refl) d.core.phase refl
-fires_on d x timer.T2 y q = revokes_in_lem d x y (asks_none d x y refl) y d.core.phase refl
-fires_on d x timer.T3 y q = ends_in_lem d x y (asks_none d x y refl) d.core.phase refl
-fires_on d x timer.T4 y q = stop_in d x y (asks_none d x y refl) (ap stops_in y) d.core.phase refl
-fires_on d x timer.T7 y q = idles_again_lem d x y (asks_none d x y refl) y (t7_idle d.core.phase q)
-fires_on d x timer.T8 y q = revokes_again_lem d x y (asks_none d x y refl) y d.core.phase refl
-fires_on d x timer.T20 y q = grants_again_lem d x y (asks_none d x y refl) y d.core.phase refl
-fires_on d x timer.NoSuchTimer y q = clash q refl
+fires_on d x (Some timer.T1) y q = ends_in_lem d x y (asks_none d x y refl) d.core.phase refl
+fires_on d x (Some timer.T2) y q = revokes_in_lem d x y (asks_none d x y refl) y d.core.phase refl
+fires_on d x (Some timer.T3) y q = ends_in_lem d x y (asks_none d x y refl) d.core.phase refl
+fires_on d x (Some timer.T4) y q = stop_in d x y (asks_none d x y refl) (ap stops_in y) d.core.phase refl
+fires_on d x (Some timer.T7) y q = idles_again_lem d x y (asks_none d x y refl) y (t7_idle d.core.phase q)
+fires_on d x (Some timer.T8) y q = revokes_again_lem d x y (asks_none d x y refl) y d.core.phase refl
+fires_on d x (Some timer.T20) y q = grants_again_lem d x y (asks_none d x y refl) y d.core.phase refl
+fires_on d x None y q = clash q refl
 
-expires_on : (d : Desk) (x : Doing) (t : Timer) → becomes x ≡ an_event (Expiry t) → W d x (expires d.core d.hall t)
+expires_on : (d : Desk) (x : Doing) (t : Option Timer) → becomes x ≡ an_event (Expiry t) → W d x (expires d.core d.hall t)
 unfolding expires
 expires_on d x t y =
-    by_if (W d x) (is_stopped d.core.phase) (λ _. refuse d x y CallStopped not_21 (unasked d x y (asks_none d x y refl)))
+    by_if (W d x) (is_stopped d.core.phase) (λ _. refuse d x y CallStopped (unasked d x y (asks_none d x y refl)))
     (λ _. by_if (W d x) (runs (running d.core.phase) t) (λ q. fires_on d x t y q) (λ _. unexpected d x y (asks_none d x y refl)))
 
 places_on : (d : Desk) (x : Doing) (s t : ℕ) → becomes x ≡ an_event (Position s) → way.Sits d.hall t → W d x (asks_place d.core t)
@@ -320,7 +304,7 @@ events d x (Request s a) y =
 events d x (Release s) y =
     heard_on d x y s _
     (λ t q k o. releases_on d x y (asks_none d x y refl) t
-    (gives_up_lem d.hall x (Release s) t y ∙ ap (λ (f : Found). finds f t) q ∙ eq-eqb t t refl))
+    (gives_up_lem d.hall x (Release s) t y ∙ ap (λ (f : Option ℕ). finds f t) q ∙ eq-eqb t t refl))
     (λ _. unasked d x y (asks_none d x y refl))
 events d x (Position s) y = heard_on d x y s _ (λ t q k o. places_on d x s t y k) (λ _. unasked d x y (asks_none d x y refl))
 events d x (Media s) y =
@@ -332,7 +316,7 @@ events d x (Other s) y = heard_on d x y s _ (λ t q k o. unexpected d x y (asks_
 packets : (d : Desk) (o : List ℕ) (a : read.Answer Message) → reading o ≡ a →
     way.Way d (packet o) (outcome (by_reading d.core d.hall a) d.hall d.names)
 packets d o (read.refused n) q =
-    way.refuses (NotRead n) not_read (λ t p z. asks-nobody (sym (ap (λ (a : read.Answer Message). asked_in d.hall (read_as a)) q) ∙ z))
+    way.refuses (NotRead n) (λ t p z. asks-nobody (sym (ap (λ (a : read.Answer Message). asked_in d.hall (read_as a)) q) ∙ z))
     (λ u z. not-leave refl z) refl (refl, refl)
 packets d o (read.result m) q = events d (packet o) (event_of m) (ap read_as q)
 
@@ -355,7 +339,7 @@ leaves_on d t =
 -- Join
 joins_on_lem : (d : Desk) (o : List ℕ) (n : Newcomer) (j : Joined) → Joins d.hall d.names o n j →
     way.Way d (joins o n) (joined d.core j)
-joins_on_lem d o n j (turned_away a f q) = rw q (way.refuses a f (λ t p z. asks-nobody z) (λ u z. not-leave refl z) refl (refl, refl))
+joins_on_lem d o n j (turned_away r q) = rw q (way.refuses r (λ t p z. asks-nobody z) (λ u z. not-leave refl z) refl (refl, refl))
 joins_on_lem d o n j (sits_down s p f b k q) = rw q (way.rests refl (λ u z. not-leave refl z) refl (refl, refl))
 
 pub every_way : way.EveryWay
@@ -364,5 +348,5 @@ every_way d (event e) = events d (event e) e refl
 every_way d (packet o) = packets d o (reading o) refl
 every_way d (leaves t) =
     by_if (way.Way d (leaves t)) (is_present d.hall t) (λ _. leaves_on d t)
-    (λ n. way.refuses NoSuchSeat not_22 (λ u p z. asks-nobody z) (λ u z. rw (same_leaver z) n) refl (refl, refl))
+    (λ n. way.refuses NoSuchSeat (λ u p z. asks-nobody z) (λ u z. rw (same_leaver z) n) refl (refl, refl))
 every_way d (joins o n) = joins_on_lem d o n (join d.hall d.names o n) (every_join d.hall d.names o n)

@@ -1,8 +1,7 @@
 -- "All refusals leave the desk unchanged, with no message and no mark. A Deny is a message and not a refusal; its answer is 0 (done) and
 -- the desk is unchanged." (document 01, "The desk"): laws over everything that can happen to any desk. Each is proved in proofs/Refusals.
 -- Assumes nothing.
-use Rattle.std.specs.Prelude.{◌≡◌, Bool, true, false, ◌||◌}
-use Rattle.hall.specs.declared.Answer.TheVariants.{Done}
+use Rattle.std.specs.Prelude.{◌≡◌, Bool, true, false, ◌||◌, Ok}
 use Rattle.steps.specs.declared.Kind.{Kind}
 use Rattle.steps.specs.declared.Kind.TheVariants as say
 use Rattle.steps.specs.Words.{silence, no_marks}
@@ -16,7 +15,7 @@ pub record Unchanged (d : Desk) (x : Doing) : Type 0 where
   pub marks : (does d x).report.marks ≡ no_marks
 
 abbrev pub RefusalsChangeNothing : Type 0
-RefusalsChangeNothing = (d : Desk) (x : Doing) → ((does d x).answer ≡ Done → ⊥) → Unchanged d x
+RefusalsChangeNothing = (d : Desk) (x : Doing) → ((does d x).answer ≡ Ok tt → ⊥) → Unchanged d x
 
 abbrev pub is_deny : Kind → Bool
 is_deny say.Nothing = false
@@ -29,7 +28,7 @@ is_deny (say.Info k p) = false
 
 -- it is the one message of its step
 pub record Denied (d : Desk) (x : Doing) : Type 0 where
-  pub answer : (does d x).answer ≡ Done
+  pub answer : (does d x).answer ≡ Ok tt
   pub desk : after d x ≡ d
   pub second : (does d x).report.second ≡ silence
   pub marks : (does d x).report.marks ≡ no_marks
