@@ -5,172 +5,133 @@
 ghost use Rattle.std.specs.Prelude.{◌<◌};
 
 use events::{Desk, Event, Outcome};
-use hall::{Answer, Asked, Flags, Newcomer};
+use hall::Flags;
 use printing::{Page, Printout};
-use std::io;
-use steps::{Core, Given, Mark, Marks};
+use std::{array, io};
+use steps::{Core, Given, Marks};
 
-// The marks counted, five numbers for each seat: placed, given out of the line, given at once, struck off, ended.
+// How often a seat was marked: as placed, as given the floor out of the line and at once, as struck off, as ended.
 #[derive(Clone, Copy)]
-pub struct Tally {
-    pub of: [u32; 80],
+struct Account {
+    placed: u32,
+    out_of_line: u32,
+    at_once: u32,
+    struck: u32,
+    ended: u32,
 }
 
-// One more at a place.
-fn count(tally: Tally, at: usize) -> Tally {
-    let mut of = tally.of;
-    if at < 80 {
-        of[at] = of[at] % 1000000 + 1;
-    }
-    Tally { of }
+const EMPTY: Account = Account {
+    placed: 0,
+    out_of_line: 0,
+    at_once: 0,
+    struck: 0,
+    ended: 0,
+};
+
+// One more, where it is so.
+fn counted(n: u32, is_so: bool) -> u32 {
+    n.saturating_add(u32::from(is_so))
 }
 
-fn count_mark(tally: Tally, mark: Mark, kind: u8) -> Tally {
-    match mark {
-        Mark::NoSeat => tally,
-        Mark::Seat(seat) => count(tally, seat as usize * 5 + kind as usize),
-    }
-}
-
-fn count_given(tally: Tally, given: Given) -> Tally {
-    match given {
-        Given::NotGiven => tally,
-        Given::OutOfLine(seat) => count(tally, seat as usize * 5 + 1),
-        Given::AtOnce(seat) => count(tally, seat as usize * 5 + 2),
-    }
-}
-
-fn count_struck(tally: Tally, set: [bool; 16]) -> Tally {
-    let mut next = tally;
-    let mut i = 0;
-    while i < 16 {
-        if set[i] {
-            next = count(next, i * 5 + 3);
+impl Account {
+    // One report more: what its marks say of this seat.
+    fn after(&self, seat: u8, marks: &Marks) -> Account {
+        let out_of_line = matches!(marks.given, Given::OutOfLine(s) if s == seat);
+        let at_once = matches!(marks.given, Given::AtOnce(s) if s == seat);
+        Account {
+            placed: counted(self.placed, marks.placed == Some(seat)),
+            out_of_line: counted(self.out_of_line, out_of_line),
+            at_once: counted(self.at_once, at_once),
+            struck: counted(
+                self.struck,
+                marks.struck.get(usize::from(seat)) == Some(&true),
+            ),
+            ended: counted(self.ended, marks.ended == Some(seat)),
         }
-        i += 1;
     }
-    next
 }
 
-// One report more.
-fn count_marks(tally: Tally, marks: Marks) -> Tally {
-    let placed = marks.placed;
-    let given = marks.given;
-    let struck = marks.struck;
-    let ended = marks.ended;
-    let next = count_given(count_mark(tally, placed, 0), given);
-    count_mark(count_struck(next, struck), ended, 4)
+// A join has no mark.
+fn joins(desk: Desk, who: u8, how: u8) -> Outcome
+    requires { who < 16 }
+{
+    let flags = Flags {
+        queueing: how % 4 > 0,
+        receive_only: how % 16 == 15,
+    };
+    let newcomer = hall::newcomer_of(10 + u32::from(who), 255, flags);
+    let identity = [b's', b'e', b'a', b't', b'a' + who];
+    let joined = joining::join_call(desk.hall, desk.names, &identity, newcomer);
+    Outcome {
+        desk: Desk {
+            core: desk.core,
+            hall: joined.hall,
+            names: joined.names,
+        },
+        report: steps::answer(desk.core, Ok(())).report,
+        answer: joined.answer,
+    }
 }
-
-// One event out of three numbers: what happens, to which seat, and how.
 
 // The timers' numbers, so that some fire more often than others.
 const TIMERS: [u32; 26] = [
     1, 1, 1, 1, 1, 1, 2, 2, 2, 2, 3, 3, 3, 3, 4, 7, 7, 7, 8, 8, 8, 20, 20, 20, 20, 20,
 ];
 
-fn event(what: u8, ssrc: u32, how: u8) -> Event {
-    match what {
-        0..=13 => Event::Request(ssrc, Asked::Priority(how)),
+// What three numbers pick: what happens, one thing more often than another, to which seat, and how.
+fn happen(desk: Desk, what: u8, who: u8, how: u8) -> Outcome
+    requires { who < 16 }
+{
+    let ssrc = 10 + u32::from(who);
+    let event = match what {
+        0..=13 => Event::Request(ssrc, Some(how)),
         14..=16 => Event::Release(ssrc),
         17 => Event::Position(ssrc),
         18 => Event::Other(ssrc),
         19..=20 => Event::Media(ssrc),
-        21..=25 => Event::Expiry(timers::timer_named(TIMERS[(how / 10) as usize])),
-        _ => if how < 32 { Event::Stop } else { Event::Start },
-    }
-}
-
-fn steps_on(desk: Desk, event: Event) -> Outcome {
-    let core = desk.core;
-    let hall = desk.hall;
-    let names = desk.names;
-    let step = events::make_step(core, hall, event);
-    let answer = step.answer;
-    let core = step.core;
-    let report = step.report;
-    Outcome {
-        answer,
-        desk: Desk { core, hall, names },
-        report,
-    }
-}
-
-fn leaves(desk: Desk, who: u8) -> Outcome {
-    let core = desk.core;
-    let hall = desk.hall;
-    let names = desk.names;
-    events::leave_call(core, hall, names, who)
-}
-
-fn newcomer(ssrc: u32, how: u8) -> Newcomer {
-    let flags = Flags {
-        queueing: how % 4 > 0,
-        receive_only: how % 16 == 15,
+        21..=25 => Event::Expiry(timers::timer_named(TIMERS[usize::from(how / 10)])),
+        26 => return events::leave_call(desk.core, desk.hall, desk.names, who),
+        27..=29 => return joins(desk, who, how),
+        _ if how < 32 => Event::Stop,
+        _ => Event::Start,
     };
-    hall::newcomer_of(ssrc, 255, flags)
-}
-
-// A join has no mark.
-fn joins(desk: Desk, who: u8, how: u8) -> Outcome {
-    let core = desk.core;
-    let hall = desk.hall;
-    let names = desk.names;
-    let identity = [115u8, 101, 97, 116, 97 + who % 16];
-    let joined = joining::join_call(
-        hall,
-        names,
-        &identity,
-        newcomer(10 + (who % 16) as u32, how),
-    );
-    let hall = joined.hall;
-    let names = joined.names;
-    let step = steps::answer(core, Answer::Done);
-    let report = step.report;
+    let step = events::make_step(desk.core, desk.hall, event);
     Outcome {
-        answer: Answer::Done,
-        desk: Desk { core, hall, names },
-        report,
+        desk: Desk {
+            core: step.core,
+            ..desk
+        },
+        report: step.report,
+        answer: step.answer,
     }
 }
 
-fn happen(desk: Desk, what: u8, who: u8, how: u8) -> Outcome {
-    match what {
-        26 => leaves(desk, who),
-        27..=29 => joins(desk, who, how),
-        _ => steps_on(desk, event(what, 10 + (who % 16) as u32, how)),
-    }
-}
-
-// The night: the desk, and what was counted up to now.
+// The night: the desk, and what was counted for each seat up to now.
 #[derive(Clone, Copy)]
-pub struct Night {
-    pub desk: Desk,
-    pub tally: Tally,
+struct Night {
+    desk: Desk,
+    accounts: [Account; 16],
 }
 
 fn fresh() -> Night {
-    let core = events::fresh_core();
-    let hall = hall::empty_hall(hall::settings_of(1, 200, 6, 2, 2, 30, 0));
-    let names = identities::no_names();
     Night {
-        desk: Desk { core, hall, names },
-        tally: Tally { of: [0; 80] },
+        desk: Desk {
+            core: events::fresh_core(),
+            hall: hall::empty_hall(hall::settings_of(1, 200, 6, 2, 2, 30, 0)),
+            names: identities::no_names(),
+        },
+        accounts: [EMPTY; 16],
     }
 }
 
 fn next_turn(night: Night, seed: u64) -> Night {
-    let desk = night.desk;
-    let tally = night.tally;
     let what = (seed / 65536 % 32) as u8;
     let who = (seed / 4194304 % 16) as u8;
-    let o = happen(desk, what, who, (seed / 256 % 256) as u8);
-    let desk = o.desk;
-    let report = o.report;
-    let marks = report.marks;
+    let outcome = happen(night.desk, what, who, (seed / 256 % 256) as u8);
+    let marks = outcome.report.marks;
     Night {
-        desk,
-        tally: count_marks(tally, marks),
+        desk: outcome.desk,
+        accounts: array::from_fn(|seat| night.accounts[seat].after(seat as u8, &marks)),
     }
 }
 
@@ -178,84 +139,54 @@ fn next_turn(night: Night, seed: u64) -> Night {
 fn run(seed: u64) -> Night {
     let mut night = fresh();
     let mut s = seed;
-    let mut turns = 0u32;
-    while turns < 5000 {
+    for _ in 0..5000 {
         s = (s % 2147483648 * 1103515245 + 12345) % 2147483648;
         night = next_turn(night, s);
-        turns += 1;
     }
     night
 }
 
 // A seat's account: both sides, with what they are made of.
+fn show(page: &mut Printout, seat: u8, account: Account, core: Core) {
+    let Account {
+        placed,
+        out_of_line,
+        at_once,
+        struck,
+        ended,
+    } = account;
+    let waits = u32::from(request::is_waiting(core, seat));
+    let holds = u32::from(giving::is_holder(core.phase, seat));
+    writeln!(page, "seat {seat}");
+    writeln!(
+        page,
+        "  placed {placed} = {out_of_line} given out of the line + {struck} struck off + {waits} waiting"
+    );
+    compare(page, [placed, 0], [out_of_line, struck, waits]);
+    writeln!(
+        page,
+        "  given {out_of_line} out of the line + {at_once} at once = {ended} ended + {holds} holding"
+    );
+    compare(page, [out_of_line, at_once], [ended, holds, 0]);
+}
 
-fn compare(page: &mut Printout, left: u64, a: u64, b: u64, c: u64) {
-    if left != a % 4294967296 + b % 4294967296 + c % 4294967296 {
-        printing::text(page, b"  THE SIDES DIFFER\n");
+fn compare(page: &mut Printout, left: [u32; 2], right: [u32; 3]) {
+    let [a, b] = left.map(u64::from);
+    let [c, d, e] = right.map(u64::from);
+    if a + b != c + d + e {
+        writeln!(page, "  THE SIDES DIFFER");
     }
-}
-
-fn show_line(page: &mut Printout, placed: u64, out: u64, struck: u64, waits: u64) {
-    printing::filled(
-        page,
-        b"  placed % = % given out of the line + % struck off + % waiting\n",
-        [placed, out, struck, waits],
-    );
-    compare(page, placed, out, struck, waits);
-}
-
-fn show_floor(page: &mut Printout, out: u64, once: u64, ended: u64, holds: u64) {
-    printing::filled(
-        page,
-        b"  given % out of the line + % at once = % ended + % holding\n",
-        [out, once, ended, holds],
-    );
-    compare(page, out % 4294967296 + once % 4294967296, ended, holds, 0);
-}
-
-// What was counted of a kind for a seat.
-fn counted(tally: Tally, seat: u8, kind: u8) -> u64 {
-    let of = tally.of;
-    let at = seat as usize * 5 + kind as usize;
-    if at < 80 { of[at] as u64 } else { 0 }
-}
-
-fn show_seat(page: &mut Printout, tally: Tally, core: Core, seat: u8) {
-    let phase = core.phase;
-    let out = counted(tally, seat, 1);
-    let waits = request::is_waiting(core, seat) as u64;
-    let holds = giving::is_holder(phase, seat) as u64;
-    printing::numbered(page, b"seat %\n", seat as u64);
-    show_line(
-        page,
-        counted(tally, seat, 0),
-        out,
-        counted(tally, seat, 3),
-        waits,
-    );
-    show_floor(
-        page,
-        out,
-        counted(tally, seat, 2),
-        counted(tally, seat, 4),
-        holds,
-    );
 }
 
 fn main(rt: HostRuntime) -> io::Result<()> {
     let mut page = Page::new(rt.stdout());
-    printing::text(
-        &mut page,
-        b"5,000 events out of seed 24388: what the marks say of each seat\n\n",
+    writeln!(
+        page,
+        "5,000 events out of seed 24388: what the marks say of each seat\n"
     );
     let night = run(24388);
-    let tally = night.tally;
-    let desk = night.desk;
-    let core = desk.core;
-    let mut seat = 0u8;
-    while seat < 16 {
-        show_seat(&mut page, tally, core, seat);
-        seat += 1;
+    for (account, seat) in night.accounts.iter().zip(0..) {
+        show(&mut page, seat, *account, night.desk.core);
     }
     page.close()
 }

@@ -1,484 +1,378 @@
 // Saves the class's sheet, prints it octet by octet, damages it in each way that loading looks for, and prints the answer to each.
 #![tactic(auto)]
 
-ghost use Rattle.std.specs.Prelude.{◌+◌, ◌<◌, ◌≤◌, length};
-
-use hall::Hall;
-use identities::Names;
-use printing::{Page, Printout};
-use saving::Saving;
-use sheet::Verdict;
+use events::Desk;
+use hall::Flags;
+use printing::{Letters, Octets, Page, Printout};
+use saving::Refusal::{CannotHold, NoRoom};
+use std::fmt::{self, Display};
 use std::io;
 
 // Octets enough for the longest sheet, which has 1,124.
 const SHEET_ROOM: usize = 1152;
 
-// How many ways there are to damage one octet of the class's sheet.
-const DAMAGE_COUNT: usize = 24;
-
-// What is printed, in one table. A name is that of one row, or of the first of several: of what follows the flags
-// in a seat, of the settings and of the trailer, of the verdicts, the damages, the cuts and the flags. Each stands as many rows behind the
-// one before it as that has, so that a row more is told in one place.
-const SEAT_ROWS: usize = 0;
-
-const SETTINGS_ROWS: usize = SEAT_ROWS + 3;
-
-const TRAILER_ROWS: usize = SETTINGS_ROWS + 7;
-
-const SEAT: usize = TRAILER_ROWS + 5;
-
-const SETTINGS: usize = SEAT + 1;
-
-const TRAILER: usize = SETTINGS + 1;
-
-const VERDICT: usize = TRAILER + 1;
-
-const SAVED: usize = VERDICT + 6;
-
-const CANNOT_HOLD: usize = SAVED + 1;
-
-const NO_ROOM: usize = CANNOT_HOLD + 1;
-
-const DAMAGED: usize = NO_ROOM + 1;
-
-const DAMAGES: usize = DAMAGED + 1;
-
-const CUTS: usize = DAMAGES + DAMAGE_COUNT;
-
-const LOADED: usize = CUTS + 4;
-
-const SAVED_AGAIN: usize = LOADED + 1;
-
-const OTHER: usize = SAVED_AGAIN + 1;
-
-const SAME: usize = OTHER + 1;
-
-const BEHIND: usize = SAME + 1;
-
-const INTO: usize = BEHIND + 1;
-
-const CLASS: usize = INTO + 1;
-
-const ROOMS: usize = CLASS + 1;
-
-const NOBODY: usize = ROOMS + 1;
-
-const EVERYBODY: usize = NOBODY + 1;
-
-const OTHER_LEVEL: usize = EVERYBODY + 1;
-
-const FLAGS: usize = OTHER_LEVEL + 1;
-
-fn say(page: &mut Printout, k: usize, n: usize) {
-    printing::row(
-        page,
-        b"\
-          highest priority %\n^\
-          SSRC\n^\
-          identity length %\n^\
-          SSRC of the desk\n^\
-          pre-emptive level %\n^\
-          line limit %\n^\
-          C7 limit %\n^\
-          C20 limit %\n^\
-          duration\n^\
-          zeros\n^\
-          offset of settings\n^\
-          offset of seats\n^\
-          seat count %\n^\
-          form %\n^\
-          letters FS\n^\
-          seat\n^\
-          settings\n^\
-          trailer\n^\
-          accepted\n^\
-          refused %: under 20 octets or no FS\n^\
-          refused %: form\n^\
-          refused %: count, or an offset\n^\
-          refused %: a setting\n^\
-          refused %: a seat\n^\
-          saved, % octets\n^\
-          refused 48: no sheet holds a normal level but 0\n^\
-          refused 13: the room is too short\n^\
-          \nDamaged:\n^\
-          no F: ^\
-          no S: ^\
-          form 2: ^\
-          form 0: ^\
-          count 17: ^\
-          settings one further: ^\
-          seats not at the front: ^\
-          level 0: ^\
-          line limit 16: ^\
-          C7 limit 0: ^\
-          C20 limit 0: ^\
-          duration 0: ^\
-          first zero is 1: ^\
-          second zero is 1: ^\
-          flag bit 2: ^\
-          flag bit 7: ^\
-          identity length 0: ^\
-          identity length 63: ^\
-          identity runs into the settings: ^\
-          identity present already: ^\
-          SSRC present already: ^\
-          SSRC of the desk: ^\
-          one seat fewer: ^\
-          one seat more: ^\
-          no octets: ^\
-          19 octets: ^\
-          first octet missing: ^\
-          whole: ^\
-          loaded: ^\
-          saved again: ^\
-          other octets\n^\
-          the same octets\n^\
-          the octet behind it: %\n^\
-          in % octets: ^\
-          The class: ^\
-          \nRooms, and back again: ^\
-          \nNobody: ^\
-          \nEverybody: ^\
-          \nNobody, at normal level 100: ^\
-          flags: none\n^\
-          flags: queueing\n^\
-          flags: receive only\n^\
-          flags: queueing, receive only\n^",
-        k,
-        [n as u64, 0, 0, 0],
-    );
-}
-
 // A sheet as a person would want to see it: the offset, the octets, and what they are.
 
-const WIDTHS: [u8; SEAT] = [1, 4, 1, 4, 1, 1, 1, 1, 2, 2, 2, 2, 1, 1, 2];
-
-// How many octets the first rows of the table are of.
-fn width(k: usize) -> u8 {
-    if k < SEAT { WIDTHS[k] } else { 0 }
+// What stands in a sheet: one octet, whose number is shown, or so many.
+#[derive(Clone, Copy)]
+enum Row {
+    Octet(&'static str),
+    Octets(&'static str, usize),
 }
+
+const SEAT: [Row; 3] = [
+    Row::Octet("highest priority"),
+    Row::Octets("SSRC", 4),
+    Row::Octet("identity length"),
+];
+
+const SETTINGS: [Row; 7] = [
+    Row::Octets("SSRC of the desk", 4),
+    Row::Octet("pre-emptive level"),
+    Row::Octet("line limit"),
+    Row::Octet("C7 limit"),
+    Row::Octet("C20 limit"),
+    Row::Octets("duration", 2),
+    Row::Octets("zeros", 2),
+];
+
+const TRAILER: [Row; 5] = [
+    Row::Octets("offset of settings", 2),
+    Row::Octets("offset of seats", 2),
+    Row::Octet("seat count"),
+    Row::Octet("form"),
+    Row::Octets("letters FS", 2),
+];
 
 // An octet of the sheet; 0 past its end.
 fn octet_at(s: &[u8], at: usize) -> u8 {
-    if at < s.len() { s[at] } else { 0 }
+    s.get(at).copied().unwrap_or(0)
 }
 
 // The octets of a line, up to eight, and their offset.
-fn dump(page: &mut Printout, s: &[u8], at: usize, count: usize) {
-    printing::column(page, at);
-    printing::places(page, printing::part(s, at, count), 8);
-    printing::spaces(page, 2);
+#[derive(Clone, Copy)]
+struct Line<'a> {
+    at: usize,
+    octets: &'a [u8],
 }
 
-// The rows from one up to another, of the octets from a place on.
-fn dump_rows(page: &mut Printout, s: &[u8], at: usize, first: usize, last: usize)
-    requires { (at ≤ length s.now) × (last ≤ 15) }
-{
-    let mut from = at;
-    let mut k = first;
-    while k < last {
-        let count = width(k) as usize;
-        dump(page, s, from, count);
-        say(page, k, octet_at(s, from) as usize);
-        from += count;
-        k += 1;
+impl Display for Line<'_> {
+    fn fmt<W: fmt::Write>(&self, f: &mut fmt::Formatter<W>) -> fmt::Result {
+        let rest = 3 * 8usize.saturating_sub(self.octets.len());
+        write!(f, "{:>4} {}{:rest$}  ", self.at, Octets(self.octets), "")
     }
 }
 
-// A line of an identity, with its letters.
-fn dump_letters(page: &mut Printout, s: &[u8], at: usize, count: usize) {
-    dump(page, s, at, count);
-    printing::spaces(page, 2);
-    printing::letters(page, printing::part(s, at, count));
-    printing::line_end(page);
+// How far the sheet has been printed.
+#[derive(Drop)]
+struct Dump<'a> {
+    sheet: &'a [u8],
+    at: usize,
 }
 
-// How many octets the next line has.
-fn next_line(left: usize) -> usize {
-    if left < 8 { left } else { 8 }
-}
-
-// An identity, eight octets to a line.
-fn dump_identity(page: &mut Printout, s: &[u8], at: usize, count: usize)
-    requires { (at ≤ length s.now) × (count ≤ 255) }
-{
-    let mut done = 0;
-    while done < count {
-        dump_letters(page, s, at + done, next_line(count - done));
-        done += 8;
+impl<'a> Dump<'a> {
+    // The next octets, so many: behind them it goes on.
+    fn line(&mut self, count: usize) -> Line<'a> {
+        let at = self.at;
+        let octets = printing::part(self.sheet, at, count);
+        self.at = at.saturating_add(octets.len());
+        Line { at, octets }
     }
 }
 
-// One seat; where the next begins.
-fn dump_seat(page: &mut Printout, s: &[u8], at: usize) -> usize
-    requires { at + 7 ≤ length s.now }
-    ensures { (at + 7 ≤ result) × (result ≤ at + 262) }
-{
-    let count = octet_at(s, at + 6) as usize;
-    say(page, SEAT, 0);
-    dump(page, s, at, 1);
-    say(page, FLAGS + octet_at(s, at) as usize, 0);
-    dump_rows(page, s, at + 1, SEAT_ROWS, SETTINGS_ROWS);
-    dump_identity(page, s, at + 7, count);
-    at + 7 + count
+fn dump_rows(page: &mut Printout, dump: &mut Dump, rows: &[Row]) {
+    for row in rows {
+        match *row {
+            Row::Octet(name) => {
+                let line = dump.line(1);
+                writeln!(page, "{line}{name} {}", octet_at(line.octets, 0));
+            }
+            Row::Octets(name, count) => {
+                let line = dump.line(count);
+                writeln!(page, "{line}{name}");
+            }
+        }
+    }
 }
 
-// The seats that stand before a place.
-fn dump_seats(page: &mut Printout, s: &[u8], end: usize)
-    requires { end ≤ length s.now }
-{
-    let mut at = 0;
-    while at + 7 <= end {
-        at = dump_seat(page, s, at);
+fn flags_named(octet: u8) -> &'static str {
+    let flags = seat_octets::flags_of(octet);
+    match (flags.queueing, flags.receive_only) {
+        (false, false) => "none",
+        (true, false) => "queueing",
+        (false, true) => "receive only",
+        (true, true) => "queueing, receive only",
+    }
+}
+
+// One seat; its identity stands eight octets to a line, with its letters.
+fn dump_seat(page: &mut Printout, dump: &mut Dump) {
+    writeln!(page, "seat");
+    let line = dump.line(1);
+    writeln!(
+        page,
+        "{line}flags: {}",
+        flags_named(octet_at(line.octets, 0))
+    );
+    let length = octet_at(dump.sheet, dump.at.saturating_add(5));
+    dump_rows(page, dump, &SEAT);
+    for letters in printing::part(dump.sheet, dump.at, usize::from(length)).chunks(8) {
+        writeln!(page, "{}  {}", dump.line(letters.len()), Letters(letters));
     }
 }
 
 // The whole sheet.
-fn dump_sheet(page: &mut Printout, s: &[u8]) {
-    if s.len() < 20 {
+fn dump_sheet(page: &mut Printout, sheet: &[u8]) {
+    if sheet.len() < 20 {
         return;
     }
-    let end = s.len() - 20;
-    dump_seats(page, s, end);
-    say(page, SETTINGS, 0);
-    dump_rows(page, s, end, SETTINGS_ROWS, TRAILER_ROWS);
-    say(page, TRAILER, 0);
-    dump_rows(page, s, end + 12, TRAILER_ROWS, SEAT);
+    let mut dump = Dump { sheet, at: 0 };
+    for _ in 0..sheet::seat_count(sheet) {
+        dump_seat(page, &mut dump);
+    }
+    writeln!(page, "settings");
+    dump_rows(page, &mut dump, &SETTINGS);
+    writeln!(page, "trailer");
+    dump_rows(page, &mut dump, &TRAILER);
 }
 
 // The classes.
 
-#[derive(Clone, Copy)]
-pub struct Seated {
-    pub hall: Hall,
-    pub names: Names,
-}
-
 // The desk's SSRC is 1, the level 200, the line limit 2, C7 and C20 limits 2, a grant 30 seconds.
-fn nobody_at(normal: u8) -> Seated {
-    Seated {
+fn nobody_at(normal: u8) -> Desk {
+    Desk {
+        core: events::fresh_core(),
         hall: hall::empty_hall(hall::settings_of(1, 200, 2, 2, 2, 30, normal)),
         names: identities::no_names(),
     }
 }
 
-fn nobody() -> Seated {
-    nobody_at(0)
-}
-
-// Somebody joins, whose identity is a part of this text.
-fn sit(before: Seated, from: usize, count: usize, ssrc: u32, flags: u8) -> Seated {
-    let hall = before.hall;
-    let names = before.names;
-    let who = hall::newcomer_of(ssrc, 255, seat_octets::flags_of(flags));
-    let identity = printing::part(
-        b"sip:test1@benchsip:test2@benchsip:gone@benchsip:test10@benchnnnnnnnnnnnnnnnnnnnnnnnnnnnnnnnnnnnnnnnnnnnnnnnnnnnnnnnnnnnnnn",
-        from,
-        count,
+// Somebody joins.
+fn sit(desk: Desk, identity: &[u8], ssrc: u32, flags: Flags) -> Desk {
+    let joined = joining::join_call(
+        desk.hall,
+        desk.names,
+        identity,
+        hall::newcomer_of(ssrc, 255, flags),
     );
-    let joined = joining::join_call(hall, names, identity, who);
-    let hall = joined.hall;
-    let names = joined.names;
-    Seated { hall, names }
-}
-
-// The class: where the identities begin, how many octets they have, and the flags.
-const FROM: [usize; 6] = [0, 15, 30, 44, 60, 60];
-
-const COUNTS: [usize; 6] = [15, 15, 14, 16, 61, 62];
-
-const SITS: [u8; 6] = [1, 1, 1, 0, 2, 3];
-
-fn pupil(before: Seated, k: usize) -> Seated
-    requires { k < 6 }
-{
-    sit(before, FROM[k], COUNTS[k], 10 + k as u32, SITS[k])
-}
-
-// Six join, among them names of 61 and 62 octets.
-fn class() -> Seated {
-    let mut sat = nobody();
-    let mut k = 0;
-    while k < 6 {
-        sat = pupil(sat, k);
-        k += 1;
+    Desk {
+        hall: joined.hall,
+        names: joined.names,
+        ..desk
     }
-    sat
 }
 
-// Then seat 2 leaves, and the sheet closes the gap.
-fn gone(before: Seated) -> Seated {
-    let hall = before.hall;
-    let names = before.names;
-    let left = events::leave_call(events::fresh_core(), hall, names, 2);
-    let desk = left.desk;
-    let hall = desk.hall;
-    let names = desk.names;
-    Seated { hall, names }
+const NONE: Flags = Flags {
+    queueing: false,
+    receive_only: false,
+};
+
+const QUEUEING: Flags = Flags {
+    queueing: true,
+    ..NONE
+};
+
+const RECEIVE_ONLY: Flags = Flags {
+    receive_only: true,
+    ..NONE
+};
+
+const BOTH: Flags = Flags {
+    queueing: true,
+    receive_only: true,
+};
+
+#[derive(Clone, Copy)]
+struct Pupil(&'static [u8], Flags);
+
+const PUPILS: [Pupil; 6] = [
+    Pupil(b"sip:test1@bench", QUEUEING),
+    Pupil(b"sip:test2@bench", QUEUEING),
+    Pupil(b"sip:gone@bench", QUEUEING),
+    Pupil(b"sip:test10@bench", NONE),
+    Pupil(
+        b"nnnnnnnnnnnnnnnnnnnnnnnnnnnnnnnnnnnnnnnnnnnnnnnnnnnnnnnnnnnnn",
+        RECEIVE_ONLY,
+    ),
+    Pupil(
+        b"nnnnnnnnnnnnnnnnnnnnnnnnnnnnnnnnnnnnnnnnnnnnnnnnnnnnnnnnnnnnnn",
+        BOTH,
+    ),
+];
+
+// Six join, among them names of 61 and 62 octets. Then seat 2 leaves, and the sheet closes the gap.
+fn class() -> Desk {
+    let mut desk = nobody_at(0);
+    for (Pupil(identity, flags), ssrc) in PUPILS.iter().zip(10..) {
+        desk = sit(desk, identity, ssrc, *flags);
+    }
+    events::leave_call(desk.core, desk.hall, desk.names, 2).desk
 }
 
 // Sixteen seats with names of 62 octets: the longest sheet.
-fn everybody() -> Seated {
-    let mut sat = nobody();
-    let mut k: u32 = 0;
-    while k < 16 {
-        sat = sit(sat, k as usize, 62, 100 + k, 1);
-        k += 1;
+fn everybody() -> Desk {
+    let mut desk = nobody_at(0);
+    let mut identity = [b'n'; 62];
+    for seat in 0..16u8 {
+        identity[0] = b'a' + seat;
+        desk = sit(desk, &identity, 100 + u32::from(seat), QUEUEING);
     }
-    sat
+    desk
 }
 
 // Saving and loading, with the answer printed.
 
-fn show_verdict(page: &mut Printout, v: Verdict) {
-    let n = sheet::verdict_number(v) as usize;
-    say(page, VERDICT + n % 40, n);
+// What is said of a sheet that is loaded.
+#[derive(Clone, Copy)]
+struct Verdict(Result<Desk, sheet::Refusal>);
+
+impl Display for Verdict {
+    fn fmt<W: fmt::Write>(&self, f: &mut fmt::Formatter<W>) -> fmt::Result {
+        let Err(refusal) = self.0 else {
+            return f.write_str("accepted");
+        };
+        let reason = match refusal {
+            sheet::Refusal::NotASheet => "under 20 octets or no FS",
+            sheet::Refusal::OtherForm => "form",
+            sheet::Refusal::WrongPlaces => "count, or an offset",
+            sheet::Refusal::OutsideRange => "a setting",
+            sheet::Refusal::SeatAtFault => "a seat",
+        };
+        write!(f, "refused {}: {reason}", u8::from(refusal))
+    }
 }
 
-fn load(page: &mut Printout, s: &[u8]) {
-    let l = loading::load(s);
-    let v = l.verdict;
-    show_verdict(page, v);
+fn load(page: &mut Printout, title: &str, s: &[u8]) {
+    writeln!(page, "{title}: {}", Verdict(loading::load(s)));
 }
 
 // How many octets there are; 0 where it was refused.
-fn save(page: &mut Printout, class: Seated, room: &mut [u8]) -> usize {
-    let hall = class.hall;
-    let names = class.names;
-    match saving::save(hall, names, room) {
-        Saving::Saved(n) => {
-            say(page, SAVED, n);
-            n
+fn save(page: &mut Printout, desk: &Desk, room: &mut [u8]) -> usize {
+    match saving::save(desk.hall, desk.names, room) {
+        Ok(n) => {
+            writeln!(page, "saved, {n} octets");
+            return n;
         }
-        Saving::CannotHold => {
-            say(page, CANNOT_HOLD, 0);
-            0
-        }
-        Saving::NoRoom => {
-            say(page, NO_ROOM, 0);
-            0
-        }
+        Err(CannotHold) => writeln!(page, "refused 48: no sheet holds a normal level but 0"),
+        Err(NoRoom) => writeln!(page, "refused 13: the room is too short"),
     }
+    0
 }
 
-// The class's sheet has 224 octets: five seats, the second from 22 on; settings from 204 on; the trailer from 216 on. Which octet is
-// damaged, and which it is then.
-const PLACES: [usize; DAMAGE_COUNT] = [
-    222, 223, 221, 221, 220, 217, 219, 208, 209, 210, 211, 213, 214, 215, 0, 0, 6, 6, 6, 37, 27, 5,
-    220, 220,
+// One octet of the class's sheet that is damaged, and which it is then. The sheet has 224 octets: five seats, the second from 22 on; settings
+// from 204 on; the trailer from 216 on.
+#[derive(Clone, Copy)]
+struct Damage(&'static str, usize, u8);
+
+const DAMAGES: [Damage; 24] = [
+    Damage("no F", 222, b'f'),
+    Damage("no S", 223, b'T'),
+    Damage("form 2", 221, 2),
+    Damage("form 0", 221, 0),
+    Damage("count 17", 220, 17),
+    Damage("settings one further", 217, 205),
+    Damage("seats not at the front", 219, 1),
+    Damage("level 0", 208, 0),
+    Damage("line limit 16", 209, 16),
+    Damage("C7 limit 0", 210, 0),
+    Damage("C20 limit 0", 211, 0),
+    Damage("duration 0", 213, 0),
+    Damage("first zero is 1", 214, 1),
+    Damage("second zero is 1", 215, 1),
+    Damage("flag bit 2", 0, 5),
+    Damage("flag bit 7", 0, 129),
+    Damage("identity length 0", 6, 0),
+    Damage("identity length 63", 6, 63),
+    Damage("identity runs into the settings", 6, 255),
+    Damage("identity present already", 37, b'1'),
+    Damage("SSRC present already", 27, 10),
+    Damage("SSRC of the desk", 5, 1),
+    Damage("one seat fewer", 220, 4),
+    Damage("one seat more", 220, 6),
 ];
 
-const OCTETS: [u8; DAMAGE_COUNT] = [
-    102, 84, 2, 0, 17, 205, 1, 0, 16, 0, 0, 0, 1, 1, 5, 129, 0, 63, 255, 49, 10, 1, 4, 6,
-];
-
-// One octet of the sheet changed for one loading.
-fn damage(page: &mut Printout, room: &mut [u8], at: usize, octet: u8) {
-    if at < room.len() {
-        let old = room[at];
+fn load_damaged(page: &mut Printout, sheet: &[u8], damage: Damage) {
+    let Damage(title, at, octet) = damage;
+    let mut room = [0; SHEET_ROOM];
+    let n = sheet.len().min(room.len());
+    room[..n].copy_from_slice(&sheet[..n]);
+    if at < n {
         room[at] = octet;
-        load(page, printing::part(room, 0, 224));
-        room[at] = old;
     }
-}
-
-fn damages(page: &mut Printout, room: &mut [u8]) {
-    let mut k = 0;
-    while k < DAMAGE_COUNT {
-        say(page, DAMAGES + k, 0);
-        damage(page, room, PLACES[k], OCTETS[k]);
-        k += 1;
-    }
-}
-
-// Octets missing at either end.
-fn cut(page: &mut Printout, k: usize, s: &[u8], from: usize, count: usize) {
-    say(page, k, 0);
-    load(page, printing::part(s, from, count));
-}
-
-fn cuts(page: &mut Printout, s: &[u8]) {
-    cut(page, CUTS, s, 0, 0);
-    cut(page, CUTS + 1, s, 0, 19);
-    cut(page, CUTS + 2, s, 1, 224);
-    cut(page, CUTS + 3, s, 0, 224);
+    load(page, title, &room[..n]);
 }
 
 // The class's sheet, printed, damaged and cut.
-fn lesson(page: &mut Printout, class: Seated, room: &mut [u8]) {
-    let n = save(page, class, room);
-    dump_sheet(page, printing::part(room, 0, n));
-    say(page, DAMAGED, 0);
-    damages(page, room);
-    cuts(page, printing::part(room, 0, n));
+fn lesson(page: &mut Printout, class: &Desk) {
+    let mut room = [0; SHEET_ROOM];
+    let n = save(page, class, &mut room);
+    let sheet = printing::part(&room, 0, n);
+    dump_sheet(page, sheet);
+    writeln!(page, "\nDamaged:");
+    for damage in DAMAGES {
+        load_damaged(page, sheet, damage);
+    }
+    load(page, "no octets", &[]);
+    load(page, "19 octets", printing::part(sheet, 0, 19));
+    load(page, "first octet missing", printing::part(sheet, 1, n));
+    load(page, "whole", sheet);
 }
 
 // Loads a sheet, saves it again, and compares.
-fn back(page: &mut Printout, s: &[u8], room: &mut [u8]) {
-    let l = loading::load(s);
-    let v = l.verdict;
-    let hall = l.hall;
-    let names = l.names;
-    say(page, LOADED, 0);
-    show_verdict(page, v);
-    say(page, SAVED_AGAIN, 0);
-    let n = save(page, Seated { hall, names }, room);
-    if check::same(s, printing::part(room, 0, n)) {
-        say(page, SAME, 0);
+fn again(page: &mut Printout, sheet: &[u8]) {
+    let mut room = [0; SHEET_ROOM];
+    let loaded = loading::load(sheet);
+    writeln!(page, "loaded: {}", Verdict(loaded));
+    let Ok(desk) = loaded else {
+        return;
+    };
+    write!(page, "saved again: ");
+    let n = save(page, &desk, &mut room);
+    let octets = if printing::part(&room, 0, n) == sheet {
+        "the same"
     } else {
-        say(page, OTHER, 0);
-    }
-}
-
-fn again(page: &mut Printout, s: &[u8]) {
-    let mut room = [0u8; SHEET_ROOM];
-    back(page, s, &mut room);
+        "other"
+    };
+    writeln!(page, "{octets} octets");
 }
 
 // Saves into so many octets.
-fn save_into(page: &mut Printout, class: Seated, room: &mut [u8], n: usize) {
-    if room.len() < n {
-        return;
-    }
-    say(page, INTO, n);
-    save(page, class, &mut room[..n]);
+fn save_into(page: &mut Printout, desk: &Desk, room: &mut [u8], n: usize) {
+    write!(page, "in {n} octets: ");
+    let n = n.min(room.len());
+    save(page, desk, &mut room[..n]);
 }
 
 // A sheet saved with room enough, in one octet less than it has, and in just as many. The octet behind it was 7.
-fn saved(page: &mut Printout, class: Seated, room: &mut [u8]) {
-    let n = save(page, class, room);
-    say(page, BEHIND, octet_at(room, n) as usize);
+fn rooms(page: &mut Printout, title: &str, desk: &Desk) {
+    let mut room = [7; SHEET_ROOM];
+    write!(page, "\n{title}: ");
+    let n = save(page, desk, &mut room);
+    writeln!(page, "the octet behind it: {}", octet_at(&room, n));
     if n == 0 {
         return;
     }
-    save_into(page, class, room, n - 1);
-    save_into(page, class, room, n);
-    again(page, printing::part(room, 0, n));
-}
-
-fn rooms(page: &mut Printout, title: usize, class: Seated) {
-    let mut room = [7u8; SHEET_ROOM];
-    say(page, title, 0);
-    saved(page, class, &mut room);
+    save_into(page, desk, &mut room, n - 1);
+    save_into(page, desk, &mut room, n);
+    again(page, printing::part(&room, 0, n));
 }
 
 // A desk that no sheet can hold, saved with room enough and with none: 48 comes before 13.
-fn unsaved(page: &mut Printout, title: usize, class: Seated) {
-    let mut room = [7u8; SHEET_ROOM];
-    say(page, title, 0);
-    save(page, class, &mut room);
-    save_into(page, class, &mut room, 0);
+fn unsaved(page: &mut Printout, title: &str, desk: &Desk) {
+    let mut room = [7; SHEET_ROOM];
+    write!(page, "\n{title}: ");
+    save(page, desk, &mut room);
+    save_into(page, desk, &mut room, 0);
 }
 
 fn main(rt: HostRuntime) -> io::Result<()> {
     let mut page = Page::new(rt.stdout());
-    let mut room = [0u8; SHEET_ROOM];
-    let class = gone(class());
-    say(&mut page, CLASS, 0);
-    lesson(&mut page, class, &mut room);
-    rooms(&mut page, ROOMS, class);
-    rooms(&mut page, NOBODY, nobody());
-    rooms(&mut page, EVERYBODY, everybody());
-    unsaved(&mut page, OTHER_LEVEL, nobody_at(100));
+    let class = class();
+    write!(page, "The class: ");
+    lesson(&mut page, &class);
+    rooms(&mut page, "Rooms, and back again", &class);
+    rooms(&mut page, "Nobody", &nobody_at(0));
+    rooms(&mut page, "Everybody", &everybody());
+    unsaved(&mut page, "Nobody, at normal level 100", &nobody_at(100));
     page.close()
 }

@@ -1,21 +1,22 @@
-// What the programs print with, on a page: text, numbers, octets in hexadecimal, the seats of a set. Each function answers how much there
-// was to print, whether or not the page has got it. A page notes the first error of what it is written to, and nothing is written behind
-// one; the program ends with it.
+// What the programs print with: a page, and what is printed on it by more than `write!` knows: octets in hexadecimal, letters, the seats of
+// a set. Each says the text that it is printed as. And how the programs cut up what they print of.
 #![tactic(auto)]
 
-ghost use Rattle.std.specs.Prelude.{◌≡◌, ◌+◌, ◌≤◌, nat_lt, length, slice_range, None, IsSome, IsOk, MatchOption, Err};
+ghost use Rattle.std.specs.Prelude.{◌≡◌, ℕ, ◌+◌, ◌-◌, ◌<◌, ◌≤◌, length, slice_range, IsSome, IsOk, MatchOption, Err, Some, None, IfSome};
 ghost use Rattle.std.specs.Io.KnownBytes.{Appends};
-ghost use Rattle.io.specs.Digits.{IsDigitCount};
+ghost use Rattle.std.specs.Iterator.{at_most};
 ghost use Rattle.octets.specs.Octets.{part as part·of};
-ghost use Rattle.printing.specs.Printed.{piece_start, Pieces, number_mark, row_mark, count_in, index_of};
+ghost use Rattle.printing.specs.Printed.{piece_start, index_of, count_in, octets_text, letter, letters_text, seats_text, Pieces, IsPiece};
 
-use std::io::{Stdout, Write};
+use std::fmt::{self, Display};
+use std::io::{self, Stdout, Write};
 
-// What is printed on: what it is written to, and the first error that this answered.
+// What is printed on: what it is written to, and the first error that this answered. Nothing is written behind an error; the program ends
+// with it.
 #[derive(Drop)]
 pub struct Page<W> {
     to: W,
-    failure: Option<std::io::Error>,
+    failure: Option<io::Error>,
 }
 
 // The page of a program.
@@ -30,7 +31,7 @@ impl<W> Page<W> {
     }
 
     // The first error of what the page was written to, if there was one: no other error comes.
-    pub fn close(self) -> std::io::Result<()>
+    pub fn close(self) -> io::Result<()>
     where
         W: Drop,
         ensures { MatchOption self.failure (IsOk result) (λ e. result ≡ Err e) }
@@ -43,15 +44,95 @@ impl<W> Page<W> {
     }
 }
 
-// Writes octets on a page. Where nothing has failed by the end, it has got all of them; one that had failed stays as it was.
-fn put<W: Write>(page: &mut Page<W>, s: &[u8])
-    ensures failed { IsSome page.old.failure → page.new ≡ page.old }
-    ensures written { page.new.failure ≡ None → Appends (W.contents page.old.to) (W.contents page.new.to) s.now }
-{
-    if page.failure.is_none() {
-        if let Err(e) = page.to.write_all(s) {
-            page.failure = Some(e);
+impl<W: Write> Page<W> {
+    // Octets as they are. Where nothing has failed by the end, the page has got all of them and no others; one that had failed stays as it
+    // was.
+    pub fn text(&mut self, s: &[u8])
+        ensures failed { IsSome self.old.failure → self.new ≡ self.old }
+        ensures written { self.new.failure ≡ None → Appends (W.contents self.old.to) (W.contents self.new.to) s.now }
+    {
+        if self.failure.is_none() {
+            self.failure = self.to.write_all(s).err();
         }
+    }
+
+    // What `write!` prints on a page, with the same promise of the text that it is.
+    pub fn write_fmt<D: Display + Drop>(&mut self, text: D)
+        ensures failed { IsSome self.old.failure → self.new ≡ self.old }
+        ensures written { self.new.failure ≡ None → IfSome (D.output text) (Appends (W.contents self.old.to) (W.contents self.new.to)) }
+    {
+        if self.failure.is_none() {
+            self.failure = self.to.write_fmt(text).err();
+        }
+    }
+}
+
+// Octets in hexadecimal, a space before each.
+#[derive(Clone, Copy)]
+pub struct Octets<'a>(pub &'a [u8]);
+
+impl Display for Octets<'_> {
+    ghost output = { λ octets. Some (octets_text octets.0.now) };
+
+    fn fmt<W: fmt::Write>(&self, f: &mut fmt::Formatter<W>) -> fmt::Result {
+        for &octet in self.0 {
+            write!(f, " {octet:02x}")?;
+        }
+        Ok(())
+    }
+}
+
+// Octets as text, where they are letters; a point for each that is none.
+#[derive(Clone, Copy)]
+pub struct Letters<'a>(pub &'a [u8]);
+
+impl Display for Letters<'_> {
+    ghost output = { λ letters. Some (letters_text letters.0.now) };
+
+    fn fmt<W: fmt::Write>(&self, f: &mut fmt::Formatter<W>) -> fmt::Result {
+        for &octet in self.0 {
+            f.write_char(letter(octet))?;
+        }
+        Ok(())
+    }
+}
+
+fn letter(octet: u8) -> char
+    ensures { result ≡ letter octet }
+{
+    if 32 <= octet && octet < 127 {
+        char::from(octet)
+    } else {
+        '.'
+    }
+}
+
+// The seats of a set, a space before each, or nobody.
+#[derive(Clone, Copy)]
+pub struct Seats(pub [bool; 16]);
+
+impl Seats {
+    // How many they are.
+    pub fn count(&self) -> usize
+        ensures { result ≡ count_in self.now.0 16 }
+    {
+        self.0.iter().filter(|is_in| **is_in).count()
+    }
+}
+
+impl Display for Seats {
+    ghost output = { λ seats. Some (seats_text seats.0) };
+
+    fn fmt<W: fmt::Write>(&self, f: &mut fmt::Formatter<W>) -> fmt::Result {
+        if self.count() == 0 {
+            return f.write_str(" nobody");
+        }
+        for (seat, is_in) in self.0.iter().enumerate() {
+            if *is_in {
+                write!(f, " {seat}")?;
+            }
+        }
+        Ok(())
     }
 }
 
@@ -60,12 +141,7 @@ fn before_mark(s: &[u8], mark: u8) -> usize
     ensures count { result ≡ index_of mark s.now }
     ensures bound { result ≤ length s.now }
 {
-    for (i, b) in s.iter().enumerate() {
-        if *b == mark {
-            return i;
-        }
-    }
-    s.len()
+    s.iter().position(|b| *b == mark).unwrap_or(s.len())
 }
 
 // Where a mark stands first, from a place on; the end, where there is none.
@@ -79,195 +155,60 @@ pub fn find(s: &[u8], from: usize, mark: u8) -> usize
 }
 
 // So many octets from a place on, as far as there are any: none from the end on.
+#[tactic(auto, unfolding(octets::specs::Octets::part))]
 pub fn part(s: &[u8], from: usize, count: usize) -> &[u8]
     ensures { result.now ≡ part·of s.now from count }
 {
-    if s.len() <= from {
-        return &s[..0];
-    }
-    if s.len() - from <= count {
-        return &s[from..];
-    }
-    &s[from..from + count]
+    let rest = &s[from.min(s.len())..];
+    &rest[..count.min(rest.len())]
 }
 
-// Text as it is; how many octets it has. Where nothing has failed by the end, the page has got all of it; one that had failed stays as it was.
-pub fn text<W: Write>(page: &mut Page<W>, s: &[u8]) -> usize
-    ensures count { result ≡ length s.now }
-    ensures failed { IsSome page.old.failure → page.new ≡ page.old }
-    ensures written { page.new.failure ≡ None → Appends (W.contents page.old.to) (W.contents page.new.to) s.now }
+// The pieces of some octets, one after the other: a mark ends each, and the last may be without it.
+#[derive(Clone, Copy)]
+pub struct Cut<'a> {
+    pub s: &'a [u8],
+    pub mark: u8,
+    // how many pieces were handed out, and where the next begins
+    pub taken: usize,
+    pub from: usize,
+    ghost place: { from ≡ piece_start mark s.now taken },
+    ghost begin: { (k : ℕ) → k < taken → piece_start mark s.now k < length s.now },
+}
+
+pub fn pieces(s: &[u8], mark: u8) -> Cut<'_>
+    ensures octets { result.s.now ≡ s.now }
+    ensures mark { result.mark ≡ mark }
+    ensures taken { result.taken ≡ 0 }
 {
-    put(page, s);
-    s.len()
-}
-
-// The end of a line, one octet.
-pub fn line_end<W: Write>(page: &mut Page<W>) -> usize
-    ensures { result ≡ 1 }
-{
-    text(page, b"\n")
-}
-
-// A number in decimal digits; how many they are.
-pub fn number<W: Write>(page: &mut Page<W>, n: u64) -> usize
-    ensures { IsDigitCount 10 1 n result }
-{
-    let mut digits = [0u8; 20];
-    let k = io::decimal(n, &mut digits);
-    text(page, &digits[..k]);
-    k
-}
-
-// The number at a place of a list; nothing past its end.
-fn number_at<W: Write>(page: &mut Page<W>, numbers: [u64; 4], k: usize) {
-    if k < 4 {
-        number(page, numbers[k]);
+    Cut {
+        s,
+        mark,
+        taken: 0,
+        from: 0,
     }
 }
 
-// Stands in a form for a number, and ends a piece of it.
-const NUMBER_MARK: u8 = b'%';
+impl<'a> Iterator for Cut<'a> {
+    type Item = &'a [u8];
 
-// Text with a number in the place of each `%`, in order; how many pieces the form has.
-pub fn filled<W: Write>(page: &mut Page<W>, form: &[u8], numbers: [u64; 4]) -> usize
-    ensures { Pieces number_mark form.now result }
-{
-    let mut from = 0;
-    let mut k = 0;
-    while from < form.len() {
-        let end = find(form, from, NUMBER_MARK);
-        text(page, &form[from..end]);
-        if end < form.len() {
-            number_at(page, numbers, k);
+    ghost remaining = { λ cut. at_most (length cut.s.now + 1 - cut.from) };
+
+    ghost next_gives = { λ old r new. MatchOption r
+        (Pieces old.mark old.s.now old.taken × (new ≡ old))
+        (λ piece. IsPiece old.mark old.s.now old.taken piece.now × (new.s ≡ old.s) × (new.mark ≡ old.mark) × (new.taken ≡ old.taken + 1)) };
+
+    fn next(&mut self) -> Option<&'a [u8]> {
+        if self.s.len() <= self.from {
+            return None;
         }
-        from = end + 1;
-        k += 1;
+        let end = find(self.s, self.from, self.mark);
+        let piece = &self.s[self.from..end];
+        *self = Cut {
+            s: self.s,
+            mark: self.mark,
+            taken: self.taken + 1,
+            from: end + 1,
+        };
+        Some(piece)
     }
-    k
-}
-
-// A form with one number; how many pieces the form has.
-pub fn numbered<W: Write>(page: &mut Page<W>, form: &[u8], n: u64) -> usize
-    ensures { Pieces number_mark form.now result }
-{
-    filled(page, form, [n, 0, 0, 0])
-}
-
-// Ends each of several forms.
-const ROW_MARK: u8 = b'^';
-
-// One of several forms, which end with a `^` each; nothing past the last. Whether there is such a row.
-pub fn row<W: Write>(page: &mut Page<W>, forms: &[u8], k: usize, numbers: [u64; 4]) -> bool
-    ensures { result ≡ nat_lt (piece_start row_mark forms.now k) (length forms.now) }
-{
-    let mut from = 0;
-    let mut i = 0;
-    while from < forms.len() {
-        let end = find(forms, from, ROW_MARK);
-        if i == k {
-            filled(page, &forms[from..end], numbers);
-            return true;
-        }
-        i += 1;
-        from = end + 1;
-    }
-    false
-}
-
-// An octet in hexadecimal, with a space before it.
-fn octet<W: Write>(page: &mut Page<W>, b: u8) {
-    text(page, b" ");
-    let mut digits = [0u8; 16];
-    let k = io::hex(b as u64, 2, &mut digits);
-    text(page, &digits[..k]);
-}
-
-// Octets in hexadecimal in so many places: a space before each, and spaces where there is none. How many places they are.
-pub fn places<W: Write>(page: &mut Page<W>, s: &[u8], n: usize) -> usize
-    ensures { result ≡ n }
-{
-    let mut i = 0;
-    while i < n {
-        if i < s.len() {
-            octet(page, s[i]);
-        } else {
-            text(page, b"   ");
-        }
-        i += 1;
-    }
-    i
-}
-
-// Octets in hexadecimal, a space before each; how many they are.
-pub fn octets<W: Write>(page: &mut Page<W>, s: &[u8]) -> usize
-    ensures { result ≡ length s.now }
-{
-    places(page, s, s.len())
-}
-
-// Octets as text, where they are letters; a point for each that is none. How many they are.
-pub fn letters<W: Write>(page: &mut Page<W>, s: &[u8]) -> usize
-    ensures { result ≡ length s.now }
-{
-    let mut i = 0;
-    while i < s.len() {
-        if 32 <= s[i] && s[i] < 127 {
-            text(page, &s[i..i + 1]);
-        } else {
-            text(page, b".");
-        }
-        i += 1;
-    }
-    i
-}
-
-// The seats of a set, a space before each, or nobody; how many they are.
-pub fn seats<W: Write>(page: &mut Page<W>, set: [bool; 16]) -> usize
-    ensures { result ≡ count_in set 16 }
-{
-    let mut count = 0;
-    let mut i = 0;
-    while i < 16 {
-        if set[i] {
-            numbered(page, b" %", i as u64);
-            count += 1;
-        }
-        i += 1;
-    }
-    if count == 0 {
-        text(page, b" nobody");
-    }
-    count
-}
-
-// So many spaces.
-pub fn spaces<W: Write>(page: &mut Page<W>, n: usize) -> usize
-    ensures { result ≡ n }
-{
-    let mut i = 0;
-    while i < n {
-        text(page, b" ");
-        i += 1;
-    }
-    i
-}
-
-// How many spaces go before a number that is to end in the fourth column.
-fn spaces_before(n: usize) -> usize {
-    match n {
-        0..=9 => 3,
-        10..=99 => 2,
-        100..=999 => 1,
-        _ => 0,
-    }
-}
-
-// A number in four columns, and a space; how many digits the number has.
-pub fn column<W: Write>(page: &mut Page<W>, n: usize) -> usize
-    ensures { IsDigitCount 10 1 n result }
-{
-    spaces(page, spaces_before(n));
-    let digits = number(page, n as u64);
-    text(page, b" ");
-    digits
 }

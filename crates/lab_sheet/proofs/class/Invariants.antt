@@ -1,9 +1,0 @@
--- `lab_sheet::class` has six join.
-use Prim.Native.Nat.{◌≤◌, ◌-◌}
-use Rattle.lab_sheet.proofs.class.Given as goal
-
-abbrev pub invariant-loop-k : goal.invariant-loop-k
-invariant-loop-k l = l.k ≤ 6
-
-abbrev pub decreases-loop-k : goal.decreases-loop-k
-decreases-loop-k l = 6 - l.k

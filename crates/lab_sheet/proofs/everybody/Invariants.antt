@@ -1,9 +1,0 @@
--- `lab_sheet::everybody` fills the sixteen seats.
-use Prim.Native.Nat.{◌≤◌, ◌-◌}
-use Rattle.lab_sheet.proofs.everybody.Given as goal
-
-abbrev pub invariant-loop-k : goal.invariant-loop-k
-invariant-loop-k l = l.k ≤ 16
-
-abbrev pub decreases-loop-k : goal.decreases-loop-k
-decreases-loop-k l = 16 - l.k
