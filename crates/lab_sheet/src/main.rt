@@ -2,7 +2,7 @@
 #![tactic(auto)]
 
 use events::Desk;
-use hall::Flags;
+use hall::{Flags, NO_FLAGS};
 use printing::{Letters, Octets, Page, Printout};
 use saving::Refusal::{CannotHold, NoRoom};
 use std::fmt::{self, Display};
@@ -162,19 +162,14 @@ fn sit(desk: Desk, identity: &[u8], ssrc: u32, flags: Flags) -> Desk {
     }
 }
 
-const NONE: Flags = Flags {
-    queueing: false,
-    receive_only: false,
-};
-
 const QUEUEING: Flags = Flags {
     queueing: true,
-    ..NONE
+    ..NO_FLAGS
 };
 
 const RECEIVE_ONLY: Flags = Flags {
     receive_only: true,
-    ..NONE
+    ..NO_FLAGS
 };
 
 const BOTH: Flags = Flags {
@@ -189,7 +184,7 @@ const PUPILS: [Pupil; 6] = [
     Pupil(b"sip:test1@bench", QUEUEING),
     Pupil(b"sip:test2@bench", QUEUEING),
     Pupil(b"sip:gone@bench", QUEUEING),
-    Pupil(b"sip:test10@bench", NONE),
+    Pupil(b"sip:test10@bench", NO_FLAGS),
     Pupil(
         b"nnnnnnnnnnnnnnnnnnnnnnnnnnnnnnnnnnnnnnnnnnnnnnnnnnnnnnnnnnnnn",
         RECEIVE_ONLY,
