@@ -205,26 +205,36 @@ const SKIPPED: Lengths = Lengths {
     greatest: 255,
 };
 
-// The table. Every other ID below 192 is skipped by its length. As an Option it costs six instructions more for each field that is read.
+// The table, a row for each ID that it reaches. It is no const, which would be copied at each use; as an Option a row costs six instructions
+// more for each field that is read.
+static LENGTHS: [Lengths; 16] = [
+    PAIR, // 0, Floor Priority
+    PAIR, // 1, Duration
+    CAUSE, // 2, Reject Cause
+    PAIR, // 3, Queue Info
+    IDENTITY, // 4, Granted Party's Identity
+    PAIR, // 5, Permission to Request
+    IDENTITY, // 6, User ID
+    SKIPPED, // 7
+    PAIR, // 8, Message Sequence-Number
+    SKIPPED, // 9
+    PAIR, // 10, Source
+    SKIPPED, // 11
+    PAIR, // 12, Message Type
+    PAIR, // 13, Floor Indicator
+    SSRC, // 14, SSRC
+    SKIPPED, // 15
+];
+
+// What the table says of an ID. Every other one below 192 is skipped by its length: one that has the mark, and all from 16 on.
 #[tactic(auto, using(std::proofs::lemmas::Bool::Decides::nat_tests), unfolding(crate::proofs::Rows::judging))]
 fn lengths_of(id: u8) -> Lengths
     ensures { result ≡ row_lengths id }
 {
-    match id {
-        0 => PAIR, // Floor Priority
-        1 => PAIR, // Duration
-        2 => CAUSE, // Reject Cause
-        3 => PAIR, // Queue Info
-        4 => IDENTITY, // Granted Party's Identity
-        5 => PAIR, // Permission to Request
-        6 => IDENTITY, // User ID
-        8 => PAIR, // Message Sequence-Number
-        10 => PAIR, // Source
-        12 => PAIR, // Message Type
-        13 => PAIR, // Floor Indicator
-        14 => SSRC, // SSRC
-        _ => SKIPPED,
+    if id < 16 {
+        return LENGTHS[id as usize];
     }
+    SKIPPED
 }
 
 // Whether the table has an ID. This is the one place that says so.
