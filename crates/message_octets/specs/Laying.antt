@@ -8,7 +8,6 @@ use Rattle.message.specs.declared.Message.{Message}
 use Rattle.header.specs.Header.{ssrc_place, ack_bit}
 use Rattle.message_octets.specs.Held.{worth_if}
 use Rattle.reading.specs.Reading.{message_at}
-use Rattle.reading.specs.declared.Judged.{Judged}
 use Rattle.message_octets.specs.Places.{message_size}
 
 -- a room for a message that has zeros from a place on
@@ -21,9 +20,9 @@ pub record Lays (room : List ℕ) (at : ℕ) (octets after : List ℕ) : Type 0 
   pub is : after ≡ over room at octets
   pub blank : Blank after (at + length octets)
 
--- the message of a packet that was judged
-abbrev pub message_by : List ℕ → Judged → Message
-message_by s j = message_at j.kind s (λ i. get_or j.starts i 0)
+-- the message of a packet that was judged, by its type and the array of its fields' starts
+abbrev pub message_by : MessageType → List ℕ → List ℕ → Message
+message_by k s starts = message_at k s (λ i. get_or starts i 0)
 
 -- what the bits of the fields are worth whose places stand in a row, with those before them
 unfoldable pub first_worth : Message → ℕ

@@ -12,8 +12,7 @@ ghost use Rattle.message_octets.specs.Held.{worth_if, no_place, no_part, place_a
 ghost use Rattle.message_octets.specs.Laying.{Blank, Lays, first_worth, next_worth, parts_worth, head_by, message_by};
 ghost use Rattle.message_octets.specs.Zeros.{zeros16, zeros32, zeros_part, four_long};
 
-use message::{Part, QueueInfo, Refusal};
-use reading::Judged;
+use message::{MessageType, Part, QueueInfo, Refusal};
 
 // Where each thing stands in the octets of a message, and how many there are: in a field's place its number, in a part's place where it starts
 // and, two octets further, how many octets it has.
@@ -238,14 +237,13 @@ fn lay<T: Placed>(room: &mut [u8], to: usize, field: Option<T>, has: u16, worth:
     has + worth
 }
 
-// The fields of one row of the octets, from what is known of a packet that was judged.
-fn lay_first(room: &mut [u8], s: &[u8], judged: &Judged) -> u16
+// The fields of one row of the octets, from the starts of a packet that was judged.
+fn lay_first(room: &mut [u8], s: &[u8], starts: &[usize; 16]) -> u16
     requires blank { Blank room.old priority_place }
-    requires reach { Reach s.now (λ i. get_or judged.now.starts i 0) }
-    ensures lays { Lays room.old priority_place (first_octets (message_by s.now judged.now)) room.new }
-    ensures value { result ≡ first_worth (message_by s.now judged.now) }
+    requires reach { Reach s.now (λ i. get_or starts.now i 0) }
+    ensures lays { (k : MessageType) → Lays room.old priority_place (first_octets (message_by k s.now starts.now)) room.new }
+    ensures value { (k : MessageType) → result ≡ first_worth (message_by k s.now starts.now) }
 {
-    let starts = &judged.starts;
     let priority = reading::octet_at(s, starts[0]);
     let has = lay(room, PRIORITY, priority, 0, HAS_PRIORITY);
     let message_type = reading::octet_at(s, starts[12]);
@@ -258,14 +256,13 @@ fn lay_first(room: &mut [u8], s: &[u8], judged: &Judged) -> u16
     lay(room, QUEUE, queue, has, HAS_QUEUE)
 }
 
-fn lay_next(room: &mut [u8], s: &[u8], judged: &Judged, has: u16) -> u16
+fn lay_next(room: &mut [u8], s: &[u8], starts: &[usize; 16], has: u16) -> u16
     requires blank { Blank room.old permission_place }
-    requires reach { Reach s.now (λ i. get_or judged.now.starts i 0) }
+    requires reach { Reach s.now (λ i. get_or starts.now i 0) }
     requires has_bound { has + 25888 < 65536 }
-    ensures lays { Lays room.old permission_place (next_octets (message_by s.now judged.now)) room.new }
-    ensures value { result ≡ next_worth has (message_by s.now judged.now) }
+    ensures lays { (k : MessageType) → Lays room.old permission_place (next_octets (message_by k s.now starts.now)) room.new }
+    ensures value { (k : MessageType) → result ≡ next_worth has (message_by k s.now starts.now) }
 {
-    let starts = &judged.starts;
     let permission = reading::word_at(s, starts[5]);
     let has = lay(room, PERMISSION, permission, has, HAS_PERMISSION);
     let sequence = reading::word_at(s, starts[8]);
@@ -279,14 +276,13 @@ fn lay_next(room: &mut [u8], s: &[u8], judged: &Judged, has: u16) -> u16
 }
 
 // The phrase has no bit of its own: that of its field was added where the cause was laid.
-fn lay_parts(room: &mut [u8], s: &[u8], judged: &Judged, has: u16) -> u16
+fn lay_parts(room: &mut [u8], s: &[u8], starts: &[usize; 16], has: u16) -> u16
     requires blank { Blank room.old phrase_place }
-    requires reach { Reach s.now (λ i. get_or judged.now.starts i 0) }
+    requires reach { Reach s.now (λ i. get_or starts.now i 0) }
     requires has_bound { has + 80 < 65536 }
-    ensures lays { Lays room.old phrase_place (part_octets (message_by s.now judged.now)) room.new }
-    ensures value { result ≡ parts_worth has (message_by s.now judged.now) }
+    ensures lays { (k : MessageType) → Lays room.old phrase_place (part_octets (message_by k s.now starts.now)) room.new }
+    ensures value { (k : MessageType) → result ≡ parts_worth has (message_by k s.now starts.now) }
 {
-    let starts = &judged.starts;
     let phrase = reading::cause_at(s, starts[2]).map(|reject| reject.phrase);
     let has = lay(room, PHRASE, phrase, has, 0);
     let has = lay(
@@ -299,26 +295,26 @@ fn lay_parts(room: &mut [u8], s: &[u8], judged: &Judged, has: u16) -> u16
     lay(room, USER, reading::part_at(s, starts[6]), has, HAS_USER)
 }
 
-fn put_head(room: &mut [u8], s: &[u8], judged: &Judged, fields: u16)
+fn put_head(room: &mut [u8], s: &[u8], kind: MessageType, fields: u16)
     requires { (header_size ≤ length s.now) × (message_size ≤ length room.old) }
-    ensures { room.new ≡ over room.old 0 (head_by judged.now.kind s.now fields) }
+    ensures { room.new ≡ over room.old 0 (head_by kind s.now fields) }
 {
-    octets::put_pair(room, TYPE, message::type_number(judged.kind), s[0] / 16 % 2);
+    octets::put_pair(room, TYPE, message::type_number(kind), s[0] / 16 % 2);
     octets::put16(room, FIELDS, fields);
     octets::put32(room, SSRC, octets::number32(s, header::SSRC));
 }
 
 // Writes a packet's message into the first 40 octets of a room.
-fn put_held(room: &mut [u8], s: &[u8], judged: &Judged)
+fn put_held(room: &mut [u8], s: &[u8], kind: MessageType, starts: &[usize; 16])
     requires message_size_in_bounds { message_size ≤ length room.old }
-    requires reach { Reach s.now (λ i. get_or judged.now.starts i 0) }
-    ensures { room.new ≡ over room.old 0 (held_octets (message_by s.now judged.now)) }
+    requires reach { Reach s.now (λ i. get_or starts.now i 0) }
+    ensures { room.new ≡ over room.old 0 (held_octets (message_by kind s.now starts.now)) }
 {
     copying::put_zeros(room, 0, MESSAGE_SIZE);
-    let has = lay_first(room, s, judged);
-    let has = lay_next(room, s, judged, has);
-    let has = lay_parts(room, s, judged, has);
-    put_head(room, s, judged, has);
+    let has = lay_first(room, s, starts);
+    let has = lay_next(room, s, starts, has);
+    let has = lay_parts(room, s, starts, has);
+    put_head(room, s, kind, has);
 }
 
 // Reads a packet into a room for a message, or refuses it: the reader's refusals come before NoRoom.
@@ -326,10 +322,11 @@ pub fn read_held(packet: &[u8], room: &mut [u8]) -> Result<(), Refusal>
     ensures value { read_answer result ≡ read_held packet.now (length room.old) }
     ensures room_after { room.new ≡ kept_in packet.now room.old }
 {
-    let judged = reading::judge(packet)?;
+    let mut starts = [0usize; 16];
+    let kind = reading::judge(packet, &mut starts)?;
     if room.len() < MESSAGE_SIZE {
         return Err(Refusal::NoRoom);
     }
-    put_held(room, packet, &judged);
+    put_held(room, packet, kind, &starts);
     Ok(())
 }

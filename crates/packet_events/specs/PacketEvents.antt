@@ -1,7 +1,8 @@
 -- A packet as an event (document 01, "The desk": "Only a packet that was read becomes an event, and only types 0, 4, 8; others, Ack
 -- included, get 23, after 21 and 22"). Assumes nothing.
-use Rattle.std.specs.Prelude.{ℕ, List, Option, Err}
-use Rattle.message.specs.Answers.{Answer, refused, result}
+use Rattle.std.specs.Prelude.{ℕ, List, Option, Result, Ok, Err}
+use Rattle.message.specs.Answers.{Answer, refused, result, refusal_number}
+use Rattle.message.specs.declared.Refusal.{Refusal}
 use Rattle.message.specs.declared.MessageType.{MessageType}
 use Rattle.message.specs.declared.MessageType.TheVariants.{Request, Granted, Taken, Deny, Release, Idle, Revoke, QueuePositionRequest}
 use Rattle.message.specs.declared.MessageType.TheVariants.{QueuePositionInfo, Ack}
@@ -43,3 +44,8 @@ by_reading c h (result m) = step c h (event_of m)
 
 unfoldable pub hears : Core → Hall → List ℕ → Step
 hears c h packet = by_reading c h (reading packet)
+
+-- the paper's number of a refusal that the reader judged by; 0 where it read
+abbrev pub refusal_in : Result MessageType Refusal → ℕ
+refusal_in (Ok k) = 0
+refusal_in (Err r) = refusal_number r

@@ -4,7 +4,7 @@
 ghost use Rattle.std.specs.Prelude.{◌≡◌, ◌+◌, ◌≤◌, length};
 ghost use Rattle.octets.specs.Octets.{be32};
 ghost use Rattle.reading.specs.Reading.{octet_at};
-ghost use Rattle.packet_events.specs.PacketEvents.{event_by, hears};
+ghost use Rattle.packet_events.specs.PacketEvents.{event_by, refusal_in, hears};
 
 use events::Event;
 use hall::{Hall, Refusal};
@@ -33,16 +33,26 @@ fn event_at(packet: &[u8], kind: MessageType, priority: usize) -> Event
     event_by(kind, octets::number32(packet, 4), asked)
 }
 
+// The number of the reader's refusal; 0 where it read.
+fn refusal_in(answer: Result<MessageType, message::Refusal>) -> u8
+    ensures { result ≡ refusal_in answer }
+{
+    match answer {
+        Ok(_) => 0,
+        Err(r) => message::refusal_number(r),
+    }
+}
+
 // A packet comes in: only one that was read becomes an event.
 #[tactic(auto, unfolding(crate::specs::PacketEvents::hears, crate::specs::PacketEvents::event_of, reading::specs::Reading::message_at))]
 pub fn hear(core: Core, hall: Hall, packet: &[u8]) -> Step
     ensures { result ≡ hears core hall packet.now }
 {
-    match reading::judge(packet) {
-        Ok(judged) => {
-            let event = event_at(packet, judged.kind, judged.starts[0]);
-            events::make_step(core, hall, event)
-        }
-        Err(r) => steps::answer(core, Err(Refusal::NotRead(message::refusal_number(r)))),
-    }
+    let mut starts = [0usize; 16];
+    let answer = reading::judge(packet, &mut starts);
+    let Ok(kind) = answer else {
+        return steps::answer(core, Err(Refusal::NotRead(refusal_in(answer))));
+    };
+    let event = event_at(packet, kind, starts[0]);
+    events::make_step(core, hall, event)
 }

@@ -5,14 +5,12 @@ use Prim.Native.Nat.{ℕ}
 use lib.Seq.{ext_get_or}
 use Rattle.std.specs.Prelude.{Result, Ok, Err}
 use Rattle.words.proofs.Tests.{clash}
-use Rattle.message.specs.declared.MessageType.{MessageType}
 use Rattle.message.specs.declared.Message.{Message}
 use Rattle.message.specs.declared.Refusal.{Refusal}
 use Rattle.message.specs.Answers.{Answer, result}
 use Rattle.message.proofs.Answers.{number_one, never, refusal-one, told_one}
 use Rattle.field.specs.Fields.{Fields, whole, fault, fields_in}
 use Rattle.walk.specs.Walk.{Noted, Walked}
-use Rattle.reading.specs.declared.Judged.{Judged}
 use Rattle.reading.specs.Reading.{message_at}
 use Rattle.packet_laws.specs.Again.{NumbersDiffer, ReadersCoincide, WritersCoincide, LaysCoincide, JudgesCoincide, OpeningsCoincide}
 use Rattle.packet_laws.specs.Again.{WalksCoincide}
@@ -37,30 +35,29 @@ same_notes (fault k) starts starts' n n' = absurd n
 message_of : (m m' : Message) → ◌≡◌ {A = Answer Message} (result m) (result m') → m ≡ m'
 message_of m m' e = cc
 
-judged_alike : (k k' : MessageType) (starts starts' : List ℕ) → k ≡ k' → starts ≡ starts' →
-    ◌≡◌ {A = Judged} (record { kind = k; starts = starts }) (record { kind = k'; starts = starts' })
-judged_alike k k' starts starts' e q = rw (e, q)
-
 pub judges_coincide : JudgesCoincide
 unfolding message_at
-judges_coincide s (Ok j) (Ok j') p p' =
-    ap Ok
-    (judged_alike j.kind j'.kind j.starts j'.starts (ap (λ (m : Message). m.kind) (message_of _ _ (sym p.0 ∙ p'.0)))
-    (same_notes (fields_in s) j.starts j'.starts p.2 p'.2))
-judges_coincide s (Ok j) (Err r) p p' = never (sym p' ∙ p.0)
-judges_coincide s (Err r) (Ok j) p p' = never (sym p ∙ p'.0)
-judges_coincide s (Err r) (Err r') p p' = ap Err (refusal-one r r' (sym p ∙ p'))
+judges_coincide s (Ok k) (Ok k') starts starts' p p' =
+    record {
+      answers = ap (λ (m : Message). Ok m.kind) (message_of _ _ (sym p.0 ∙ p'.0));
+      noted = same_notes (fields_in s) starts starts' p.2 p'.2;
+    }
+judges_coincide s (Ok k) (Err r) starts starts' p p' = never (sym p'.0 ∙ p.0)
+judges_coincide s (Err r) (Ok k) starts starts' p p' = never (sym p.0 ∙ p'.0)
+judges_coincide s (Err r) (Err r') starts starts' p p' =
+    record { answers = ap Err (refusal-one r r' (sym p.0 ∙ p'.0)); noted = p.1 ∙ sym p'.1 }
 
 pub openings_coincide : OpeningsCoincide
 openings_coincide s r r' p p' = told_one r r' (p ∙ sym p')
 
 pub walks_coincide : WalksCoincide
-walks_coincide s w w' l l' = go (fields_in s) w w' l l'
+walks_coincide s w w' starts starts' l l' = go (fields_in s) w w' l l'
   where
-    go : (fields : Fields) (w w' : Result (List ℕ) Refusal) → Walked fields w → Walked fields w' → w ≡ w'
-    go (whole fs) (Ok a) (Ok b) k k' = ap Ok (same_notes (whole fs) a b k k')
-    go (whole fs) (Ok a) (Err r) k k' = absurd k'
+    go : (fields : Fields) (w w' : Result (Unit {0}) Refusal) → Walked fields w starts → Walked fields w' starts' →
+        (w ≡ w') × (starts ≡ starts')
+    go (whole fs) (Ok u) (Ok u') k k' = (refl, same_notes (whole fs) starts starts' k k')
+    go (whole fs) (Ok u) (Err r) k k' = absurd k'
     go (whole fs) (Err r) w' k k' = absurd k
-    go (fault n) (Ok a) w' k k' = clash k.1 refl
-    go (fault n) (Err r) (Ok b) k k' = clash k'.1 refl
-    go (fault n) (Err r) (Err q) k k' = ap Err (number_one r q (k.0 ∙ sym k'.0))
+    go (fault n) (Ok u) w' k k' = clash k.1 refl
+    go (fault n) (Err r) (Ok u) k k' = clash k'.1 refl
+    go (fault n) (Err r) (Err q) k k' = (ap Err (number_one r q (k.0 ∙ sym k'.0)), k.2 ∙ sym k'.2)

@@ -7,7 +7,6 @@ use Rattle.message.specs.declared.Refusal.{Refusal}
 use Rattle.message.specs.Message.{Said, said, lies}
 use Rattle.message.specs.Answers.{Answer, result, refusal_number}
 use Rattle.message.specs.declared.MessageType.{MessageType}
-use Rattle.reading.specs.declared.Judged.{Judged}
 use Rattle.field.specs.Fields.{fields_from, fields_in}
 use Rattle.reading.specs.Judging.{Judges}
 use Rattle.reading.specs.Reading.{reading, Reads}
@@ -112,12 +111,20 @@ LaysCoincide =
     (before octets after after' : List ℕ) (at end end' : ℕ) → Laid before at octets after end → Laid before at octets after' end'
     → (end ≡ end') × (after ≡ after')
 
+pub record SameJudgement (r r' : Result MessageType Refusal) (starts starts' : List ℕ) : Type 0 where
+  pub answers : r ≡ r'
+  pub noted : starts ≡ starts'
+
 abbrev pub JudgesCoincide : Type 0
-JudgesCoincide = (s : List ℕ) (r r' : Result Judged Refusal) → Judges s r → Judges s r' → r ≡ r'
+JudgesCoincide =
+    (s : List ℕ) (r r' : Result MessageType Refusal) (starts starts' : List ℕ) → Judges s r starts → Judges s r' starts'
+    → SameJudgement r r' starts starts'
 
 -- and of the two parts that a packet is judged by
 abbrev pub OpeningsCoincide : Type 0
 OpeningsCoincide = (s : List ℕ) (r r' : Result MessageType Refusal) → Opens s r → Opens s r' → r ≡ r'
 
 abbrev pub WalksCoincide : Type 0
-WalksCoincide = (s : List ℕ) (w w' : Result (List ℕ) Refusal) → Walked (fields_in s) w → Walked (fields_in s) w' → w ≡ w'
+WalksCoincide =
+    (s : List ℕ) (w w' : Result (Unit {0}) Refusal) (starts starts' : List ℕ) → Walked (fields_in s) w starts → Walked (fields_in s) w' starts'
+    → (w ≡ w') × (starts ≡ starts')

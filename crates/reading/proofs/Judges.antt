@@ -19,7 +19,7 @@ use Rattle.header.proofs.Openings.{opened_by}
 use Rattle.field.specs.declared.FieldFound.{FieldFound}
 use Rattle.field.specs.Fields.{Fields, whole, fault, fields_in}
 use Rattle.walk.specs.Starts.{start_of}
-use Rattle.walk.specs.Walk.{Notes, Walked}
+use Rattle.walk.specs.Walk.{no_starts, Notes, Walked}
 use Rattle.walk.proofs.Reaches.{reach, reach_notes}
 use Rattle.reading.specs.Reading.{octet_at, word_at, number_at, queue_at, part_at, cause_at, message_at, judged, opened, reading}
 use Rattle.reading.specs.Judging.{Judges}
@@ -65,15 +65,22 @@ module _ (starts : List ℕ) (fs : List FieldFound) (n : Notes starts fs) where
       )
 
 -- the answer once the walk is over: a fault, or the message and whether it is complete
-module _ (k : MessageType) (s : List ℕ) where
-  pub judged_fault : (r : Refusal) → Walked (fields_in s) (Err r) → refused (refusal_number r) ≡ judged k s (fields_in s)
+module _ (k : MessageType) (s starts : List ℕ) where
+  pub judged_fault : (r : Refusal) → Walked (fields_in s) (Err r) starts → refused (refusal_number r) ≡ judged k s (fields_in s)
   judged_fault r walked = by_fields (fields_in s) walked
     where
-      by_fields : (fields : Fields) → Walked fields (Err r) → refused (refusal_number r) ≡ judged k s fields
+      by_fields : (fields : Fields) → Walked fields (Err r) starts → refused (refusal_number r) ≡ judged k s fields
       by_fields (whole fs) v = absurd v
       by_fields (fault n) v = ap refused v.0
 
-  module _ (starts : List ℕ) (walked : Walked (fields_in s) (Ok starts)) where
+  none_left : (r : Refusal) → Walked (fields_in s) (Err r) starts → starts ≡ no_starts
+  none_left r walked = by_fields (fields_in s) walked
+    where
+      by_fields : (fields : Fields) → Walked fields (Err r) starts → starts ≡ no_starts
+      by_fields (whole fs) v = absurd v
+      by_fields (fault n) v = v.2
+
+  module _ (walked : Walked (fields_in s) (Ok tt) starts) where
     pub record Found_all : Type 0 where
       pub fs : List FieldFound
       pub is : fields_in s ≡ whole fs
@@ -82,7 +89,7 @@ module _ (k : MessageType) (s : List ℕ) where
     pub found_all : Found_all
     found_all = by_fields (fields_in s) refl walked
       where
-        by_fields : (fields : Fields) → fields_in s ≡ fields → Walked fields (Ok starts) → Found_all
+        by_fields : (fields : Fields) → fields_in s ≡ fields → Walked fields (Ok tt) starts → Found_all
         by_fields (whole fs) q v = record { fs = fs; is = q; notes = v }
         by_fields (fault n) q v = clash v.1 refl
 
@@ -98,17 +105,17 @@ module _ (k : MessageType) (s : List ℕ) where
     unfolding reading
     by_fields = rw opens
 
-    pub judges_fault : (r : Refusal) → Walked (fields_in s) (Err r) → Judges s (Err r)
-    judges_fault r walked = by_fields ∙ sym (judged_fault r walked)
+    pub judges_fault : (r : Refusal) → Walked (fields_in s) (Err r) starts → Judges s (Err r) starts
+    judges_fault r walked = (by_fields ∙ sym (judged_fault r walked), none_left r walked)
 
-    module _ (starts : List ℕ) (walked : Walked (fields_in s) (Ok starts)) where
-      pub judges_missing : complete (said (its_message starts walked) s) ≡ false → Judges s (Err Missing)
-      judges_missing t = by_fields ∙ judged_whole starts walked ∙ if_no _ _ _ t
+    module _ (walked : Walked (fields_in s) (Ok tt) starts) where
+      pub judges_missing : complete (said (its_message walked) s) ≡ false → reading s ≡ refused (refusal_number Missing)
+      judges_missing t = by_fields ∙ judged_whole walked ∙ if_no _ _ _ t
 
-      pub judges_whole : complete (said (its_message starts walked) s) ≡ true → Judges s (Ok (record { kind = k; starts = starts }))
+      pub judges_whole : complete (said (its_message walked) s) ≡ true → Judges s (Ok k) starts
       judges_whole t =
-          let f = found_all starts walked in (
-            by_fields ∙ judged_whole starts walked ∙ if_yes _ _ _ t,
+          let f = found_all walked in (
+            by_fields ∙ judged_whole walked ∙ if_yes _ _ _ t,
             reach_notes starts f.fs f.notes s (reach s f.fs (opened_by s k opens).long f.is),
             rw f.is f.notes,
           )

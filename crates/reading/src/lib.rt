@@ -11,13 +11,6 @@ ghost use Rattle.reading.specs.Parts.{part_in, start_in, further};
 
 use message::{Has, Message, MessageType, Part, QueueInfo, Refusal, RejectCause};
 
-// A packet that is read: its type, and where its fields' contents start.
-#[derive(Clone, Copy)]
-pub struct Judged {
-    pub kind: MessageType,
-    pub starts: [usize; 16],
-}
-
 // What a message has of a field whose content starts at `at`; nothing where that is 0. A line each, for contents of six kinds.
 #[tactic(auto, using(std::proofs::lemmas::Bool::Decides::nat_tests), unfolding(crate::proofs::Judges::placing))]
 pub fn octet_at(s: &[u8], at: usize) -> Option<u8>
@@ -120,25 +113,31 @@ fn has_all(kind: MessageType, starts: &[usize; 16]) -> bool
     message::has_required(kind, has)
 }
 
-// Judges a packet: checks 1 to 8 of its first twelve octets, 9, 14 and 10 of each field, then 11. With their starts its fields are its
-// message, of which a caller makes what it needs.
-pub fn judge(s: &[u8]) -> Result<Judged, Refusal>
-    ensures { Judges s.now result }
+// Judges a packet: checks 1 to 8 of its first twelve octets, 9, 14 and 10 of each field, then 11. It notes where its fields' contents start,
+// in an array that is lent: with its type they are its message, of which a caller makes what it needs.
+pub fn judge(s: &[u8], starts: &mut [usize; 16]) -> Result<MessageType, Refusal>
+    ensures { Judges s.now result starts.new }
 {
-    let kind = header::opened(s)?;
-    let starts = walk::all_starts(s)?;
-    if !has_all(kind, &starts) {
+    let opened = header::opened(s);
+    let Ok(kind) = opened else {
+        walk::forget(starts);
+        return opened;
+    };
+    walk::all_starts(s, starts)?;
+    if !has_all(kind, starts) {
+        walk::forget(starts);
         return Err(Refusal::Missing);
     }
-    Ok(Judged { kind, starts })
+    Ok(kind)
 }
 
 // Reads a packet: its message, or the first refusal that applies.
 pub fn read(s: &[u8]) -> Result<Message, Refusal>
     ensures { Reads s.now result }
 {
-    let judged = judge(s)?;
-    Ok(message_at(s, judged.kind, &judged.starts))
+    let mut starts = [0usize; 16];
+    let kind = judge(s, &mut starts)?;
+    Ok(message_at(s, kind, &starts))
 }
 
 // The part of the packet that holds an identity or a phrase, itself and no copy of it; an empty part where the packet has none there.

@@ -20,7 +20,7 @@ use Rattle.message.specs.Answers.{refusal_number}
 use Rattle.message.specs.declared.Refusal.{Refusal}
 use Rattle.field.specs.Fields.{id_at, length_at, step_at, among, Fields, whole, fault, infront, step_then, fields_from, fields_in}
 use Rattle.walk.specs.Starts.{start_of}
-use Rattle.walk.specs.Walk.{has_come, noted, is_passed, noted_step, ended_by, Notes, Walked}
+use Rattle.walk.specs.Walk.{has_come, noted, is_passed, noted_step, ended_by, no_starts, Notes, Walked}
 use Rattle.reader.specs.Reader.{behind}
 use Rattle.message.proofs.Paddings.{padded_least}
 use Rattle.message.proofs.Rows.{listed_below}
@@ -201,34 +201,34 @@ unfolding fields_from
 ends_whole s at zero before e = refl
 ends_whole s at (suc fewer) before e = rw e
 
-walked_whole : (s starts : List ℕ) (at : ℕ) → step_at s at ≡ End → Walking s starts at → Walked (fields_in s) (Ok starts)
+walked_whole : (s starts : List ℕ) (at : ℕ) → step_at s at ≡ End → Walking s starts at → Walked (fields_in s) (Ok tt) starts
 walked_whole s starts at e w =
     rw (w.same ∙ ap (all_infront w.seen) (ends_whole s at w.steps w.before e) ∙ to_the_end w.seen) w.notes
 
 -- a fault: the step is no end, and adds no field
 walked_fault : (s starts : List ℕ) (at : ℕ) (r : Refusal) → (step_at s at ≡ End → ⊥) → (w : Walking s starts at)
     → ((rest : List ℕ → ℕ → Fields) → step_then w.before (step_at s at) rest ≡ fault (refusal_number r))
-    → Walked (fields_in s) (Err r)
+    → Walked (fields_in s) (Err r) no_starts
 walked_fault s starts at r not_end w faulty =
     by_test (leb (length s) at) (λ t. absurd (not_end (step_end s at (leb-true (length s) at t))))
     (λ t.
     let a : Ahead s at w.steps w.before = ahead s at w.steps w.before (leb-false (length s) at t) w.enough in
     rw (w.same ∙ ap (all_infront w.seen) (a.goes ∙ faulty (λ past next. fields_from a.fewer past s next))
     ∙ to_a_fault w.seen (refusal_number r))
-    (refl, refl))
+    (refl, refl, refl))
 
 differ : ◌≡◌ {A = ℕ} 0 1 → ⊥
 differ z = omega arith
 
 -- at a field that came before, by itself sound or against the table, the walk ends with 14
 walked_repeated : (s starts : List ℕ) (at : ℕ) (f : FieldFound) → step_at s at ≡ Field f → has_come starts f.id ≡ true
-    → Walking s starts at → Walked (fields_in s) (Err Refusal.Repeated)
+    → Walking s starts at → Walked (fields_in s) (Err Refusal.Repeated) no_starts
 unfolding when◌then◌else◌
 walked_repeated s starts at f e come w =
     walked_fault s starts at Refusal.Repeated (λ q. differ (cc)) w (λ rest. rw (e, w.come f.id ∙ come))
 
 walked_against : (s starts : List ℕ) (at i : ℕ) → step_at s at ≡ AgainstTheTable i → Walking s starts at
-    → Walked (fields_in s) (Err (when has_come starts i then Refusal.Repeated else Refusal.AgainstTheTable))
+    → Walked (fields_in s) (Err (when has_come starts i then Refusal.Repeated else Refusal.AgainstTheTable)) no_starts
 unfolding when◌then◌else◌
 walked_against s starts at i e w =
     by_test (has_come starts i)
@@ -241,10 +241,10 @@ walking_less s at f k =
     let n : f.next ≡ at + padded (length_at s at) = next_there s at f k in
     omega (arith, padded_least (length_at s at), k.inside)
 
--- the walk's answer, by how it ended and by what it noted
-abbrev pub answered : Result (Unit {0}) Refusal → List ℕ → Result (List ℕ) Refusal
-answered (Ok u) starts = Ok starts
-answered (Err r) starts = Err r
+-- what is left in the array, by how the walk ended
+abbrev pub left : Result (Unit {0}) Refusal → List ℕ → List ℕ
+left (Ok done) starts = starts
+left (Err r) starts = no_starts
 
 -- the same by what the reader handed out, whatever it was
 module _ (s starts : List ℕ) (at : ℕ) where
@@ -264,7 +264,7 @@ module _ (s starts : List ℕ) (at : ℕ) where
   nearer_by (AgainstTheTable i) e h = clash h refl
 
   walked_by : (x : FieldStep) → step_at s at ≡ x → is_passed starts x ≡ false → Walking s starts at →
-      Walked (fields_in s) (answered (ended_by (noted_step starts x) x) (noted_step starts x))
+      Walked (fields_in s) (ended_by (noted_step starts x) x) (left (ended_by (noted_step starts x) x) (noted_step starts x))
   walked_by (Field f) e h w = walked_repeated s starts at f e (not-false _ h) w
   walked_by (Skipped f) e h w = clash refl h
   walked_by End e h w = walked_whole s starts at e w
@@ -273,5 +273,6 @@ module _ (s starts : List ℕ) (at : ℕ) where
 
   -- and by what the code knows where it goes out
   pub answers_by : (x : FieldStep) (after : List ℕ) (end : Result (Unit {0}) Refusal) → step_at s at ≡ x → is_passed starts x ≡ false →
-      after ≡ noted_step starts x → end ≡ ended_by after x → Walking s starts at → Walked (fields_in s) (answered end after)
+      after ≡ noted_step starts x → end ≡ ended_by after x → Walking s starts at →
+      Walked (fields_in s) end (left end after)
   answers_by x after end e h a d w = rw (d, a) (walked_by x e h w)

@@ -1,6 +1,6 @@
 -- How the walk is held in the code: the starts of the table's fields found so far, in an array of 16, one for each ID below 16. What the
 -- walk is stands in field/specs/Fields. Assumes nothing.
-use Rattle.std.specs.Prelude.{ℕ, ◌<◌, ◌≤◌, ◌+◌, ◌-◌, Bool, true, false, not, ◌&&◌, List, ◌≡◌, ltb, eqb, length, get_or, set}
+use Rattle.std.specs.Prelude.{ℕ, ◌<◌, ◌≤◌, ◌+◌, ◌-◌, Bool, true, false, not, ◌&&◌, List, ◌≡◌, ltb, eqb, length, get_or, set, replicate}
 use Rattle.std.specs.Prelude.{Result, Ok, Err, IsErr}
 use Rattle.words.specs.Choice.{when◌then◌else◌}
 use Rattle.message.specs.Answers.{refusal_number}
@@ -47,16 +47,21 @@ pub record Notes (starts : List ℕ) (fs : List FieldFound) : Type 0 where
   pub long : length starts ≡ 16
   pub has : (i : ℕ) → i < 16 → get_or starts i 0 ≡ start_of fs i
 
+-- an array with no start
+abbrev pub no_starts : List ℕ
+no_starts = replicate 16 0
+
 -- the paper's number for a walk that ended at a fault
-abbrev pub fault_number : Result (List ℕ) Refusal → ℕ
-fault_number (Ok starts) = 0
+abbrev pub fault_number : Result (Unit {0}) Refusal → ℕ
+fault_number (Ok done) = 0
 fault_number (Err r) = refusal_number r
 
--- what the walk's answer says of the fields: the array of their starts, or the refusal of the first that is at fault
-abbrev pub Walked : Fields → Result (List ℕ) Refusal → Type 0
-Walked (whole fs) (Ok starts) = Notes starts fs
-Walked (whole fs) (Err r) = ⊥
-Walked (fault n) answer = (fault_number answer ≡ n) × IsErr answer
+-- what the walk's answer and its array say of the fields: the array has their starts, or, where one is at fault, there is the refusal of the
+-- first that is, and no start
+abbrev pub Walked : Fields → Result (Unit {0}) Refusal → List ℕ → Type 0
+Walked (whole fs) (Ok done) starts = Notes starts fs
+Walked (whole fs) (Err r) starts = ⊥
+Walked (fault n) answer starts = (fault_number answer ≡ n) × IsErr answer × (starts ≡ no_starts)
 
 -- the starts lie in the packet, with as much behind them as is read there
 pub record Reach (s : List ℕ) (start : ℕ → ℕ) : Type 0 where

@@ -5,7 +5,7 @@
 
 ghost use Rattle.std.specs.Prelude.{◌≡◌, not};
 ghost use Rattle.field.specs.Fields.{fields_in};
-ghost use Rattle.walk.specs.Walk.{has_come, noted, is_passed, noted_step, ended_by, Walked};
+ghost use Rattle.walk.specs.Walk.{has_come, noted, is_passed, noted_step, ended_by, no_starts, Walked};
 
 use field::FieldStep;
 use message::Refusal;
@@ -60,18 +60,29 @@ pub fn ended(starts: &[usize; 16], step: FieldStep) -> Result<(), Refusal>
     }
 }
 
-// Walks over all fields, as the reader that rests on the packet hands them out, and notes where their contents start. What was handed out
-// last tells how the walk ended: so this is no `for`, which would keep it.
-pub fn all_starts(s: &[u8]) -> Result<[usize; 16], Refusal>
-    ensures { Walked (fields_in s.now) result }
+// Forgets all starts.
+pub fn forget(starts: &mut [usize; 16])
+    ensures { starts.new ≡ no_starts }
 {
-    let mut starts = [0usize; 16];
+    *starts = [0usize; 16];
+}
+
+// Walks over all fields, as the reader that rests on the packet hands them out, and notes where their contents start; at a fault all starts
+// are forgotten. The array is lent: handed out in an `Ok` it was copied twice, and reading missed its bars of speed (docs/DESIGN-PASS.md). What
+// was handed out last tells how the walk ended: so this is no `for`, which would keep it.
+pub fn all_starts(s: &[u8], starts: &mut [usize; 16]) -> Result<(), Refusal>
+    ensures { Walked (fields_in s.now) result starts.new }
+{
+    forget(starts);
     let mut r = reader::rest(s);
     loop {
         let step = reader::next(r);
-        if !noted_field(&mut starts, step) {
-            ended(&starts, step)?;
-            return Ok(starts);
+        if !noted_field(starts, step) {
+            let Err(refusal) = ended(starts, step) else {
+                return Ok(());
+            };
+            forget(starts);
+            return Err(refusal);
         }
         r = reader::moved(r, step);
     }

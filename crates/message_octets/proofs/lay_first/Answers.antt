@@ -21,7 +21,7 @@ lay-requires-clause-blank c = (c.lay-has-4.ensures.lays.blank, omega arith)
 
 pub returns-clause-lays : goal.returns-clause-lays
 unfolding first_octets message_at octets16
-returns-clause-lays c =
+returns-clause-lays c = λ k.
     let r = c.args.room.now in
     let b = c.requires.blank in
     let cause : c.map-cause.result ≡ option_map (λ x. x.cause) c.cause_at.result = search rules in
@@ -40,7 +40,7 @@ returns-clause-lays c =
 
 pub returns-clause-value : goal.returns-clause-value
 unfolding first_worth message_at
-returns-clause-value c =
+returns-clause-value c = λ k.
     rw (
       c.lay.ensures.value,
       c.lay-has-4.ensures.value,

@@ -27,7 +27,7 @@ lay-requires-clause-blank c = (c.lay-has-4.ensures.lays.blank, omega arith)
 
 pub returns-clause-lays : goal.returns-clause-lays
 unfolding next_octets message_at octets16 octets32
-returns-clause-lays c =
+returns-clause-lays c = λ k.
     let r = c.args.room.now in
     let b = c.requires.blank in
     let l1 = lays_two r permission_place _ b _ _ _ c.lay-has.ensures.lays 2 refl c.lay-has-2.ensures.lays (omega arith) in
@@ -44,7 +44,7 @@ returns-clause-lays c =
 
 pub returns-clause-value : goal.returns-clause-value
 unfolding next_worth message_at
-returns-clause-value c =
+returns-clause-value c = λ k.
     rw (
       c.lay.ensures.value,
       c.lay-has-4.ensures.value,

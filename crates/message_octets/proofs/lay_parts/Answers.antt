@@ -23,7 +23,7 @@ lay-requires-clause-blank c = (c.lay-has-2.ensures.lays.blank, omega arith)
 
 pub returns-clause-lays : goal.returns-clause-lays
 unfolding part_octets message_at part_in_four octets16
-returns-clause-lays c =
+returns-clause-lays c = λ k.
     let r = c.args.room.now in
     let b = c.requires.blank in
     let phrase : c.map-phrase.result ≡ option_map (λ x. x.phrase) c.cause_at.result = search rules in
@@ -37,7 +37,7 @@ worthless false n = omega arith
 
 pub returns-clause-value : goal.returns-clause-value
 unfolding parts_worth message_at
-returns-clause-value c =
+returns-clause-value c = λ k.
     rw (
       c.lay.ensures.value,
       c.lay-has-2.ensures.value,

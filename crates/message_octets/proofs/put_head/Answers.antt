@@ -16,7 +16,7 @@ returns c =
     c.args in
     let r = a.room.now in
     let e1 : c.put_pair.new.room
-    ≡ over r 0 (type_number a.judged.now.kind ∷ ack_bit a.s.now ∷ []) =
+    ≡ over r 0 (type_number a.kind ∷ ack_bit a.s.now ∷ []) =
     rw (← c.type_number.ensures) c.put_pair.ensures in
     let e3 : c.put32.new.room
     ≡ over c.put16.new.room (0 + 4) (octets32 (be32 a.s.now 4)) =

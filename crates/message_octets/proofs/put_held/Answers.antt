@@ -13,27 +13,29 @@ lay_first-has-requires-clause-blank c = blank_room c.args.room.now _ c.requires.
 
 pub lay_next-has-requires-clause-blank : goal.lay_next-has-requires-clause-blank
 unfolding first_octets octets16
-lay_next-has-requires-clause-blank c = c.lay_first-has.ensures.lays.blank
+lay_next-has-requires-clause-blank c = (c.lay_first-has.ensures.lays c.args.kind).blank
 
 pub lay_next-has-requires-clause-has_bound : goal.lay_next-has-requires-clause-has_bound
 lay_next-has-requires-clause-has_bound c =
-    omega (arith, first_most (message_by c.args.s.now c.args.judged.now), c.lay_first-has.ensures.value)
+    let k = c.args.kind in
+    omega (arith, first_most (message_by k c.args.s.now c.args.starts.now), c.lay_first-has.ensures.value k)
 
 pub lay_parts-has-requires-clause-blank : goal.lay_parts-has-requires-clause-blank
 unfolding next_octets octets16 octets32
-lay_parts-has-requires-clause-blank c = c.lay_next-has.ensures.lays.blank
+lay_parts-has-requires-clause-blank c = (c.lay_next-has.ensures.lays c.args.kind).blank
 
 pub lay_parts-has-requires-clause-has_bound : goal.lay_parts-has-requires-clause-has_bound
 lay_parts-has-requires-clause-has_bound c =
-    let m = message_by c.args.s.now c.args.judged.now in
-    omega (arith, first_most m, next-most c.lay_first-has.result m, c.lay_first-has.ensures.value, c.lay_next-has.ensures.value)
+    let k = c.args.kind in
+    let m = message_by k c.args.s.now c.args.starts.now in
+    omega (arith, first_most m, next-most c.lay_first-has.result m, c.lay_first-has.ensures.value k, c.lay_next-has.ensures.value k)
 
 pub returns : goal.returns
 returns c =
     let a = c.args in
-    let j = a.judged.now in
-    let m = message_by a.s.now j in
+    let k = a.kind in
+    let m = message_by k a.s.now a.starts.now in
     let sum : c.lay_parts-has.result ≡ which m =
-    rw (c.lay_parts-has.ensures.value, c.lay_next-has.ensures.value, c.lay_first-has.ensures.value) (which_by_rows m) in
-    held_by_rows j.kind a.s.now (λ i. get_or j.starts i 0) a.room.now _ _ _ _ _ c.requires.message_size_in_bounds c.put_zeros.ensures
-    c.lay_first-has.ensures.lays c.lay_next-has.ensures.lays c.lay_parts-has.ensures.lays (rw sum at c.put_head.ensures)
+    rw (c.lay_parts-has.ensures.value k, c.lay_next-has.ensures.value k, c.lay_first-has.ensures.value k) (which_by_rows m) in
+    held_by_rows k a.s.now (λ i. get_or a.starts.now i 0) a.room.now _ _ _ _ _ c.requires.message_size_in_bounds c.put_zeros.ensures
+    (c.lay_first-has.ensures.lays k) (c.lay_next-has.ensures.lays k) (c.lay_parts-has.ensures.lays k) (rw sum at c.put_head.ensures)

@@ -6,18 +6,18 @@ use Rattle.message_octets.specs.Held.{read_answer}
 use Rattle.message_octets.proofs.Answers.{refused_is, short_is, kept_is}
 use Rattle.message_octets.proofs.read_held.Goals as goal
 
-pub returns-in_err-judged : goal.returns-in_err-judged
-returns-in_err-judged c =
-    let e : read_answer c.from_residual.result ≡ refusal_number c.in_err-judged.field-0.0 = search rules in
-    let h = refused_is c.args.packet.now c.args.room.now _ c.in_err-judged.ensures in
+pub returns-in_err-kind : goal.returns-in_err-kind
+returns-in_err-kind c =
+    let e : read_answer c.from_residual.result ≡ refusal_number c.in_err-kind.field-0.0 = search rules in
+    let h = refused_is c.args.packet.now c.args.room.now _ c.in_err-kind.ensures.0 in
     record { value = e ∙ h.0; room_after = h.1 }
 
 pub returns-then-room-lt-MESSAGE_SIZE : goal.returns-then-room-lt-MESSAGE_SIZE
 returns-then-room-lt-MESSAGE_SIZE c =
-    let h = short_is c.args.packet.now c.args.room.now _ c.in_ok-judged.ensures.0 c.if-room-lt-MESSAGE_SIZE.true in
+    let h = short_is c.args.packet.now c.args.room.now _ c.in_ok-kind.ensures.0 c.if-room-lt-MESSAGE_SIZE.true in
     record { value = h.0; room_after = h.1 }
 
 pub returns : goal.returns
 returns c =
-    let h = kept_is c.args.packet.now c.args.room.now _ _ c.in_ok-judged.ensures.0 c.if-room-lt-MESSAGE_SIZE.false c.put_held.ensures in
+    let h = kept_is c.args.packet.now c.args.room.now _ _ c.in_ok-kind.ensures.0 c.if-room-lt-MESSAGE_SIZE.false c.put_held.ensures in
     record { value = h.0; room_after = h.1 }

@@ -6,25 +6,29 @@ use Rattle.reading.specs.Reading.{reading}
 use Rattle.reading.proofs.Judges.{judges_fault, judges_missing, judges_whole}
 use Rattle.reading.proofs.judge.Goals as goal
 
-pub returns-in_err-kind : goal.returns-in_err-kind
+pub returns-in_default : goal.returns-in_default
 unfolding reading
-returns-in_err-kind c =
-    let p = err_from_is_err_and c.from_residual.result c.from_residual.ensures.1 in
-    rw (p.1, p.2) (rw (sym c.opened.ensures ∙ ap in_numbers c.in_err-kind.was))
+returns-in_default c = rw c.in_default.is (rw (sym c.opened-opened.ensures ∙ ap in_numbers c.in_default.is), c.forget.ensures)
 
-pub returns-in_err-starts : goal.returns-in_err-starts
-returns-in_err-starts c =
-    let p = err_from_is_err_and c.from_residual-in_err-starts.result c.from_residual-in_err-starts.ensures.1 in
-    rw (p.1, p.2) (judges_fault c.in_ok-kind.kind c.args.s.now (sym c.in_ok-kind.ensures) _ c.in_err-starts.ensures)
+pub returns-in_err-all_starts : goal.returns-in_err-all_starts
+returns-in_err-all_starts c =
+    let p = err_from_is_err_and c.from_residual.result c.from_residual.ensures.1 in
+    rw (p.1, p.2)
+    (judges_fault c.in-Ok.kind c.args.s.now c.all_starts.new.starts (sym c.opened-opened.ensures ∙ ap in_numbers c.in-Ok.is) _
+    c.in_err-all_starts.ensures)
 
 pub returns-then-not-has_all : goal.returns-then-not-has_all
 returns-then-not-has_all c =
-    let s = c.args.s.now in
-    judges_missing c.in_ok-kind.kind s (sym c.in_ok-kind.ensures) c.in_ok-starts.starts c.in_ok-starts.ensures
-    (sym (c.if-not-has_all.ensures s))
+    let s = c.args.s.now in (
+      judges_missing c.in-Ok.kind s c.all_starts.new.starts (sym c.opened-opened.ensures ∙ ap in_numbers c.in-Ok.is)
+          c.in_ok-all_starts.ensures
+          (sym (c.has_all.ensures s) ∙ c.if-not-has_all.true),
+      c.forget-then-not-has_all.ensures,
+    )
 
 pub returns : goal.returns
 returns c =
     let s = c.args.s.now in
-    judges_whole c.in_ok-kind.kind s (sym c.in_ok-kind.ensures) c.in_ok-starts.starts c.in_ok-starts.ensures
-    (sym (c.if-not-has_all.ensures s))
+    judges_whole c.in-Ok.kind s c.all_starts.new.starts (sym c.opened-opened.ensures ∙ ap in_numbers c.in-Ok.is)
+    c.in_ok-all_starts.ensures
+    (sym (c.has_all.ensures s) ∙ c.if-not-has_all.false)
