@@ -99,6 +99,14 @@ next-taken es i h = rw add-one (take-suc es i empty h)
 pub put_length : (es : List Entry) (k : ℕ) (e : Entry) → k ≤ length es → length (take k es ++ e ∷ drop k es) ≡ length es + 1
 put_length es k e h = simp (length-append, length-take, length-drop) (omega arith)
 
+-- what is put in among the first stays among them
+pub put_first : (k n : ℕ) (es : List Entry) (e : Entry) → k ≤ n →
+    take (suc n) (take k es ++ e ∷ drop k es) ≡ take k (take n es) ++ e ∷ drop k (take n es)
+put_first zero n es e h = refl
+put_first (suc k) zero es e h = absurd (omega arith)
+put_first (suc k) (suc n) [] e h = refl
+put_first (suc k) (suc n) (x ∷ es) e h = ap (λ (l : List Entry). x ∷ l) (put_first k n es e (omega arith))
+
 -- an entry goes in, place by place
 pub enter_nil : (e : Entry) → enter e [] ≡ e ∷ []
 unfolding enter ahead

@@ -4,7 +4,7 @@
 --     holds         where they do, they hold the message of their type
 --     size_none     the size where no bit is set
 -- Assumes nothing.
-use Prim.Native.Nat.{ℕ, ◌+◌, ◌*◌, ◌≤◌, ◌<◌}
+use Prim.Native.Nat.{ℕ, ◌+◌, ◌*◌, ◌/◌, ◌%◌, ◌≤◌, ◌<◌}
 use native.Mathlib.Omega.{arith}
 use mathlib.Core.Bool.{Bool, true, false, ◌&&◌, and-false, and_comm}
 use mathlib.Core.List.{List}
@@ -161,6 +161,13 @@ pub size_none : (s : List ℕ) (fields : ℕ) → fields ≡ 0 →
     header_size ≡ header_size + (front_size (message_in s fields) + rest_size (message_in s fields))
 unfolding message_in message_with
 size_none s fields e = rw e
+
+-- the octets of one field by its bit
+pub four_is : (n worth : ℕ) → n / worth % 2 * 4 ≡ (when eqb (n / worth % 2) 1 then 4 else 0)
+unfolding when◌then◌else◌
+four_is n worth =
+    by_test (eqb (n / worth % 2) 1) (λ t. let q = eqb-true (n / worth % 2) 1 t in rw t (omega arith))
+    (λ t. let q = eqb-false (n / worth % 2) 1 t in rw t (omega arith))
 
 -- what is answered where no reader would accept what the octets hold
 pub refused_in : (h : Option Message) (src room : List ℕ) → readable_in h src ≡ false

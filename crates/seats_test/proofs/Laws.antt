@@ -49,14 +49,20 @@ unfolding seat_fits
 taken_whole s seat e = rw (if_yes _ _ _ (eq-eqb _ _ e))
 
 -- of a free seat, that has no identity, all sixty_two octets are asked
-pub free_whole : (s : List ℕ) (seat : ℕ) → ¬ (nth_octet s (taken_column + seat) ≡ 1) →
-    (up_to 0 s (identity_start seat) 62 && free_fits s seat) ≡ seat_fits s seat
-unfolding seat_fits zeros_behind
-free_whole s seat e =
-    rw (if_no _ _ _ (ne_eqb _ _ e)) (by_test (free_fits s seat)
+pub free_whole : (s : List ℕ) (seat : ℕ) →
+    (up_to 0 s (identity_start seat) 62 && free_fits s seat) ≡ (zeros_behind s seat && free_fits s seat)
+unfolding zeros_behind
+free_whole s seat =
+    by_test (free_fits s seat)
     (λ t. rw (no_length s seat t, add-zero (identity_start seat)))
     (λ t. and_no (up_to 0 s (identity_start seat) 62) (free_fits s seat) t
-    ∙ sym (and_no (up_to 0 s (identity_start seat + name_length_at s seat) (62 - name_length_at s seat)) (free_fits s seat) t)))
+    ∙ sym (and_no (up_to 0 s (identity_start seat + name_length_at s seat) (62 - name_length_at s seat)) (free_fits s seat) t))
+
+-- so a seat that is not taken is in the form
+pub not_taken_whole : (s : List ℕ) (seat : ℕ) → ¬ (nth_octet s (taken_column + seat) ≡ 1) →
+    (up_to 0 s (identity_start seat) 62 && free_fits s seat) ≡ seat_fits s seat
+unfolding seat_fits
+not_taken_whole s seat e = rw (if_no _ _ _ (ne_eqb _ _ e)) (free_whole s seat)
 
 -- the search for the lowest seat finds a seat that passes exactly if none before it does
 module _ (p : ℕ → Bool) where

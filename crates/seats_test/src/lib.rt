@@ -106,7 +106,7 @@ impl Seat<'_> {
         no_ssrc & no_priority & no_flags & no_name
     }
 
-    #[tactic(auto, using(crate::proofs::Laws::taken_whole, crate::proofs::Laws::free_whole))]
+    #[tactic(auto, using(crate::proofs::Laws::taken_whole, crate::proofs::Laws::not_taken_whole))]
     fn fits(&self) -> bool
         ensures { result ≡ seat_fits self.now.octets.now self.now.at }
     {
