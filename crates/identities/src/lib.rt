@@ -74,16 +74,28 @@ pub fn name_of(identity: &[u8]) -> Name
 }
 
 // Whether a name is this identity, octet for octet.
-fn is_same(name: Name, identity: &[u8]) -> bool
-    ensures { result ≡ same (octets_of name) identity.now }
+fn is_same(name: &Name, identity: &[u8]) -> bool
+    ensures { result ≡ same (octets_of name.now) identity.now }
 {
-    octets_of(&name) == identity
+    octets_of(name) == identity
+}
+
+// Whether the name at a seat is this identity. It is read where it lies: by value all names would be copied for each seat.
+fn is_named(names: &Names, seat: u8, identity: &[u8]) -> bool
+    ensures { result ≡ same (octets_of (name_at names.now seat)) identity.now }
+{
+    let s = usize::from(seat);
+    if s < 16 {
+        return is_same(&names.of[s], identity);
+    }
+    let nobody = NO_NAME;
+    is_same(&nobody, identity)
 }
 
 pub fn seat_named(hall: Hall, names: Names, identity: &[u8]) -> Option<u8>
     ensures { result ≡ seat_named hall names identity.now }
 {
-    (0..16).find(|s: &u8| hall::is_present(hall, *s) && is_same(name_at(names, *s), identity))
+    (0..16).find(|s: &u8| hall::is_present(hall, *s) && is_named(&names, *s, identity))
 }
 
 // 25.
