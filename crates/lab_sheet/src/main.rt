@@ -1,6 +1,9 @@
 // Saves the class's sheet, prints it octet by octet, damages it in each way that loading looks for, and prints the answer to each.
 #![tactic(auto)]
 
+ghost use Rattle.std.specs.Prelude.{◌≡◌, ◌+◌, ◌-◌, ◌≤◌, min, length};
+ghost use Rattle.lab_sheet.specs.Rows.{rows_width};
+
 use events::Desk;
 use hall::{Flags, NO_FLAGS};
 use printing::{Letters, Octets, Page, Printout};
@@ -71,8 +74,12 @@ struct Dump<'a> {
 }
 
 impl<'a> Dump<'a> {
-    // The next octets, so many: behind them it goes on.
-    fn line(&mut self, count: usize) -> Line<'a> {
+    // The next octets, so many, as far as the sheet has them: behind them it goes on.
+    #[tactic(auto, using(printing::proofs::Printed::part_length))]
+    fn line(&mut self, count: usize) -> Line<'a>
+        ensures at { self.new.at ≡ self.old.at + min count (length self.old.sheet.now - self.old.at) }
+        ensures sheet { self.new.sheet ≡ self.old.sheet }
+    {
         let at = self.at;
         let octets = printing::part(self.sheet, at, count);
         self.at = at.saturating_add(octets.len());
@@ -80,7 +87,11 @@ impl<'a> Dump<'a> {
     }
 }
 
-fn dump_rows(page: &mut Printout, dump: &mut Dump, rows: &[Row]) {
+// Rows; behind them it goes on, where the sheet has them.
+fn dump_rows(page: &mut Printout, dump: &mut Dump, rows: &[Row])
+    ensures at { dump.old.at + rows_width rows.now ≤ length dump.old.sheet.now → dump.new.at ≡ dump.old.at + rows_width rows.now }
+    ensures sheet { dump.new.sheet ≡ dump.old.sheet }
+{
     for row in rows {
         match *row {
             Row::Octet(name) => {
@@ -105,8 +116,10 @@ fn flags_named(octet: u8) -> &'static str {
     }
 }
 
-// One seat; its identity stands eight octets to a line, with its letters.
-fn dump_seat(page: &mut Printout, dump: &mut Dump) {
+// One seat; its identity stands eight octets to a line, with its letters. The next begins behind it.
+fn dump_seat(page: &mut Printout, dump: &mut Dump)
+    ensures { dump.old.at + 7 ≤ length dump.old.sheet.now → (dump.old.at + 7 ≤ dump.new.at) × (dump.new.at ≤ dump.old.at + 262) }
+{
     writeln!(page, "seat");
     let line = dump.line(1);
     writeln!(

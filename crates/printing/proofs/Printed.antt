@@ -1,5 +1,5 @@
 -- A piece begins behind all before it; a seat more is counted or not; a promise that is no equation allows one answer. Assumes nothing.
-use Prim.Native.Nat.{ℕ, zero, suc, ◌+◌, ◌-◌, ◌≤◌, ◌<◌}
+use Prim.Native.Nat.{ℕ, zero, suc, min, ◌+◌, ◌-◌, ◌≤◌, ◌<◌}
 use native.Mathlib.Nat.{add-zero, add-suc, pow-le-pow_right}
 use native.Mathlib.Numerals.{add-one}
 use native.Mathlib.Omega.{arith}
@@ -7,7 +7,7 @@ use mathlib.Core.Bool.{Bool, true, false}
 use mathlib.Core.List.{List}
 use mathlib.Core.Path.{◌≡◌, refl, sym, ◌∙◌, ap}
 use lib.Dec.{leb}
-use lib.ListN.{length, get_or, take}
+use lib.ListN.{length, get_or, take, length-take, length-drop}
 use lib.Seq.{take_all}
 use Rattle.std.proofs.lemmas.Bool.Decides.{nat_tests}
 use Rattle.std.proofs.lemmas.Str.{encode_ascii}
@@ -22,6 +22,7 @@ use Rattle.std.proofs.lemmas.List.Sums.{count_by_more_yes, count_by_more_no, pre
 use Rattle.std.specs.Prelude.{slice_range}
 use borrow.Author.Tests.{leb-true, leb-false}
 use Rattle.io.specs.Digits.{IsDigitCount}
+use Rattle.octets.specs.Octets.{part}
 use Rattle.words.specs.Choice.{by_test, one}
 use Rattle.printing.specs.Printed.{index_of, piece_start, Pieces, count_in, seats_before, octets_text, letters_text, letter, octet_text}
 use Rattle.printing.specs.Printed.{PiecesCoincide, DigitsCoincide}
@@ -73,6 +74,11 @@ letter_small b = grind (arith, nat_tests)
 -- a letter is one octet of text
 pub letter_octet : (b : ℕ) → encode_utf8 (letter b) ≡ letter b ∷ []
 letter_octet b = encode_ascii (letter b) (letter_small b)
+
+-- a part is as long as is asked for, as far as there are octets
+pub part_length : (s : List ℕ) (from count : ℕ) → length (part s from count) ≡ min count (length s - from)
+unfolding part
+part_length s from count = simp (length-take, length-drop)
 
 first_place : (k n : ℕ) → k ≤ n → unwrap_or (cond (nat_lt k n) (Some k) None) n ≡ k
 first_place k n h = grind (arith, nat_tests)
