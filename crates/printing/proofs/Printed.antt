@@ -1,5 +1,5 @@
 -- A piece begins behind all before it; a seat more is counted or not; a promise that is no equation allows one answer. Assumes nothing.
-use Prim.Native.Nat.{ℕ, zero, suc, min, ◌+◌, ◌-◌, ◌≤◌, ◌<◌}
+use Prim.Native.Nat.{ℕ, zero, suc, min, ◌+◌, ◌-◌, ◌/◌, ◌%◌, ◌≤◌, ◌<◌}
 use native.Mathlib.Nat.{add-zero, add-suc, pow-le-pow_right}
 use native.Mathlib.Numerals.{add-one}
 use native.Mathlib.Omega.{arith}
@@ -16,8 +16,8 @@ use Rattle.std.specs.Option.{unwrap_or}
 use Rattle.std.specs.List.{position_or_len}
 use Rattle.std.proofs.Common.{Some, None, not, nat_lt, cond, position, count_by, append-nil, [], ◌∷◌, ◌++◌, ◌^◌}
 use Rattle.std.specs.Fmt.{digits, padded_integral, format_spec, decimal}
-use Rattle.std.proofs.lemmas.Fmt.{hex_byte}
-use Rattle.std.proofs.lemmas.List.{map_more, take_more, flat_map_more}
+use Rattle.std.proofs.lemmas.Fmt.{hex_byte, decimal_by_steps}
+use Rattle.std.proofs.lemmas.List.{map_more, take_more, flat_map_more, length-append}
 use Rattle.std.proofs.lemmas.List.Sums.{count_by_more_yes, count_by_more_no, prefix_len-le-length}
 use Rattle.std.specs.Prelude.{slice_range}
 use borrow.Author.Tests.{leb-true, leb-false}
@@ -25,7 +25,7 @@ use Rattle.io.specs.Digits.{IsDigitCount}
 use Rattle.octets.specs.Octets.{part}
 use Rattle.words.specs.Choice.{by_test, one}
 use Rattle.printing.specs.Printed.{index_of, piece_start, Pieces, count_in, seats_before, octets_text, letters_text, letter, octet_text}
-use Rattle.printing.specs.Printed.{PiecesCoincide, DigitsCoincide}
+use Rattle.printing.specs.Printed.{PiecesCoincide, DigitsCoincide, DigitsPrinted}
 
 module _ (mark : ℕ) (s : List ℕ) where
   -- behind the mark that is found from where piece k begins, the next one begins
@@ -127,3 +127,17 @@ module _ (n j k : ℕ) (p : IsDigitCount 10 1 n j) (q : IsDigitCount 10 1 n k) w
 
 pub digits_coincide : DigitsCoincide
 digits_coincide n j k p q = omega (arith, no_more_digits n j k p q, no_more_digits n k j q p)
+
+-- a digit more holds ten times as much
+more_digits : (n k : ℕ) → 10 ≤ n → IsDigitCount 10 1 (n / 10) k → IsDigitCount 10 1 n (suc k)
+more_digits n zero h p = absurd (omega (arith, p.0))
+more_digits n (suc zero) h p = (omega arith, omega (arith, p.1), λ v. omega arith)
+more_digits n (suc (suc j)) h p =
+    let few : suc (suc j) - 1 ≡ suc j = omega arith in
+    let more : suc (suc (suc j)) - 1 ≡ suc (suc j) = omega arith in
+    let q = rw few at (p.2 (omega arith)) in
+    (omega arith, omega (arith, p.1), λ v. rw more (omega (arith, q)))
+
+pub digits_printed : DigitsPrinted
+digits_printed n small = decimal_by_steps (λ m ds. IsDigitCount 10 1 m (length ds)) (λ m h. (omega arith, omega arith, λ v. omega arith))
+    (λ m ds h p. rw (length-append ds ((48 + m % 10) ∷ []), add-one) (more_digits m (length ds) h p)) n small

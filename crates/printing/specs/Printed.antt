@@ -1,5 +1,5 @@
 -- What there is to print, as text: octets, letters, the seats of a set; and the pieces that some octets are cut into. Assumes nothing.
-use Rattle.std.specs.Prelude.{ℕ, zero, suc, ◌+◌, ◌-◌, ◌/◌, ◌%◌, ◌≤◌, ◌<◌, ◌==◌, nat_le, nat_lt, ◌&&◌, Bool, false, cond, List, [], ◌∷◌}
+use Rattle.std.specs.Prelude.{ℕ, zero, suc, ◌+◌, ◌-◌, ◌/◌, ◌%◌, ◌^◌, ◌≤◌, ◌<◌, ◌==◌, nat_le, nat_lt, ◌&&◌, Bool, false, cond, List, [], ◌∷◌}
 use Rattle.std.specs.Prelude.{◌++◌, ◌≡◌, length, map, get_or, slice_range}
 use Rattle.std.specs.List.{position_or_len, flat_map}
 use Rattle.std.specs.Fmt.{digit_glyph, decimal}
@@ -62,3 +62,7 @@ PiecesCoincide = (mark : ℕ) (s : List ℕ) (m n : ℕ) → Pieces mark s m →
 
 abbrev pub DigitsCoincide : Type 0
 DigitsCoincide = (n j k : ℕ) → IsDigitCount 10 1 n j → IsDigitCount 10 1 n k → j ≡ k
+
+-- a number is printed with as many digits as it has: what is printed is std's text of it (proved in proofs/Printed)
+abbrev pub DigitsPrinted : Type 0
+DigitsPrinted = (n : ℕ) → n < 2 ^ 64 → IsDigitCount 10 1 n (length (decimal n))
