@@ -45,15 +45,17 @@ impl<W> Page<W> {
 }
 
 impl<W: Write> Page<W> {
-    // Octets as they are. Where nothing has failed by the end, the page has got all of them and no others; one that had failed stays as it
-    // was.
-    pub fn text(&mut self, s: &[u8])
+    // Octets as they are; how many they are. Where nothing has failed by the end, the page has got all of them and no others; one that had
+    // failed stays as it was.
+    pub fn text(&mut self, s: &[u8]) -> usize
+        ensures count { result ≡ length s.now }
         ensures failed { IsSome self.old.failure → self.new ≡ self.old }
         ensures written { self.new.failure ≡ None → Appends (W.contents self.old.to) (W.contents self.new.to) s.now }
     {
         if self.failure.is_none() {
             self.failure = self.to.write_all(s).err();
         }
+        s.len()
     }
 
     // What `write!` prints on a page, with the same promise of the text that it is.
