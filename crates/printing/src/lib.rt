@@ -115,6 +115,7 @@ pub struct Seats(pub [bool; 16]);
 
 impl Seats {
     // How many they are.
+    #[tactic(auto, using(crate::proofs::Printed::counted))]
     pub fn count(&self) -> usize
         ensures { result ≡ count_in self.now.0 16 }
     {
