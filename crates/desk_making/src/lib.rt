@@ -22,10 +22,13 @@ pub struct WideSettings {
     pub normal: u32,
 }
 
-// Writes a desk, unless the room is too short for it. What is done is answered by `done`.
-pub fn write_desk(desk: &mut [u8], done: u8, core: Core, hall: Hall, names: Names) -> i32
-    ensures { (result, desk.new) ≡ desk_written desk.old 0 done core hall names }
+// Writes a desk, unless its number refuses it or the room is too short for it. What is done is answered by `done`.
+pub fn write_desk(desk: &mut [u8], n: u8, done: u8, core: Core, hall: Hall, names: Names) -> i32
+    ensures { (result, desk.new) ≡ desk_written desk.old n done core hall names }
 {
+    if n != 0 {
+        return signed::refusal(n);
+    }
     if desk.len() < DESK_SIZE {
         return signed::refused(message::Refusal::NoRoom);
     }
@@ -92,6 +95,7 @@ pub fn make_desk(desk: &mut [u8], wide: WideSettings) -> i32
     match usable(wide) {
         Ok(settings) => write_desk(
             desk,
+            0,
             0,
             events::fresh_core(),
             hall::empty_hall(settings),

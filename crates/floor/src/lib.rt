@@ -106,8 +106,8 @@ pub fn floor_load(desk: &mut [u8], sheet: &[u8]) -> i32
     ensures { LoadPromise desk.old sheet.now result desk.new }
 {
     match loading::load(sheet) {
-        Ok(made) => desk_making::write_desk(desk, 0, made.core, made.hall, made.names),
-        Err(refusal) => signed::refused(refusal),
+        Ok(made) => desk_making::write_desk(desk, 0, 0, made.core, made.hall, made.names),
+        Err(fault) => signed::refused(fault),
     }
 }
 
@@ -135,16 +135,9 @@ pub fn floor_join(
     let hall = desk_reading::hall_at(desk);
     let names = desk_reading::names_at(desk);
     let joined = joining::join_call(hall, names, identity, who);
-    match joined.answer {
-        Ok(()) => desk_making::write_desk(
-            desk,
-            desk_making::seat_taken(joined.seat),
-            core,
-            joined.hall,
-            joined.names,
-        ),
-        Err(refusal) => signed::refused(refusal),
-    }
+    let n = hall::number_of(joined.answer);
+    let seat = desk_making::seat_taken(joined.seat);
+    desk_making::write_desk(desk, n, seat, core, joined.hall, joined.names)
 }
 
 // Look-ups: a function for each, as floor.h has them; they differ in what is asked.

@@ -2,11 +2,8 @@
 -- lowest free seat. Assumes nothing.
 use Rattle.desk_test.proofs.Desks.{has_room}
 use Rattle.words.specs.Choice.{if_yes, if_no}
-use Rattle.joining.specs.declared.Joined.{Joined}
-use Rattle.signed.proofs.Signed.{passed, numbered, pair_same}
-use Rattle.desk_making.proofs.Making.{unwritten}
-use Rattle.floor.proofs.Joins.{join_refuses}
-use mathlib.Core.Path.{refl, sym, ap, ◌∙◌}
+use Rattle.signed.proofs.Signed.{passed, pair_same}
+use mathlib.Core.Path.{refl, sym, ◌∙◌}
 use Rattle.floor.proofs.floor_join.Goals as goal
 
 pub core_at-core-requires : goal.core_at-core-requires
@@ -23,31 +20,16 @@ returns-then-not-is_desk c =
     pair_same (passed c.refusal.type_inv ∙ c.refusal.ensures) refl
     ∙ sym (if_no _ _ _ (sym c.is_desk.ensures ∙ c.if-not-is_desk.true))
 
-pub returns-in-Ok : goal.returns-in-Ok
-returns-in-Ok c =
+pub returns : goal.returns
+returns c =
     rw (
       ← c.core_at-core.ensures,
       ← c.hall_at-hall.ensures,
       ← c.names_at-names.ensures,
       ← c.newcomer_of-who.ensures,
       ← c.join_call-joined.ensures,
-      ← c.seat_taken.ensures,
-      c.in-Ok.is,
+      ← c.number_of-n.ensures,
+      ← c.seat_taken-seat.ensures,
     )
     (pair_same (passed c.write_desk.type_inv) refl ∙ c.write_desk.ensures
-    ∙ sym (if_yes _ _ _ (sym c.is_desk.ensures ∙ c.if-not-is_desk.false)))
-
-pub returns-in-Err : goal.returns-in-Err
-returns-in-Err c =
-    let z = join_refuses _ _ _ _ _ (ap (λ (j : Joined). j.answer) (sym c.join_call-joined.ensures) ∙ c.in-Err.is) in
-    rw (
-      ← c.core_at-core.ensures,
-      ← c.hall_at-hall.ensures,
-      ← c.names_at-names.ensures,
-      ← c.newcomer_of-who.ensures,
-      ← c.join_call-joined.ensures,
-      c.in-Err.is,
-    )
-    (pair_same (passed c.refused.type_inv ∙ numbered c.refused.ensures) refl
-    ∙ sym (unwritten _ _ _ _ _ _ z)
     ∙ sym (if_yes _ _ _ (sym c.is_desk.ensures ∙ c.if-not-is_desk.false)))
