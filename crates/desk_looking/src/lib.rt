@@ -39,11 +39,10 @@ pub fn from_desk<F: FnOnce(&mut [u8]) -> i32>(desk: &[u8], room: &mut [u8], writ
     ensures written { formed desk.now ≡ true → FnOnceReturnsAtMut F.FnOnce write room.old result room.new }
     ensures no_desk { formed desk.now ≡ false → (result ≡ signed (Answer.refused 20)) × (room.new ≡ room.old) }
 {
-    if desk_test::is_desk(desk) {
-        write(room)
-    } else {
-        refusal(signed::NO_DESK)
+    if !desk_test::is_desk(desk) {
+        return refusal(signed::NO_DESK);
     }
+    write(room)
 }
 
 // A seat that was found, or what else an octet says; 22 where there is none.
