@@ -11,3 +11,4 @@ pub mod Made
 pub mod Loaded
 pub mod Sheets
 pub mod Wall
+pub mod Coincide
