@@ -127,14 +127,15 @@ fn talk(core: Core, seat: u8) -> Step
     }
 }
 
-// A seat that is heard does what its rule says; who is not has the refusal.
-fn heard<F: FnOnce(u8) -> Step>(core: Core, hall: Hall, ssrc: u32, rule: F) -> Step
+// A seat that is heard does what its rule says; who is not has the refusal. A rule is handed core and hall: were they captured, every step
+// would copy both first, a start too, that hears nobody.
+fn heard<F: FnOnce(Core, Hall, u8) -> Step>(core: Core, hall: Hall, ssrc: u32, rule: F) -> Step
     requires { F.IsAlwaysCallable rule }
-    ensures sits { (s : _) → caller_of core hall ssrc ≡ Ok s → F.post rule s result }
+    ensures sits { (s : _) → caller_of core hall ssrc ≡ Ok s → F.post rule core hall s result }
     ensures refused { (r : _) → caller_of core hall ssrc ≡ Err r → result ≡ refused core r }
 {
     match caller_of(core, hall, ssrc) {
-        Ok(seat) => rule(seat),
+        Ok(seat) => rule(core, hall, seat),
         Err(refusal) => steps::answer(core, Err(refusal)),
     }
 }
@@ -148,16 +149,16 @@ pub fn make_step(core: Core, hall: Hall, event: Event) -> Step
         Event::Start => start_call(core, hall),
         Event::Stop => firing::stop_call(core),
         Event::Expiry(t) => firing::expire(core, hall, t),
-        Event::Request(x, wish) => heard(core, hall, x, |seat| {
+        Event::Request(x, wish) => heard(core, hall, x, |core, hall, seat| {
             let priority = hall::effective_priority(hall, seat, wish);
             request::request_floor(core, hall, seat, priority)
         }),
-        Event::Release(x) => heard(core, hall, x, |seat| {
+        Event::Release(x) => heard(core, hall, x, |core, hall, seat| {
             give_way(core, hall, seat, Err(Refusal::NotExpected))
         }),
-        Event::Position(x) => heard(core, hall, x, |seat| tell_place(core, seat)),
-        Event::Media(x) => heard(core, hall, x, |seat| talk(core, seat)),
-        Event::Other(x) => heard(core, hall, x, |_| {
+        Event::Position(x) => heard(core, hall, x, |core, _, seat| tell_place(core, seat)),
+        Event::Media(x) => heard(core, hall, x, |core, _, seat| talk(core, seat)),
+        Event::Other(x) => heard(core, hall, x, |core, _, _| {
             steps::answer(core, Err(Refusal::NotExpected))
         }),
     }
