@@ -79,3 +79,7 @@ module _ (i spare count : ℕ) (content : List ℕ) (s : (row_of i).spare ≡ sp
           ends = omega arith;
           stands = both ∙ ap (λ (r : List ℕ). over r at cs) two ∙ before ∙ all ∙ ap (over room at) field_is;
         }
+
+-- four octets that a number lays are zeros where it is 0
+pub zeros_there : (after before : List ℕ) (at n : ℕ) → after ≡ over before at (octets32 n) → n ≡ 0 → after ≡ over before at (octets32 0)
+zeros_there after before at n laid zero = rw zero at laid

@@ -214,10 +214,11 @@ pub fn put_field<T: Content>(
         return at;
     };
     let count = x.count();
+    let spare = T::SPARE;
     let end = at + message::padded(count);
     // the last four octets are zeros at first: what is laid over them leaves the spare octets and the padding
     octets::put32(room, end - 4, 0);
-    octets::put_pair(room, at, id, (count + T::SPARE) as u8);
+    octets::put_pair(room, at, id, (count + spare) as u8);
     x.put(room, at + 2, src);
     end
 }

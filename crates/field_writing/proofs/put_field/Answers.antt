@@ -5,7 +5,7 @@ use Rattle.octets.proofs.Lays.{lay_none}
 use Rattle.message.specs.Table.{padded}
 use Rattle.message.proofs.Paddings.{padded_least}
 use Rattle.field_writing.specs.Wire.{optional}
-use Rattle.field_writing.proofs.Fields.{field_takes, laid_field}
+use Rattle.field_writing.proofs.Fields.{field_takes, laid_field, zeros_there}
 use Rattle.field_writing.proofs.put_field.Goals as goal
 
 pub overflow_add-end : goal.overflow_add-end
@@ -66,7 +66,8 @@ returns g c =
     let fits = rw c.in-Some.is at c.requires.fits in
     let least = padded_least c.count-count.result in
     rw c.in-Some.is
-    (laid_field a.id c.SPARE.result c.count-count.result (g.T.Content.octets a.src.now x) (c.requires.spare ∙ sym c.SPARE.ensures)
+    (laid_field a.id c.SPARE-spare.result c.count-count.result (g.T.Content.octets a.src.now x) (c.requires.spare ∙ sym c.SPARE-spare.ensures)
     (g.met.T.Content.counts a.src.now x lies ∙ sym c.count-count.ensures)
-    (rw (c.SPARE.ensures, c.count-count.ensures) (g.met.T.Content.spared x)) a.at _ _ fits (rw c.padded.ensures)
-    (omega (arith, least, c.padded.ensures)) c.put32.ensures c.put_pair.ensures c.put.ensures)
+    (rw (c.SPARE-spare.ensures, c.count-count.ensures) (g.met.T.Content.spared x)) a.at _ _ fits (rw c.padded.ensures)
+    (omega (arith, least, c.padded.ensures))
+    (zeros_there _ _ _ _ c.put32.ensures (omega arith)) c.put_pair.ensures c.put.ensures)
