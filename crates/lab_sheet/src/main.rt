@@ -246,7 +246,11 @@ impl Display for Verdict {
             sheet::Refusal::OutsideRange => "a setting",
             sheet::Refusal::SeatAtFault => "a seat",
         };
-        write!(f, "refused {}: {reason}", u8::from(refusal))
+        write!(
+            f,
+            "refused {}: {reason}",
+            sheet::verdict_number(Err(refusal))
+        )
     }
 }
 
