@@ -1,7 +1,7 @@
 -- Looking at a desk in lent octets, and what is written out of one: the line for the wall screen, its sheet, a report's message as its
 -- packet; and packets by themselves (document 01, "The desk"). The order of the tests: 20, where a desk is lent; then the paper's refusals;
 -- then 13. A refusal leaves all as it was. Assumes nothing.
-use Rattle.std.specs.Prelude.{ℕ, ◌*◌, List, [], ◌∷◌, leb, length, get_or, ℤ, Option, Some, None, option_map, Result, Ok, Err}
+use Rattle.std.specs.Prelude.{ℕ, ◌*◌, ◌≡◌, true, false, List, [], ◌∷◌, leb, length, get_or, ℤ, Option, Some, None, option_map, Result, Ok, Err}
 use Rattle.words.specs.Choice.{when◌then◌else◌}
 use Rattle.octets.specs.Octets.{over}
 use Rattle.message.specs.Answers.{Answer, refused, result}
@@ -27,6 +27,20 @@ use Rattle.desk_test.specs.Lent.{formed}
 
 unfoldable pub looks : List ℕ → Answer ℕ → ℤ
 looks d a = when formed d then signed a else signed (refused 20)
+
+-- octets of which something is asked: where they are a desk the answer is one that the question may give, else it is 20
+abbrev pub AskedAt : List ℕ → (ℤ → Type 0) → ℤ → Type 0
+AskedAt d may n = formed d ≡ true → may n
+
+abbrev pub NoneAsked : List ℕ → ℤ → Type 0
+NoneAsked d n = formed d ≡ false → n ≡ signed (refused 20)
+
+-- and out of which something is written: the answer with what is left in the room
+abbrev pub WrittenAt : List ℕ → (ℤ → List ℕ → Type 0) → ℤ → List ℕ → Type 0
+WrittenAt d may n room' = formed d ≡ true → may n room'
+
+abbrev pub NoneWritten : List ℕ → List ℕ → ℤ → List ℕ → Type 0
+NoneWritten d room n room' = formed d ≡ false → (n ≡ signed (refused 20)) × (room' ≡ room)
 
 -- a seat, or what else was asked for, and 22 where there is none
 abbrev pub seat_answer : Option ℕ → Answer ℕ

@@ -7,7 +7,7 @@ ghost use Rattle.std.specs.Fn.{FnOnceReturnsAtMut};
 ghost use Rattle.message.specs.Answers.{Answer};
 ghost use Rattle.octets.specs.Octets.{over};
 ghost use Rattle.signed.specs.Signed.{signed};
-ghost use Rattle.desk_looking.specs.Looking.{holder_of, holder_seat, holder_priority, seat_answer, size_in, pairs, screened, saved_answer, tells};
+ghost use Rattle.desk_looking.specs.Looking.{AskedAt, NoneAsked, WrittenAt, NoneWritten, holder_of, holder_seat, holder_priority, seat_answer, size_in, pairs, screened, saved_answer, tells};
 ghost use Rattle.line.specs.Line.{waiting};
 ghost use Rattle.header.specs.Header.{longest_packet};
 ghost use Rattle.sheet.specs.Layout.{longest_sheet};
@@ -24,8 +24,8 @@ use steps::{Kind, Phase};
 
 pub fn on_desk<F: FnOnce(&[u8]) -> i32>(desk: &[u8], ask: F) -> i32
     requires { formed desk.now ≡ true → F.pre ask desk }
-    ensures asked { formed desk.now ≡ true → F.post ask desk.entry result }
-    ensures no_desk { formed desk.now ≡ false → result ≡ signed (Answer.refused 20) }
+    ensures asked { AskedAt desk.now (F.post ask desk.entry) result }
+    ensures no_desk { NoneAsked desk.now result }
 {
     if desk_test::is_desk(desk) {
         ask(desk)
@@ -36,8 +36,8 @@ pub fn on_desk<F: FnOnce(&[u8]) -> i32>(desk: &[u8], ask: F) -> i32
 
 pub fn from_desk<F: FnOnce(&mut [u8]) -> i32>(desk: &[u8], room: &mut [u8], write: F) -> i32
     requires { formed desk.now ≡ true → ((lent : _) → lent.now ≡ room.now → F.pre write lent) }
-    ensures written { formed desk.now ≡ true → FnOnceReturnsAtMut F.FnOnce write room.old result room.new }
-    ensures no_desk { formed desk.now ≡ false → (result ≡ signed (Answer.refused 20)) × (room.new ≡ room.old) }
+    ensures written { WrittenAt desk.now (FnOnceReturnsAtMut F.FnOnce write room.old) result room.new }
+    ensures no_desk { NoneWritten desk.now room.old result room.new }
 {
     if !desk_test::is_desk(desk) {
         return refusal(signed::NO_DESK);

@@ -1,7 +1,7 @@
 -- Steps on the desk in lent octets (document 01, "The desk": "For C programs the desk rests in lent octets, their form fixed in docs/.
 -- Octets not in that form get 20, before all else"): each is its rule between decoding and encoding, what it answers, and what it leaves in
 -- every lent buffer. The order of the tests: 20; then the paper's refusals; then 13. A refusal leaves all as it was. Assumes nothing.
-use Rattle.std.specs.Prelude.{ℕ, List, eqb, leb, ltb, ℤ, length, Option}
+use Rattle.std.specs.Prelude.{ℕ, ◌≡◌, true, false, List, eqb, leb, ltb, ℤ, length, Option}
 use Rattle.words.specs.Choice.{when◌then◌else◌}
 use Rattle.octets.specs.Octets.{over}
 use Rattle.message.specs.Answers.{refused, result}
@@ -49,6 +49,13 @@ outcome_on d r o =
 -- an event changes the core alone: seats, settings and identities are those that stood there
 unfoldable pub step_on : List ℕ → List ℕ → Step → Leaves
 step_on d r s = outcome_on d r (outcome s (hall_at d) (names_at d))
+
+-- octets on which a step is made: where they are a desk it is one that may be made, else the answer is 20
+abbrev pub SteppedAt : List ℕ → List ℕ → (Step → Type 0) → ℤ → List ℕ → List ℕ → Type 0
+SteppedAt d r may n d' r' = formed d ≡ true → (s : Step) × may s × (step_leaves n d' r' ≡ step_on d r s)
+
+abbrev pub NoneStepped : List ℕ → List ℕ → ℤ → List ℕ → List ℕ → Type 0
+NoneStepped d r n d' r' = formed d ≡ false → step_leaves n d' r' ≡ refusal 20 d r
 
 -- start, stop, media, a timer
 abbrev pub event_on : List ℕ → List ℕ → Event → Leaves

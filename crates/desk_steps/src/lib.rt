@@ -10,7 +10,7 @@ ghost use Rattle.report_octets.specs.Report.{octets_of_report};
 ghost use Rattle.desk_octets.specs.Form.{core_at, hall_at};
 ghost use Rattle.desk_test.specs.Lent.{formed};
 ghost use Rattle.steps.specs.declared.Step.{Step};
-ghost use Rattle.desk_steps.specs.Steps.{step_leaves, settles, refusal, outcome_on, step_on, event_on, seat_numbered};
+ghost use Rattle.desk_steps.specs.Steps.{SteppedAt, NoneStepped, step_leaves, settles, outcome_on, step_on, event_on, seat_numbered};
 
 use events::{Event, Outcome};
 use hall::{Answer, Hall};
@@ -76,8 +76,8 @@ pub fn settle_outcome(desk: &mut [u8], report: &mut [u8], outcome: Outcome) -> i
 // The step that is made of a desk, once the octets are known to be one's.
 pub fn step_with<S: FnOnce(Core, Hall) -> Step>(desk: &mut [u8], report: &mut [u8], step: S) -> i32
     requires { formed desk.now ≡ true → S.pre step (core_at desk.now) (hall_at desk.now) }
-    ensures made { formed desk.old ≡ true → (s : Step) × S.post step (core_at desk.old) (hall_at desk.old) s × (step_leaves result desk.new report.new ≡ step_on desk.old report.old s) }
-    ensures no_desk { formed desk.old ≡ false → step_leaves result desk.new report.new ≡ refusal 20 desk.old report.old }
+    ensures made { SteppedAt desk.old report.old (S.post step (core_at desk.old) (hall_at desk.old)) result desk.new report.new }
+    ensures no_desk { NoneStepped desk.old report.old result desk.new report.new }
 {
     if !desk_test::is_desk(desk) {
         return signed::refusal(signed::NO_DESK);

@@ -12,6 +12,10 @@ abbrev pub signed : Answer ℕ → ℤ
 signed (result n) = pos n
 signed (refused n) = told_as n
 
+-- what is refused is told as a number that it may have
+abbrev pub RefusedBy : (ℕ → Type 0) → ℤ → Type 0
+RefusedBy may z = (n : ℕ) × may n × (z ≡ told_as n)
+
 -- the answer by a number of the paper, n, where k is answered to what is done
 abbrev pub by_number : (n k : ℕ) → Answer ℕ
 by_number n k = when eqb n 0 then result k else refused n

@@ -2,9 +2,9 @@
 // exported function answers so, and comes through here.
 #![tactic(auto)]
 
-ghost use Rattle.std.specs.Prelude.{◌≡◌, ◌<◌, ℕ, IfOk, MatchResult};
+ghost use Rattle.std.specs.Prelude.{◌≡◌, ◌<◌, IfOk, MatchResult};
 ghost use Rattle.message.specs.Answers.{Answer};
-ghost use Rattle.signed.specs.Signed.{told_as, signed};
+ghost use Rattle.signed.specs.Signed.{told_as, signed, RefusedBy};
 
 // Octets that are no desk's: a refusal of the face alone, so no enum below has it.
 pub const NO_DESK: u8 = 20;
@@ -27,7 +27,7 @@ pub fn refusal(n: u8) -> i32
 pub fn refused<E>(refusal_of: E) -> i32
 where
     u8: From<E>,
-    ensures { (n : ℕ) × ⟦<u8 as From<E>>⟧.from_gives refusal_of n × (result ≡ told_as n) }
+    ensures { RefusedBy (⟦<u8 as From<E>>⟧.from_gives refusal_of) result }
 {
     refusal(u8::from(refusal_of))
 }
@@ -37,7 +37,7 @@ pub fn told<E>(answer: Result<usize, E>) -> i32
 where
     u8: From<E>,
     requires { IfOk answer (λ n. n < 2147483648) }
-    ensures { MatchResult answer (λ n. result ≡ signed (Answer.result n)) (λ e. (n : ℕ) × ⟦<u8 as From<E>>⟧.from_gives e n × (result ≡ told_as n)) }
+    ensures { MatchResult answer (λ n. result ≡ signed (Answer.result n)) (λ e. RefusedBy (⟦<u8 as From<E>>⟧.from_gives e) result) }
 {
     match answer {
         Ok(n) => n as i32,
