@@ -1,7 +1,8 @@
 -- Looking at a desk in lent octets, and what is written out of one: the line for the wall screen, its sheet, a report's message as its
 -- packet; and packets by themselves (document 01, "The desk"). The order of the tests: 20, where a desk is lent; then the paper's refusals;
 -- then 13. A refusal leaves all as it was. Assumes nothing.
-use Rattle.std.specs.Prelude.{ℕ, ◌*◌, ◌≡◌, true, false, List, [], ◌∷◌, leb, length, get_or, ℤ, Option, Some, None, option_map, Result, Ok, Err}
+use Rattle.std.specs.Prelude.{ℕ, ◌*◌, ◌≡◌, true, false, List, [], ◌∷◌, leb, length, get_or, ℤ}
+use Rattle.std.specs.Prelude.{Option, Some, None, option_map, Result, Ok, Err}
 use Rattle.words.specs.Choice.{when◌then◌else◌}
 use Rattle.octets.specs.Octets.{over}
 use Rattle.message.specs.Answers.{Answer, refused, result}

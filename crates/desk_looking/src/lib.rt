@@ -2,9 +2,8 @@
 // specs/Looking.antt has each answer and what is left in the lent room.
 #![tactic(auto)]
 
-ghost use Rattle.std.specs.Prelude.{◌≡◌, ◌*◌, ◌<◌, ◌≤◌, length, true, false, IfOk};
+ghost use Rattle.std.specs.Prelude.{◌≡◌, ◌*◌, ◌<◌, ◌≤◌, length, true, IfOk};
 ghost use Rattle.std.specs.Fn.{FnOnceReturnsAtMut};
-ghost use Rattle.message.specs.Answers.{Answer};
 ghost use Rattle.octets.specs.Octets.{over};
 ghost use Rattle.signed.specs.Signed.{signed};
 ghost use Rattle.desk_looking.specs.Looking.{AskedAt, NoneAsked, WrittenAt, NoneWritten, holder_of, holder_seat, holder_priority, seat_answer, size_in, pairs, screened, saved_answer, tells};

@@ -2,7 +2,7 @@
 // specs/Steps.antt has what each leaves.
 #![tactic(auto)]
 
-ghost use Rattle.std.specs.Prelude.{◌≡◌, ◌≤◌, length, true, false};
+ghost use Rattle.std.specs.Prelude.{◌≡◌, ◌≤◌, length, true};
 ghost use Rattle.std.specs.Fn.{FnOnceReturnsAtMut};
 ghost use Rattle.hall.specs.Answers.{answer_number};
 ghost use Rattle.report_octets.specs.Places.{report_size};

@@ -1,7 +1,7 @@
 -- "Any two results it would allow are proved to coincide", of the public functions that promise by what they were lent: a closure or the
--- number of a refusal. `may` is what that allows, as `F.post` of the closure at the desk, or `from_gives` of the refusal; where it allows one
--- alone, so does the promise. The other functions that are lent a closure, `desk_octets::all_below` and `core_writing::put_column`, promise
--- an equation for any closure that allows one value at each place. Each is proved in proofs/Coincide. Assumes nothing.
+-- number of a refusal. `may` is what that allows, as `F.post` of the closure at the desk, or `from_gives` of the refusal; where it allows
+-- one alone, so does the promise. The other functions that are lent a closure, `desk_octets::all_below` and `core_writing::put_column`,
+-- promise an equation for any closure that allows one value at each place. Each is proved in proofs/Coincide. Assumes nothing.
 use Rattle.std.specs.Prelude.{ℕ, List, ◌≡◌, ℤ}
 use Rattle.signed.specs.Signed.{RefusedBy}
 use Rattle.steps.specs.declared.Step.{Step}
@@ -15,7 +15,8 @@ AllowsOne {A} may = (x y : A) → may x → may y → x ≡ y
 -- `desk_looking::on_desk`: the answer
 abbrev pub AskedCoincide : Type 1
 AskedCoincide =
-    (d : List ℕ) (may : ℤ → Type 0) (n n' : ℤ) → AllowsOne may → AskedAt d may n → NoneAsked d n → AskedAt d may n' → NoneAsked d n' → n ≡ n'
+    (d : List ℕ) (may : ℤ → Type 0) (n n' : ℤ) → AllowsOne may →
+    AskedAt d may n → NoneAsked d n → AskedAt d may n' → NoneAsked d n' → n ≡ n'
 
 -- `desk_looking::from_desk`: the answer, and what is left in the room
 abbrev pub WrittenCoincide : Type 1

@@ -126,5 +126,6 @@ OpeningsCoincide = (s : List ℕ) (r r' : Result MessageType Refusal) → Opens 
 
 abbrev pub WalksCoincide : Type 0
 WalksCoincide =
-    (s : List ℕ) (w w' : Result (Unit {0}) Refusal) (starts starts' : List ℕ) → Walked (fields_in s) w starts → Walked (fields_in s) w' starts'
+    (s : List ℕ) (w w' : Result (Unit {0}) Refusal) (starts starts' : List ℕ) → Walked (fields_in s) w starts
+    → Walked (fields_in s) w' starts'
     → (w ≡ w') × (starts ≡ starts')

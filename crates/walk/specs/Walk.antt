@@ -56,8 +56,8 @@ abbrev pub fault_number : Result (Unit {0}) Refusal → ℕ
 fault_number (Ok done) = 0
 fault_number (Err r) = refusal_number r
 
--- what the walk's answer and its array say of the fields: the array has their starts, or, where one is at fault, there is the refusal of the
--- first that is, and no start
+-- what the walk's answer and its array say of the fields: the array has their starts, or, where one is at fault, there is the refusal of
+-- the first that is, and no start
 abbrev pub Walked : Fields → Result (Unit {0}) Refusal → List ℕ → Type 0
 Walked (whole fs) (Ok done) starts = Notes starts fs
 Walked (whole fs) (Err r) starts = ⊥

@@ -66,7 +66,8 @@ returns g c =
     let fits = rw c.in-Some.is at c.requires.fits in
     let least = padded_least c.count-count.result in
     rw c.in-Some.is
-    (laid_field a.id c.SPARE-spare.result c.count-count.result (g.T.Content.octets a.src.now x) (c.requires.spare ∙ sym c.SPARE-spare.ensures)
+    (laid_field a.id c.SPARE-spare.result c.count-count.result (g.T.Content.octets a.src.now x)
+    (c.requires.spare ∙ sym c.SPARE-spare.ensures)
     (g.met.T.Content.counts a.src.now x lies ∙ sym c.count-count.ensures)
     (rw (c.SPARE-spare.ensures, c.count-count.ensures) (g.met.T.Content.spared x)) a.at _ _ fits (rw c.padded.ensures)
     (omega (arith, least, c.padded.ensures))
